@@ -1,0 +1,13 @@
+pub mod Tree
+pub mod Subst
+pub mod Words
+pub mod Bytes
+pub mod Nodes
+pub mod Levels
+pub mod Encode
+pub mod Records
+pub mod File
+pub mod Write
+pub mod Opens
+pub mod Rows
+pub mod Computes

@@ -1,0 +1,10 @@
+// The tree layer: a tree file is opened once, its records are read by number, and substituted trees are written.
+mod models;
+mod names;
+pub mod nodes;
+pub mod open;
+pub mod sections;
+mod stmts;
+pub mod subst;
+mod unknowns;
+pub mod words;

@@ -1,0 +1,61 @@
+//! The stored records are those that would be recorded now.
+
+use record::{builds, layout, read, write, Case};
+
+fn stored(name: &str) -> Vec<u8> {
+    let path = format!("{}/../recorded/{name}", env!("CARGO_MANIFEST_DIR"));
+    std::fs::read(&path).unwrap_or_else(|error| panic!("{path}: {error}"))
+}
+
+#[test]
+fn layout_cases_are_up_to_date() {
+    let bytes = write(&layout::cases());
+    assert!(bytes.len() < 350_000);
+    assert!(bytes == stored("layout.cases"), "record layout anew");
+}
+
+#[test]
+#[cfg_attr(no_source, ignore = "SKIPPED: the original source is not there")]
+fn recorded_builds_are_up_to_date() {
+    assert!(
+        write(&builds::cases()) == stored("builds.cases"),
+        "record cases anew"
+    );
+}
+
+#[test]
+fn the_readme_says_how_many() {
+    let readme = String::from_utf8(stored("README.md")).unwrap();
+    for name in ["builds.cases", "layout.cases"] {
+        let bytes = stored(name);
+        let line = format!("| {name} | {} | {} |", read(&bytes).len(), bytes.len());
+        assert!(readme.contains(&line), "{line}");
+    }
+}
+
+#[test]
+fn recorded_builds_show_everything() {
+    let bytes = stored("builds.cases");
+    let cases = read(&bytes);
+    assert_eq!(write(&cases), bytes);
+    assert!(cases.len() >= 400 && bytes.len() < 600_000);
+    let refused = |number: u32| cases.iter().filter(|case| case.number == number).count();
+    assert!((2..=10).all(|number| refused(number) >= 3));
+    let mut errors = [0; 18];
+    let mut fates = [0; 5];
+    for case in cases.iter().filter(|case| case.number == 0) {
+        count(case, &mut errors, &mut fates);
+    }
+    assert!(errors[1..].iter().all(|count| *count >= 3), "{errors:?}");
+    assert!(fates[1..].iter().all(|count| *count >= 3), "{fates:?}");
+}
+
+/// Adds the listed errors' kinds and the statements' fates of an answer.
+fn count(case: &Case, errors: &mut [u32; 18], fates: &mut [u32; 5]) {
+    let word = |at: usize| u32::from_le_bytes(case.area[at..at + 4].try_into().unwrap()) as usize;
+    let [nodes, stmts, variables, dependents, listed] = [0, 1, 2, 3, 4].map(|i| word(4 * i));
+    let stmts_at = 40 + 32 * nodes;
+    let errors_at = stmts_at + 32 * stmts + 48 * variables + 4 * dependents;
+    (0..stmts).for_each(|s| fates[word(stmts_at + 32 * s + 24)] += 1);
+    (0..listed.min(256)).for_each(|e| errors[word(errors_at + 16 * e)] += 1);
+}

@@ -1,0 +1,16 @@
+//! Stands in where the original source files are not there: nothing can be run.
+
+use report::{Built, Outcome, Request};
+use treefile::File;
+
+const ABSENT: &str = "the original source is not available; ask available() first";
+
+/// Cannot be called: see [`crate::available`].
+pub fn run(_: &File, _: &[u8], _: &Request) -> Outcome {
+    panic!("{ABSENT}")
+}
+
+/// Cannot be called: see [`crate::available`].
+pub fn plain(_: &File, _: &[u8]) -> Option<Built> {
+    panic!("{ABSENT}")
+}
