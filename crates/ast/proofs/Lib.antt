@@ -20,3 +20,4 @@ pub mod Written
 pub mod Capped
 pub mod Filling
 pub mod Copies
+pub mod Nans

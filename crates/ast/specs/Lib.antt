@@ -6,6 +6,7 @@ pub mod Nodes
 pub mod Levels
 pub mod Encode
 pub mod Records
+pub mod Numbers
 pub mod File
 pub mod Write
 pub mod Opens

@@ -2,6 +2,7 @@
 mod models;
 mod names;
 pub mod nodes;
+pub mod numbers;
 pub mod open;
 pub mod sections;
 mod stmts;

@@ -190,8 +190,8 @@ fn write_args(
     copy_behind(f, at, n, last, 1 + b - a, from, to, out, b)
 }
 
-// The same with what is written named once: the tree at node i, read at a level, bearing a span.
-pub fn write_tree(
+// The tree at node i, read at a level, bearing a span: its nodes from the front of the lent area on, the rest as it was.
+pub fn clone_and_subst(
     f: &[u8],
     at: usize,
     n: usize,

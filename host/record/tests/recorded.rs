@@ -2,8 +2,13 @@
 
 use record::{builds, layout, read, write, Case};
 
+/// The layout cases are the input of the program that opens them.
 fn stored(name: &str) -> Vec<u8> {
-    let path = format!("{}/../recorded/{name}", env!("CARGO_MANIFEST_DIR"));
+    let place = match name {
+        "layout.cases" => "../crates/layout_cases/stdin".to_string(),
+        _ => format!("recorded/{name}"),
+    };
+    let path = format!("{}/../{place}", env!("CARGO_MANIFEST_DIR"));
     std::fs::read(&path).unwrap_or_else(|error| panic!("{path}: {error}"))
 }
 

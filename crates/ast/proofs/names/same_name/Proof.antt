@@ -8,64 +8,46 @@ use Rattle.ast.proofs.Texts.{name-in, part-name}
 use borrow.Author.Needs.{needs}
 use Rattle.ast.proofs.names.same_name.Statement.{statement}
 use Rattle.ast.proofs.names.same_name.Tie as tie
-use Rattle.ast.proofs.names.same_name.Reads as reads
-use Rattle.ast.proofs.names.same_name.Lts as lts
-use Rattle.ast.proofs.sections.name_word.Reads as name-word-reads
-use Rattle.functions.proofs.same_bytes.Reads as same-bytes-reads
 
--- src/names.rt:41:9
 name-word-requires : tie.Need-name-word-requires
 name-word-requires c κs = search needs
 
--- src/names.rt:42:21
 name-word-requires-2 : tie.Need-name-word-requires-2
 name-word-requires-2 c κs = search needs
 
--- src/names.rt:42:17
 add-a-end : tie.Need-add-a-end
 add-a-end c = search needs
 
--- src/names.rt:43:9
 name-word-requires-3 : tie.Need-name-word-requires-3
 name-word-requires-3 c κs = search needs
 
--- src/names.rt:44:21
 name-word-requires-4 : tie.Need-name-word-requires-4
 name-word-requires-4 c κs = search needs
 
--- src/names.rt:44:17
 add-b-end : tie.Need-add-b-end
 add-b-end c = search needs
 
--- src/names.rt:45:16
 sub-same-bytes : tie.Need-sub-same-bytes
 sub-same-bytes c = search needs
 
--- src/names.rt:45:16
 part-same-bytes-start : tie.Need-part-same-bytes-start
 part-same-bytes-start c = search needs
 
--- src/names.rt:45:16
 part-same-bytes-end : tie.Need-part-same-bytes-end
 part-same-bytes-end c = let x = name-in (c .before .before .before .before .before .args .size) (c .before .before .before .before .before .args .n) (c .before .before .before .before .before .args .at) (c .before .before .before .before .before .args .f .now) (c .before .before .before .before .before .pre .2) (c .before .before .before .before .before .args .i) (c .before .before .before .before .before .pre .3) in let y = name-in (c .before .before .before .before .before .args .size) (c .before .before .before .before .before .args .n) (c .before .before .before .before .before .args .at) (c .before .before .before .before .before .args .f .now) (c .before .before .before .before .before .pre .2) (c .before .before .before .before .before .args .j) (c .before .before .before .before .before .pre .4) in omega (arith, c .before .before .before .name-word .ensures .0, c .before .before .name-word2 .ensures .0, c .before .before .before .before .before .pre .1)
 
--- src/names.rt:45:30
 sub-same-bytes-2 : tie.Need-sub-same-bytes-2
 sub-same-bytes-2 c = search needs
 
--- src/names.rt:45:30
 part-same-bytes-start-2 : tie.Need-part-same-bytes-start-2
 part-same-bytes-start-2 c = search needs
 
--- src/names.rt:45:30
 part-same-bytes-end-2 : tie.Need-part-same-bytes-end-2
 part-same-bytes-end-2 c = let x = name-in (c .before .before .before .before .before .before .args .size) (c .before .before .before .before .before .before .args .n) (c .before .before .before .before .before .before .args .at) (c .before .before .before .before .before .before .args .f .now) (c .before .before .before .before .before .before .pre .2) (c .before .before .before .before .before .before .args .i) (c .before .before .before .before .before .before .pre .3) in let y = name-in (c .before .before .before .before .before .before .args .size) (c .before .before .before .before .before .before .args .n) (c .before .before .before .before .before .before .args .at) (c .before .before .before .before .before .before .args .f .now) (c .before .before .before .before .before .before .pre .2) (c .before .before .before .before .before .before .args .j) (c .before .before .before .before .before .before .pre .4) in omega (arith, c .before .before .name-word3 .ensures .0, c .before .name-word4 .ensures .0, c .before .before .before .before .before .before .pre .1)
 
--- src/names.rt:45:5
 same-bytes-requires : tie.Need-same-bytes-requires
 same-bytes-requires c κs = search needs
 
--- src/names.rt:37:1
 returns : tie.Need-returns
 returns c = let x = name-in (c .before .before .before .before .before .before .before .before .args .size) (c .before .before .before .before .before .before .before .before .args .n) (c .before .before .before .before .before .before .before .before .args .at) (c .before .before .before .before .before .before .before .before .args .f .now) (c .before .before .before .before .before .before .before .before .pre .2) (c .before .before .before .before .before .before .before .before .args .i) (c .before .before .before .before .before .before .before .before .pre .3) in let y = name-in (c .before .before .before .before .before .before .before .before .args .size) (c .before .before .before .before .before .before .before .before .args .n) (c .before .before .before .before .before .before .before .before .args .at) (c .before .before .before .before .before .before .before .before .args .f .now) (c .before .before .before .before .before .before .before .before .pre .2) (c .before .before .before .before .before .before .before .before .args .j) (c .before .before .before .before .before .before .before .before .pre .4) in c .same-bytes .ensures ∙ ap₂ sameText (part-name (c .before .before .before .before .before .before .before .before .args .f .now) (c .before .before .before .before .before .before .before .before .args .size) (c .before .before .before .before .before .before .before .before .pre .1) (getD (section 2 (c .before .before .before .before .before .before .before .before .args .n) (c .before .before .before .before .before .before .before .before .args .at) (c .before .before .before .before .before .before .before .before .args .f .now)) (c .before .before .before .before .before .before .before .before .args .i) []) _ _ (c .before .before .before .before .before .before .name-word .ensures .0) (c .before .before .before .before .before .name-word2 .ensures .0) x) (part-name (c .before .before .before .before .before .before .before .before .args .f .now) (c .before .before .before .before .before .before .before .before .args .size) (c .before .before .before .before .before .before .before .before .pre .1) (getD (section 2 (c .before .before .before .before .before .before .before .before .args .n) (c .before .before .before .before .before .before .before .before .args .at) (c .before .before .before .before .before .before .before .before .args .f .now)) (c .before .before .before .before .before .before .before .before .args .j) []) _ _ (c .before .before .before .before .name-word3 .ensures .0) (c .before .before .before .name-word4 .ensures .0) y)
 

@@ -9,52 +9,37 @@ use Rattle.ast.specs.Opens.{outcome, sectionsOf}
 use Rattle.ast.proofs.Trailers.{is-within, laying, starting}
 use Rattle.ast.proofs.open.open_counted.Statement.{statement}
 use Rattle.ast.proofs.open.open_counted.Tie as tie
-use Rattle.ast.proofs.open.open_counted.Reads as reads
-use Rattle.ast.proofs.open.open_counted.Lts as lts
-use Rattle.ast.proofs.open.all_fit.Reads as all-fit-reads
-use Rattle.ast.proofs.open.starts.Reads as starts-reads
-use Rattle.ast.proofs.open.within_mosts.Reads as within-mosts-reads
 
--- src/open.rt:106:9
 within-mosts-requires : tie.Need-within-mosts-requires
 within-mosts-requires c κs = search needs
 
--- src/open.rt:107:9
 returns : tie.Need-returns
 unfolding openCounted outcome
 returns c = rw (sym (c .before .within-mosts .ensures) ∙ not-true _ (c .if1 .taken)) refl
 
--- src/open.rt:109:9
 starts-requires : tie.Need-starts-requires
 starts-requires c κs = is-within (c .before .before .before .args .c) (sym (c .before .within-mosts .ensures) ∙ not-false _ (c .if1 .left))
 
--- src/open.rt:110:30
 mul-if2 : tie.Need-mul-if2
 mul-if2 c = let a = starting (c .before .starts .result) (c .before .before .before .before .before .args .c) (c .before .starts .ensures) in let l = laying (c .before .before .before .before .before .args .c) in let w = is-within (c .before .before .before .before .before .args .c) (sym (c .before .before .before .within-mosts .ensures) ∙ not-false _ (c .before .before .if1 .left)) in omega (arith, a .models, l .names, l .nodes, l .deps, l .unknowns, l .stmts, l .models, l .trailer, w .text, w .names, w .nodes, w .deps, w .unknowns, w .stmts, w .models)
 
--- src/open.rt:110:19
 add-if2 : tie.Need-add-if2
 add-if2 c = let a = starting (c .before .before .starts .result) (c .before .before .before .before .before .before .args .c) (c .before .before .starts .ensures) in let l = laying (c .before .before .before .before .before .before .args .c) in let w = is-within (c .before .before .before .before .before .before .args .c) (sym (c .before .before .before .before .within-mosts .ensures) ∙ not-false _ (c .before .before .before .if1 .left)) in omega (arith, a .models, l .names, l .nodes, l .deps, l .unknowns, l .stmts, l .models, l .trailer, w .text, w .names, w .nodes, w .deps, w .unknowns, w .stmts, w .models)
 
--- src/open.rt:110:19
 add-if2-2 : tie.Need-add-if2-2
 add-if2-2 c = let a = starting (c .before .before .starts .result) (c .before .before .before .before .before .before .args .c) (c .before .before .starts .ensures) in let l = laying (c .before .before .before .before .before .before .args .c) in let w = is-within (c .before .before .before .before .before .before .args .c) (sym (c .before .before .before .before .within-mosts .ensures) ∙ not-false _ (c .before .before .before .if1 .left)) in omega (arith, a .models, l .names, l .nodes, l .deps, l .unknowns, l .stmts, l .models, l .trailer, w .text, w .names, w .nodes, w .deps, w .unknowns, w .stmts, w .models)
 
--- src/open.rt:111:9
 returns-2 : tie.Need-returns-2
 unfolding openCounted outcome
 returns-2 c = let a = starting (c .before .before .before .starts .result) (c .before .before .before .before .before .before .before .args .c) (c .before .before .before .starts .ensures) in let l = laying (c .before .before .before .before .before .before .before .args .c) in let w = is-within (c .before .before .before .before .before .before .before .args .c) (sym (c .before .before .before .before .before .within-mosts .ensures) ∙ not-false _ (c .before .before .before .before .if1 .left)) in let n : length (c .before .before .before .before .before .before .before .args .f .now) ≡ trailerAt (c .before .before .before .before .before .before .before .args .c) + 32 → ⊥ = λ e. c .if2 .taken (omega (arith, e, a .models, l .names, l .nodes, l .deps, l .unknowns, l .stmts, l .models, l .trailer, w .text, w .names, w .nodes, w .deps, w .unknowns, w .stmts, w .models)) in rw (sym (c .before .before .before .before .before .within-mosts .ensures) ∙ not-false _ (c .before .before .before .before .if1 .left), ne-eqb _ _ n) refl
 
--- src/open.rt:113:8
 all-fit-requires : tie.Need-all-fit-requires
 all-fit-requires c κs = let a = starting (c .before .before .before .starts .result) (c .before .before .before .before .before .before .before .args .c) (c .before .before .before .starts .ensures) in let l = laying (c .before .before .before .before .before .before .before .args .c) in let w = is-within (c .before .before .before .before .before .before .before .args .c) (sym (c .before .before .before .before .before .within-mosts .ensures) ∙ not-false _ (c .before .before .before .before .if1 .left)) in (record { within = w; long = omega (arith, c .if2 .left, a .models, l .names, l .nodes, l .deps, l .unknowns, l .stmts, l .models, l .trailer, w .text, w .names, w .nodes, w .deps, w .unknowns, w .stmts, w .models) }, c .before .before .before .starts .ensures)
 
--- src/open.rt:114:9
 returns-3 : tie.Need-returns-3
 unfolding openCounted openContents outcome sectionsOf
 returns-3 c = let a = starting (c .before .before .before .before .before .starts .result) (c .before .before .before .before .before .before .before .before .before .args .c) (c .before .before .before .before .before .starts .ensures) in let l = laying (c .before .before .before .before .before .before .before .before .before .args .c) in let w = is-within (c .before .before .before .before .before .before .before .before .before .args .c) (sym (c .before .before .before .before .before .before .before .within-mosts .ensures) ∙ not-false _ (c .before .before .before .before .before .before .if1 .left)) in let n : length (c .before .before .before .before .before .before .before .before .before .args .f .now) ≡ trailerAt (c .before .before .before .before .before .before .before .before .before .args .c) + 32 = omega (arith, c .before .before .if2 .left, a .models, l .names, l .nodes, l .deps, l .unknowns, l .stmts, l .models, l .trailer, w .text, w .names, w .nodes, w .deps, w .unknowns, w .stmts, w .models) in rw (sym (c .before .before .before .before .before .before .before .within-mosts .ensures) ∙ not-false _ (c .before .before .before .before .before .before .if1 .left), eq-eqb _ _ n, sym (c .before .all-fit .ensures) ∙ c .if3 .taken, ← c .before .before .before .before .before .starts .ensures) refl
 
--- src/open.rt:103:1
 returns-4 : tie.Need-returns-4
 unfolding openCounted openContents outcome
 returns-4 c = let a = starting (c .before .before .before .before .before .starts .result) (c .before .before .before .before .before .before .before .before .before .args .c) (c .before .before .before .before .before .starts .ensures) in let l = laying (c .before .before .before .before .before .before .before .before .before .args .c) in let w = is-within (c .before .before .before .before .before .before .before .before .before .args .c) (sym (c .before .before .before .before .before .before .before .within-mosts .ensures) ∙ not-false _ (c .before .before .before .before .before .before .if1 .left)) in let n : length (c .before .before .before .before .before .before .before .before .before .args .f .now) ≡ trailerAt (c .before .before .before .before .before .before .before .before .before .args .c) + 32 = omega (arith, c .before .before .if2 .left, a .models, l .names, l .nodes, l .deps, l .unknowns, l .stmts, l .models, l .trailer, w .text, w .names, w .nodes, w .deps, w .unknowns, w .stmts, w .models) in rw (sym (c .before .before .before .before .before .before .before .within-mosts .ensures) ∙ not-false _ (c .before .before .before .before .before .before .if1 .left), eq-eqb _ _ n, sym (c .before .all-fit .ensures) ∙ c .if3 .left) refl

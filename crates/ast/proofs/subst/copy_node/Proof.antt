@@ -3,40 +3,28 @@ use Rattle.ast.specs.Rows.{copied}
 use borrow.Author.Needs.{needs}
 use Rattle.ast.proofs.subst.copy_node.Statement.{statement}
 use Rattle.ast.proofs.subst.copy_node.Tie as tie
-use Rattle.ast.proofs.subst.copy_node.Reads as reads
-use Rattle.ast.proofs.subst.copy_node.Lts as lts
-use Rattle.ast.proofs.subst.put_node.Reads as put-node-reads
-use Rattle.ast.proofs.sections.record_word.Reads as record-word-reads
 
--- src/lib.rt:73:9
 record-word-requires : tie.Need-record-word-requires
 record-word-requires c κs = search needs
 
--- src/lib.rt:74:9
 record-word-requires-2 : tie.Need-record-word-requires-2
 record-word-requires-2 c κs = search needs
 
--- src/lib.rt:75:9
 record-word-requires-3 : tie.Need-record-word-requires-3
 record-word-requires-3 c κs = search needs
 
--- src/lib.rt:76:9
 record-word-requires-4 : tie.Need-record-word-requires-4
 record-word-requires-4 c κs = search needs
 
--- src/lib.rt:77:9
 record-word-requires-5 : tie.Need-record-word-requires-5
 record-word-requires-5 c κs = search needs
 
--- src/lib.rt:78:5
 put-node-requires : tie.Need-put-node-requires
 put-node-requires c κs = search needs
 
--- src/lib.rt:69:1
 same-length : tie.Need-same-length
 same-length c = search needs
 
--- src/lib.rt:69:1
 returns : tie.Need-returns
 unfolding copied
 returns c = rw (← c .before .before .before .before .before .before .before .before .record-word .ensures, ← c .before .before .before .before .before .before .before .record-word2 .ensures, ← c .before .before .before .before .before .before .record-word3 .ensures, ← c .before .before .before .before .before .record-word4 .ensures, ← c .before .before .before .before .record-word5 .ensures) (c .before .before .put-node .ensures, omega arith)

@@ -2,47 +2,34 @@ use Rattle.ast.proofs.Encodes.{eight-words}
 use borrow.Author.Needs.{needs}
 use Rattle.ast.proofs.subst.put_node.Statement.{statement}
 use Rattle.ast.proofs.subst.put_node.Tie as tie
-use Rattle.ast.proofs.subst.put_node.Reads as reads
-use Rattle.ast.proofs.subst.put_node.Lts as lts
-use Rattle.ast.proofs.words.put_word.Reads as put-word-reads
 
--- src/lib.rt:14:5
 put-word-requires : tie.Need-put-word-requires
 put-word-requires c κs = search needs
 
--- src/lib.rt:15:5
 put-word-requires-2 : tie.Need-put-word-requires-2
 put-word-requires-2 c κs = search needs
 
--- src/lib.rt:16:5
 put-word-requires-3 : tie.Need-put-word-requires-3
 put-word-requires-3 c κs = search needs
 
--- src/lib.rt:17:5
 put-word-requires-4 : tie.Need-put-word-requires-4
 put-word-requires-4 c κs = search needs
 
--- src/lib.rt:18:5
 put-word-requires-5 : tie.Need-put-word-requires-5
 put-word-requires-5 c κs = search needs
 
--- src/lib.rt:19:5
 put-word-requires-6 : tie.Need-put-word-requires-6
 put-word-requires-6 c κs = search needs
 
--- src/lib.rt:20:5
 put-word-requires-7 : tie.Need-put-word-requires-7
 put-word-requires-7 c κs = search needs
 
--- src/lib.rt:21:5
 put-word-requires-8 : tie.Need-put-word-requires-8
 put-word-requires-8 c κs = search needs
 
--- src/lib.rt:10:1
 same-length : tie.Need-same-length
 same-length c = search needs
 
--- src/lib.rt:10:1
 returns : tie.Need-returns
 returns c = eight-words (c .before .before .before .before .before .before .before .before .before .before .before .before .before .before .before .before .before .before .before .before .before .before .before .before .before .before .before .before .before .before .before .before .before .args .out .now) _ _ _ _ _ _ _ _ _ _ _ _ _ _ _ _ (c .before .before .before .before .before .before .before .before .before .before .before .before .before .before .before .before .before .before .before .before .before .before .before .before .before .before .before .before .before .before .before .before .before .pre) (c .before .before .before .before .before .before .before .before .before .before .before .before .before .before .before .before .before .before .before .before .before .before .before .before .before .before .before .before .before .before .put-word .ensures) (c .before .before .before .before .before .before .before .before .before .before .before .before .before .before .before .before .before .before .before .before .before .before .before .before .before .before .put-word2 .ensures) (c .before .before .before .before .before .before .before .before .before .before .before .before .before .before .before .before .before .before .before .before .before .before .put-word3 .ensures) (c .before .before .before .before .before .before .before .before .before .before .before .before .before .before .before .before .before .before .put-word4 .ensures) (c .before .before .before .before .before .before .before .before .before .before .before .before .before .before .put-word5 .ensures) (c .before .before .before .before .before .before .before .before .before .before .put-word6 .ensures) (c .before .before .before .before .before .before .put-word7 .ensures) (c .before .before .put-word8 .ensures)
 
