@@ -1,4 +1,4 @@
--- The tests of a file's records: their steps in a loop's terms, what records that pass are, and what an opened file says by number.
+-- What records that pass are, and what an opened file says by number.
 use mathlib.Core.Path.{_≡_, refl, ap, _∙_}
 use mathlib.Core.List.{List, [], _∷_, map}
 use mathlib.Core.Bool.{Bool, true, false, cond, _&&_}
@@ -16,38 +16,6 @@ use Rattle.ast.specs.Records.{nameFits, textOfName, distinct, spanOfUnkn
 use Rattle.ast.specs.declared.sections.Counts.{Counts}
 use Rattle.ast.specs.File.{countsOf, formOf, withinMosts, trailerAt, Contents, contentsOf, allFit, fileOf, Opened, refused, opened, openContents, openCounted, openTrailer, openFile}
 use Rattle.functions.proofs.Lists.{clash, and-both}
-
--- ---- steps: the record at i, then those behind it
-
-module _ (names limit : ℕ) (rs : List (List ℕ)) (i : ℕ) where
-  pub unknowns-step : (first : ℕ) → i < length rs
-      → unknownsFit names limit first (drop i rs) ≡ (unknownFits names limit first (getD rs i []) && unknownsFit names limit (first + depCount (getD rs i [])) (drop (suc i) rs))
-  unfolding unknownsFit
-  unknowns-step first h = ap (unknownsFit names limit first) (drop-cons rs i [] h)
-
-  pub stmts-step : (ns : List (List ℕ)) (first : ℕ) → i < length rs
-      → stmtsFit names limit ns first (drop i rs) ≡ (stmtFits names limit ns first (getD rs i []) && stmtsFit names limit ns (rightTop (getD rs i []) + 1) (drop (suc i) rs))
-  unfolding stmtsFit
-  stmts-step ns first h = ap (stmtsFit names limit ns first) (drop-cons rs i [] h)
-
-  pub models-step : (stmts u q : ℕ) → i < length rs
-      → modelsFit names limit stmts u q (drop i rs)
-      ≡ (modelFits names limit stmts u q (getD rs i []) && modelsFit names limit stmts (u + unknownCount (getD rs i [])) (q + stmtCount (getD rs i [])) (drop (suc i) rs))
-  unfolding modelsFit
-  models-step stmts u q h = ap (modelsFit names limit stmts u q) (drop-cons rs i [] h)
-
-module _ (names limit : ℕ) (rs : List (List ℕ)) where
-  pub unknowns-end : (first : ℕ) → unknownsFit names limit first (drop (length rs) rs) ≡ eqb first limit
-  unfolding unknownsFit
-  unknowns-end first = ap (unknownsFit names limit first) (drop-length rs)
-
-  pub stmts-end : (ns : List (List ℕ)) (first : ℕ) → stmtsFit names limit ns first (drop (length rs) rs) ≡ eqb first limit
-  unfolding stmtsFit
-  stmts-end ns first = ap (stmtsFit names limit ns first) (drop-length rs)
-
-  pub models-end : (stmts u q : ℕ) → modelsFit names limit stmts u q (drop (length rs) rs) ≡ (eqb u limit && eqb q stmts)
-  unfolding modelsFit
-  models-end stmts u q = ap (modelsFit names limit stmts u q) (drop-length rs)
 
 -- ---- what records that pass are
 
