@@ -9,6 +9,7 @@ pub mod Records
 pub mod Numbers
 pub mod File
 pub mod Write
+pub mod WellFormed
 pub mod Opens
 pub mod Rows
 pub mod Computes

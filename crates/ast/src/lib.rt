@@ -4,6 +4,7 @@ mod names;
 pub mod nodes;
 pub mod numbers;
 pub mod open;
+pub mod records;
 pub mod sections;
 mod stmts;
 pub mod subst;
