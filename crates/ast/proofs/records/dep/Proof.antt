@@ -2,15 +2,10 @@ use Rattle.ast.specs.File.{contentsOf}
 use Rattle.ast.proofs.Opened.{ranges}
 use Rattle.ast.proofs.records.dep.Statement.{statement}
 use Rattle.ast.proofs.records.dep.Tie as tie
-use Rattle.ast.proofs.records.dep.Reads as reads
-use Rattle.ast.proofs.records.dep.Lts as lts
-use Rattle.ast.proofs.sections.dep_word.Reads as dep-word-reads
 
--- src/records.rt:61:5
 dep-word-requires : tie.Need-dep-word-requires
 dep-word-requires c κs = let r = ranges (c .before .args .f .now) (c .before .args .s) (c .before .pre .0) in (r .deps, c .before .pre .1)
 
--- src/records.rt:57:1
 returns : tie.Need-returns
 unfolding contentsOf
 returns c = let r = ranges (c .before .before .args .f .now) (c .before .before .args .s) (c .before .before .pre .0) in rw (← r .starts .deps) (c .dep-word .ensures)

@@ -2,15 +2,10 @@ use Rattle.ast.specs.File.{contentsOf}
 use Rattle.ast.proofs.Opened.{ranges}
 use Rattle.ast.proofs.records.name.Statement.{statement}
 use Rattle.ast.proofs.records.name.Tie as tie
-use Rattle.ast.proofs.records.name.Reads as reads
-use Rattle.ast.proofs.records.name.Lts as lts
-use Rattle.ast.proofs.sections.name_word.Reads as name-word-reads
 
--- src/records.rt:21:5
 name-word-requires : tie.Need-name-word-requires
 name-word-requires c κs = let r = ranges (c .before .args .f .now) (c .before .args .s) (c .before .pre .0) in (r .names, c .before .pre .1 .0, c .before .pre .1 .1)
 
--- src/records.rt:17:1
 returns : tie.Need-returns
 unfolding contentsOf
 returns c = let r = ranges (c .before .before .args .f .now) (c .before .before .args .s) (c .before .before .pre .0) in rw (← r .starts .names) (c .name-word .ensures)

@@ -2,15 +2,10 @@ use Rattle.ast.specs.File.{contentsOf}
 use Rattle.ast.proofs.Opened.{ranges}
 use Rattle.ast.proofs.records.node.Statement.{statement}
 use Rattle.ast.proofs.records.node.Tie as tie
-use Rattle.ast.proofs.records.node.Reads as reads
-use Rattle.ast.proofs.records.node.Lts as lts
-use Rattle.ast.proofs.sections.node_word.Reads as node-word-reads
 
--- src/records.rt:29:5
 node-word-requires : tie.Need-node-word-requires
 node-word-requires c κs = let r = ranges (c .before .args .f .now) (c .before .args .s) (c .before .pre .0) in (r .nodes, c .before .pre .1 .0, c .before .pre .1 .1)
 
--- src/records.rt:25:1
 returns : tie.Need-returns
 unfolding contentsOf
 returns c = let r = ranges (c .before .before .args .f .now) (c .before .before .args .s) (c .before .before .pre .0) in rw (← r .starts .nodes) (c .node-word .ensures)

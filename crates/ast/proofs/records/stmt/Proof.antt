@@ -2,15 +2,10 @@ use Rattle.ast.specs.File.{contentsOf}
 use Rattle.ast.proofs.Opened.{ranges}
 use Rattle.ast.proofs.records.stmt.Statement.{statement}
 use Rattle.ast.proofs.records.stmt.Tie as tie
-use Rattle.ast.proofs.records.stmt.Reads as reads
-use Rattle.ast.proofs.records.stmt.Lts as lts
-use Rattle.ast.proofs.sections.stmt_word.Reads as stmt-word-reads
 
--- src/records.rt:45:5
 stmt-word-requires : tie.Need-stmt-word-requires
 stmt-word-requires c κs = let r = ranges (c .before .args .f .now) (c .before .args .s) (c .before .pre .0) in (r .stmts, c .before .pre .1 .0, c .before .pre .1 .1)
 
--- src/records.rt:41:1
 returns : tie.Need-returns
 unfolding contentsOf
 returns c = let r = ranges (c .before .before .args .f .now) (c .before .before .args .s) (c .before .before .pre .0) in rw (← r .starts .stmts) (c .stmt-word .ensures)

@@ -2,15 +2,10 @@ use Rattle.ast.specs.File.{contentsOf}
 use Rattle.ast.proofs.Opened.{ranges}
 use Rattle.ast.proofs.records.unknown.Statement.{statement}
 use Rattle.ast.proofs.records.unknown.Tie as tie
-use Rattle.ast.proofs.records.unknown.Reads as reads
-use Rattle.ast.proofs.records.unknown.Lts as lts
-use Rattle.ast.proofs.sections.unknown_word.Reads as unknown-word-reads
 
--- src/records.rt:37:5
 unknown-word-requires : tie.Need-unknown-word-requires
 unknown-word-requires c κs = let r = ranges (c .before .args .f .now) (c .before .args .s) (c .before .pre .0) in (r .unknowns, c .before .pre .1 .0, c .before .pre .1 .1)
 
--- src/records.rt:33:1
 returns : tie.Need-returns
 unfolding contentsOf
 returns c = let r = ranges (c .before .before .args .f .now) (c .before .before .args .s) (c .before .before .pre .0) in rw (← r .starts .unknowns) (c .unknown-word .ensures)
