@@ -1,0 +1,177 @@
+-- How much a model stmtFlats in, statement by statement: its instances and its flattened statements; and the model that a statement stmtModels.
+use mathlib.Core.Path.{_≡_, refl, sym, ap, _∙_}
+use mathlib.Core.Bool.{Bool, true, false, cond}
+use mathlib.Core.List.{List, [], _∷_, _++_}
+use mathlib.Core.Option.{Option, none, some, Option·some-injective}
+use Prim.Native.Nat.{ℕ, zero, suc, _+_, _-_, _≤_, _<_}
+use native.Mathlib.Omega.{arith}
+use native.Mathlib.Numerals.{add-one, sub-one}
+use lib.Dec.{eqb}
+use lib.ListN.{length, take, getD, length-map}
+use lib.Seq.{take-suc, take-all}
+use Rattle.functions.specs.Lists.{placeFrom, place, each, sumOf, toList, plusOne}
+use Rattle.functions.proofs.Lists.{clash}
+use Rattle.ast.specs.Tree.{Span, Args, Flat, Stmt, own, submodel, File}
+use Rattle.ast.specs.Nodes.{nameOf, opOf, sizeOf, argsBefore}
+use Rattle.ast.specs.Records.{submodelOf, firstStmt, stmtCount}
+use Rattle.ast.specs.Rows.{atMost}
+use Rattle.ast.specs.Opens.{Open, fileIn}
+use Rattle.ast.specs.declared.sections.Sections.{Sections}
+use Rattle.builder.specs.Flatten.{modelNamed, modelAt, subFlats, stmtFlats, stmtModels, submodels, flatten, instances}
+use Rattle.builder.specs.Tables.{calleeOf}
+use Rattle.builder.proofs.Counts.{length-each}
+use Rattle.builder.proofs.OpenFile.{modelRecord, stmtIn, stmts-count, stmt-by-number}
+
+-- ---- counts with a most
+
+-- what is left of the most goes to the next
+pub at-most-add : (most a b x y : ℕ) → a ≡ atMost most x → b ≡ atMost (most - a) y → a + b ≡ atMost most (x + y)
+unfolding atMost
+at-most-add most a b x y e g = omega arith
+
+-- ---- sums
+
+module _ {A : Type 0} where
+  sum-append : (g : A → ℕ) (xs ys : List A) → sumOf g (xs ++ ys) ≡ sumOf g xs + sumOf g ys
+  unfolding sumOf
+  sum-append g [] ys = omega arith
+  sum-append g (x ∷ xs) ys = omega (arith, sum-append g xs ys)
+
+  -- over the elements before place i
+  pub sum-none : (g : A → ℕ) (xs : List A) → sumOf g (take 0 xs) ≡ 0
+  unfolding sumOf
+  sum-none g xs = refl
+
+  pub sum-next : (g : A → ℕ) (xs : List A) (i : ℕ) (d : A) → i < length xs → sumOf g (take (i + 1) xs) ≡ sumOf g (take i xs) + g (getD xs i d)
+  unfolding sumOf
+  sum-next g xs i d h = rw (add-one, take-suc xs i d) (sum-append g (take i xs) (getD xs i d ∷ []) ∙ omega arith)
+
+sum-each : {A B : Type 0} (g : B → ℕ) (h : A → List B) (xs : List A) → sumOf g (each h xs) ≡ sumOf (λ x. sumOf g (h x)) xs
+unfolding sumOf each
+sum-each g h [] = refl
+sum-each g h (x ∷ xs) = sum-append g (h x) (each h xs) ∙ ap (λ (n : ℕ). sumOf g (h x) + n) (sum-each g h xs)
+
+-- ---- the model that a statement stmtModels
+
+module _ {A : Type 0} (p : A → Bool) where
+  below-step : (k n i : ℕ) (b : Bool) (o : Option ℕ) → cond b (some k) o ≡ some i → (o ≡ some i → i < suc k + n) → i < k + suc n
+  below-step k n i true o e g = let h : k ≡ i = Option·some-injective _ _ e in omega arith
+  below-step k n i false o e g = omega (arith, g e)
+
+  -- what is found stands in the list
+  pub place-below : (k : ℕ) (xs : List A) (i : ℕ) → placeFrom k p xs ≡ some i → i < k + length xs
+  unfolding placeFrom
+  place-below k [] i e = clash (cc)
+  place-below k (x ∷ xs) i e = below-step k (length xs) i (p x) (placeFrom (suc k) p xs) e (place-below (suc k) xs i)
+
+module _ (f : File) where
+  found-within : (o : Option ℕ) → ((i : ℕ) → o ≡ some i → i < length (f .models)) → plusOne o ≤ length (f .models)
+  unfolding plusOne
+  found-within none g = omega arith
+  found-within (some i) g = omega (arith, g i refl)
+
+  -- is one of the file
+  pub callee-within : (q : Stmt) → calleeOf f q ≤ length (f .models)
+  unfolding calleeOf modelNamed place
+  callee-within (own q) = omega arith
+  callee-within (submodel x a z s) = found-within (modelNamed f x) (λ i g. omega (arith, place-below (λ m. eqb x (m .name)) 0 (f .models) i g))
+
+  to-list-none : (o : Option ℕ) (c : ℕ) → c ≡ plusOne o → c ≡ 0 → toList o ≡ []
+  unfolding plusOne toList
+  to-list-none none c e z = refl
+  to-list-none (some i) c e z = absurd (omega arith)
+
+  to-list-some : (o : Option ℕ) (c : ℕ) → c ≡ plusOne o → (c ≡ 0 → ⊥) → toList o ≡ (c - 1) ∷ []
+  unfolding plusOne toList
+  to-list-some none c e n = absurd (n e)
+  to-list-some (some i) c e n = ap (λ (x : ℕ). x ∷ []) (omega arith)
+
+  pub calls-none : (q : Stmt) (c : ℕ) → c ≡ calleeOf f q → c ≡ 0 → stmtModels f q ≡ []
+  unfolding stmtModels calleeOf
+  calls-none (own q) c e z = refl
+  calls-none (submodel x a t s) c e z = to-list-none (modelNamed f x) c e z
+
+  pub calls-one : (q : Stmt) (c : ℕ) → c ≡ calleeOf f q → (c ≡ 0 → ⊥) → stmtModels f q ≡ (c - 1) ∷ []
+  unfolding stmtModels calleeOf
+  calls-one (own q) c e n = absurd (n e)
+  calls-one (submodel x a t s) c e n = to-list-some (modelNamed f x) c e n
+
+  -- ---- instances, to a depth of k models
+
+  -- those of the model that a statement stmtModels
+  abbrev pub calledInstances : ℕ → Stmt → ℕ
+  calledInstances k q = sumOf (λ j. instances f k j) (stmtModels f q)
+
+  pub called-none : (k : ℕ) (q : Stmt) (c : ℕ) → c ≡ calleeOf f q → c ≡ 0 → 0 ≡ calledInstances k q
+  unfolding sumOf
+  called-none k q c e z = sym (ap (λ (js : List ℕ). sumOf (λ j. instances f k j) js) (calls-none q c e z))
+
+  pub called-one : (k : ℕ) (q : Stmt) (c : ℕ) → c ≡ calleeOf f q → (c ≡ 0 → ⊥) → calledInstances k q ≡ instances f k (c - 1)
+  unfolding sumOf
+  called-one k q c e n = ap (λ (js : List ℕ). sumOf (λ j. instances f k j) js) (calls-one q c e n) ∙ omega arith
+
+  pub instances-zero : (k m : ℕ) → k ≡ 0 → 0 ≡ instances f k m
+  unfolding instances
+  instances-zero zero m e = refl
+  instances-zero (suc k) m e = absurd (omega arith)
+
+  pub instances-more : (k m : ℕ) → (k ≡ 0 → ⊥) → instances f k m ≡ 1 + sumOf (calledInstances (k - 1)) (modelAt f m .stmts)
+  unfolding instances submodels
+  instances-more zero m n = absurd (n refl)
+  instances-more (suc k) m n = rw (sub-one (suc k)) (ap (λ (z : ℕ). 1 + z) (sum-each (λ j. instances f k j) (stmtModels f) (modelAt f m .stmts)))
+
+  -- ---- flattened statements, to a depth of k models
+
+  -- how many a statement stmtFlats in
+  abbrev pub broughtIn : ℕ → Stmt → ℕ
+  broughtIn k q = length (stmtFlats f (λ j. flatten f k j) q)
+
+  pub brought-own : (k : ℕ) (q : Stmt) (e : Flat) → q ≡ own e → broughtIn k q ≡ 1
+  unfolding stmtFlats
+  brought-own k q e g = ap (broughtIn k) g
+
+  sub-none : (k : ℕ) (a : Args) (o : Option ℕ) (c : ℕ) → c ≡ plusOne o → c ≡ 0 → 0 ≡ length (subFlats f (λ j. flatten f k j) a o)
+  unfolding subFlats plusOne
+  sub-none k a none c e z = refl
+  sub-none k a (some i) c e z = absurd (omega arith)
+
+  sub-one-model : (k : ℕ) (a : Args) (o : Option ℕ) (c : ℕ) → c ≡ plusOne o → (c ≡ 0 → ⊥) → length (subFlats f (λ j. flatten f k j) a o) ≡ length (flatten f k (c - 1))
+  unfolding subFlats plusOne
+  sub-one-model k a none c e n = absurd (n e)
+  sub-one-model k a (some i) c e n = let g : i ≡ c - 1 = omega arith in simp length-map (ap (λ (j : ℕ). length (flatten f k j)) g)
+
+  -- a submodel statement whose model is missing
+  pub brought-none : (k : ℕ) (ns : List (List ℕ)) (i : ℕ) (r : List ℕ) (s : Span) (q : Stmt) (c : ℕ) → q ≡ submodelOf ns i r s → c ≡ calleeOf f q → c ≡ 0 → 0 ≡ broughtIn k q
+  unfolding stmtFlats calleeOf submodelOf
+  brought-none k ns i r s q c g e z = rw g (sub-none k (argsBefore ns i (opOf r) (sizeOf r - 1)) (modelNamed f (nameOf r)) c (rw g at e) z)
+
+  pub brought-called : (k : ℕ) (q : Stmt) (c : ℕ) → c ≡ calleeOf f q → (c ≡ 0 → ⊥) → broughtIn k q ≡ length (flatten f k (c - 1))
+  unfolding stmtFlats calleeOf
+  brought-called k (own q) c e n = absurd (n e)
+  brought-called k (submodel x a t s) c e n = sub-one-model k a (modelNamed f x) c e n
+
+  pub flatten-zero : (k m : ℕ) → k ≡ 0 → 0 ≡ length (flatten f k m)
+  unfolding flatten
+  flatten-zero zero m e = refl
+  flatten-zero (suc k) m e = absurd (omega arith)
+
+  pub flatten-more : (k m : ℕ) → (k ≡ 0 → ⊥) → length (flatten f k m) ≡ sumOf (broughtIn (k - 1)) (modelAt f m .stmts)
+  unfolding flatten
+  flatten-more zero m n = absurd (n refl)
+  flatten-more (suc k) m n = rw (sub-one (suc k)) (length-each (stmtFlats f (λ j. flatten f k j)) (modelAt f m .stmts))
+
+-- ---- sums over the statements of model m of an open file
+
+module _ (f : List ℕ) (s : Sections) (o : Open f s) (m : ℕ) (h : m < s .counts .models) (g : Stmt → ℕ) where
+  -- before statement i of the model
+  abbrev pub before : ℕ → ℕ
+  before i = sumOf g (take i (modelAt (fileIn f s) m .stmts))
+
+  pub run-next : (i : ℕ) → i < stmtCount (modelRecord f s m) → before (i + 1) ≡ before i + g (stmtIn f s (firstStmt (modelRecord f s m) + i))
+  run-next i l =
+      let d = stmtIn f s (firstStmt (modelRecord f s m) + i) in
+      let w : i < length (modelAt (fileIn f s) m .stmts) = omega (arith, stmts-count f s o m h) in
+      sum-next g (modelAt (fileIn f s) m .stmts) i d w ∙ ap (λ (q : Stmt). before i + g q) (stmt-by-number f s o m h i d l)
+
+  pub run-end : (i : ℕ) → stmtCount (modelRecord f s m) ≤ i → before i ≡ sumOf g (modelAt (fileIn f s) m .stmts)
+  run-end i l = ap (sumOf g) (take-all i (modelAt (fileIn f s) m .stmts) (omega (arith, stmts-count f s o m h)))

@@ -1,0 +1,249 @@
+-- An open file by number: how many records each section has, and what each model, unknown and statement is by its record.
+use mathlib.Core.Path.{_≡_, refl, ap, _∙_}
+use mathlib.Core.Bool.{Bool, true, false, cond}
+use mathlib.Core.List.{List, [], map}
+use Prim.Native.Nat.{ℕ, zero, suc, _+_, _-_, _≤_, _<_}
+use native.Mathlib.Omega.{arith}
+use borrow.Author.Tests.{ltb-true, ne-eqb}
+use lib.Dec.{ltb, eqb}
+use lib.ListN.{length, getD, length-map}
+use Rattle.functions.specs.Lists.{all}
+use Rattle.functions.proofs.Lists.{clash, and-both}
+use Rattle.ast.specs.Tree.{Unknown, Stmt, own, submodel, equation, rate, Model}
+use Rattle.ast.specs.Nodes.{kindAt, nameAt, opAt, sizeAt, spanAt, isExpr, nodesFit, treeAt, argsBefore, argsFit}
+use Rattle.ast.specs.Words.{inOrder}
+use Rattle.ast.specs.Records.{nameOfUnknown, firstDep, depCount, spanOfUnknown, domainFits, unknownFits, unknownsFit, unknownOf, kindOfStmt, nameOfStmt, leftTop, rightTop, spanOfStmt, stmtKindFits, stmtFits, stmtsFit, submodelOf, stmtOf, nameOfModel, firstUnknown, unknownCount, firstStmt, stmtCount, spanOfModel, modelFits, modelsFit, modelOf}
+use Rattle.ast.specs.File.{depsAt, contentsOf, fileOf}
+use Rattle.ast.specs.Opens.{Open, contentsIn, fileIn}
+use Rattle.ast.specs.declared.sections.Sections.{Sections}
+use Rattle.ast.proofs.Fields.{length-section, length-deps}
+use Rattle.ast.proofs.Opened.{ranges}
+use Rattle.ast.proofs.Files.{all-at, unknown-fits, stmt-fits, model-fits, unknown-run, model-runs, top-is, equation-tops, rate-top, submodel-top, model-at, unknown-at, stmt-at, unknown-count, stmt-count, dep-of, dep-count, parts}
+use Rattle.builder.specs.Flatten.{noModel, modelAt}
+use Rattle.ast.proofs.Fitting.{LastArg, node-ok, last-arg}
+
+-- ---- how many records
+
+pub record Long (f : List ℕ) (s : Sections) : Type 0 where
+  pub names : length (contentsIn f s .names) ≡ s .counts .names
+  pub nodes : length (contentsIn f s .nodes) ≡ s .counts .nodes
+  pub deps : length (contentsIn f s .deps) ≡ s .counts .deps
+  pub unknowns : length (contentsIn f s .unknowns) ≡ s .counts .unknowns
+  pub stmts : length (contentsIn f s .stmts) ≡ s .counts .stmts
+  pub models : length (contentsIn f s .models) ≡ s .counts .models
+  pub file-names : length (fileIn f s .names) ≡ s .counts .names
+  pub file-models : length (fileIn f s .models) ≡ s .counts .models
+
+-- of an open file
+pub long : (f : List ℕ) (s : Sections) → Open f s → Long f s
+unfolding contentsOf fileOf
+long f s o =
+    let r = ranges f s o in
+    record {
+      names = length-section 2 _ _ f;
+      nodes = length-section 8 _ _ f;
+      deps = length-deps f (depsAt (s .counts)) (s .counts .deps) (omega (arith, r .deps, r .starts .deps));
+      unknowns = length-section 10 _ _ f;
+      stmts = length-section 6 _ _ f;
+      models = length-section 7 _ _ f;
+      file-names = simp length-map (length-section 2 _ _ f);
+      file-models = simp length-map (length-section 7 _ _ f);
+    }
+
+-- ---- each section keeps the layout
+
+pub record Passes (f : List ℕ) (s : Sections) : Type 0 where
+  pub nodes : nodesFit (s .counts .names) (contentsIn f s .nodes) (s .counts .nodes) ≡ true
+  pub deps : all (λ d. ltb d (s .counts .names)) (contentsIn f s .deps) ≡ true
+  pub unknowns : unknownsFit (s .counts .names) (s .counts .deps) 0 (contentsIn f s .unknowns) ≡ true
+  pub stmts : stmtsFit (s .counts .names) (s .counts .nodes) (contentsIn f s .nodes) 0 (contentsIn f s .stmts) ≡ true
+  pub models : modelsFit (s .counts .names) (s .counts .unknowns) (s .counts .stmts) 0 0 (contentsIn f s .models) ≡ true
+
+-- of an open file
+pub passes : (f : List ℕ) (s : Sections) → Open f s → Passes f s
+unfolding contentsOf
+passes f s o =
+    let p = parts (contentsIn f s) (o .fits) in
+    record { nodes = p .nodes; deps = p .deps; unknowns = p .unknowns; stmts = p .stmts; models = p .models }
+
+-- the name of each dependent is one of the names
+pub dep-below : (f : List ℕ) (s : Sections) → Open f s → (i : ℕ) → i < s .counts .deps → getD (contentsIn f s .deps) i 0 < s .counts .names
+dep-below f s o i h = ltb-true _ _ (all-at _ (contentsIn f s .deps) 0 (passes f s o .deps) i (omega (arith, long f s o .deps)))
+
+-- ---- model m, by its record
+
+module _ (f : List ℕ) (s : Sections) (m : ℕ) where
+  abbrev modelRecord : List ℕ
+  modelRecord = getD (contentsIn f s .models) m []
+
+  pub record ModelIs : Type 0 where
+    pub name : modelAt (fileIn f s) m .name ≡ nameOfModel modelRecord
+    pub name-below : nameOfModel modelRecord < s .counts .names
+    pub unknowns-within : firstUnknown modelRecord + unknownCount modelRecord ≤ s .counts .unknowns
+    pub stmts-within : firstStmt modelRecord + stmtCount modelRecord ≤ s .counts .stmts
+    pub unknowns-long : length (modelAt (fileIn f s) m .unknowns) ≡ unknownCount modelRecord
+    pub stmts-long : length (modelAt (fileIn f s) m .stmts) ≡ stmtCount modelRecord
+    pub unknown : (i : ℕ) (d : Unknown) → i < unknownCount modelRecord
+        → getD (modelAt (fileIn f s) m .unknowns) i d ≡ unknownOf (contentsIn f s .deps) (getD (contentsIn f s .unknowns) (firstUnknown modelRecord + i) [])
+    pub stmt : (i : ℕ) (d : Stmt) → i < stmtCount modelRecord
+        → getD (modelAt (fileIn f s) m .stmts) i d ≡ stmtOf (contentsIn f s .nodes) (getD (contentsIn f s .stmts) (firstStmt modelRecord + i) [])
+
+-- its name is one of the names
+model-name-below : (names unknowns stmts u q : ℕ) (r : List ℕ) → modelFits names unknowns stmts u q r ≡ true → nameOfModel r < names
+unfolding modelFits
+model-name-below names unknowns stmts u q r h =
+    let (h₁, _) = and-both _ (inOrder (spanOfModel r)) h in
+    let (h₂, _) = and-both _ _ h₁ in
+    let (h₃, _) = and-both _ _ h₂ in
+    let (h₄, _) = and-both _ _ h₃ in
+    let (n, _) = and-both (ltb (nameOfModel r) names) _ h₄ in
+    ltb-true _ _ n
+
+-- of an open file
+pub model-is : (f : List ℕ) (s : Sections) → Open f s → (m : ℕ) → m < s .counts .models → ModelIs f s m
+unfolding modelAt modelOf
+model-is f s o m h =
+    let t = contentsIn f s in
+    let l = long f s o in
+    let r = getD (t .models) m [] in
+    let us = map (unknownOf (t .deps)) (t .unknowns) in
+    let qs = map (stmtOf (t .nodes)) (t .stmts) in
+    let (u, q, fits) = model-fits (s .counts .names) (s .counts .unknowns) (s .counts .stmts) (t .models) 0 0 (passes f s o .models) m (omega (arith, l .models)) in
+    let (wu, wq) = model-runs (s .counts .names) (s .counts .unknowns) (s .counts .stmts) u q r fits in
+    let e : modelAt (fileIn f s) m ≡ modelOf us qs r = model-at t m noModel (omega (arith, l .models)) in
+    let lu : length us ≡ s .counts .unknowns = simp length-map (l .unknowns) in
+    let lq : length qs ≡ s .counts .stmts = simp length-map (l .stmts) in
+    record {
+      name = ap (λ (x : Model). x .name) e;
+      name-below = model-name-below _ _ _ u q r fits;
+      unknowns-within = wu;
+      stmts-within = wq;
+      unknowns-long = ap (λ (x : Model). length (x .unknowns)) e ∙ unknown-count t r us qs (omega (arith, wu, lu));
+      stmts-long = ap (λ (x : Model). length (x .stmts)) e ∙ stmt-count t r us qs (omega (arith, wq, lq));
+      unknown = λ i d k. ap (λ (x : Model). getD (x .unknowns) i d) e ∙ unknown-at t r us qs i d refl k (omega (arith, wu, l .unknowns));
+      stmt = λ i d k. ap (λ (x : Model). getD (x .stmts) i d) e ∙ stmt-at t r us qs i d refl k (omega (arith, wq, l .stmts));
+    }
+
+-- ---- unknown u, by its record
+
+module _ (f : List ℕ) (s : Sections) (u : ℕ) where
+  abbrev unknownRecord : List ℕ
+  unknownRecord = getD (contentsIn f s .unknowns) u []
+
+  pub record UnknownIs : Type 0 where
+    pub name-below : nameOfUnknown unknownRecord < s .counts .names
+    pub deps-within : firstDep unknownRecord + depCount unknownRecord ≤ s .counts .deps
+    pub domain-fits : domainFits (s .counts .names) unknownRecord ≡ true
+    pub deps-long : length (unknownOf (contentsIn f s .deps) unknownRecord .deps) ≡ depCount unknownRecord
+    pub dep : (j : ℕ) → j < depCount unknownRecord → getD (unknownOf (contentsIn f s .deps) unknownRecord .deps) j 0 ≡ getD (contentsIn f s .deps) (firstDep unknownRecord + j) 0
+
+-- its name is one of the names, and its domain keeps the layout
+unknown-name-below : (names limit first : ℕ) (r : List ℕ) → unknownFits names limit first r ≡ true → (nameOfUnknown r < names) × (domainFits names r ≡ true)
+unfolding unknownFits
+unknown-name-below names limit first r h =
+    let (h₁, _) = and-both _ (inOrder (spanOfUnknown r)) h in
+    let (h₂, d) = and-both _ (domainFits names r) h₁ in
+    let (h₃, _) = and-both _ _ h₂ in
+    let (n, _) = and-both (ltb (nameOfUnknown r) names) _ h₃ in
+    (ltb-true _ _ n, d)
+
+-- of an open file
+pub unknown-is : (f : List ℕ) (s : Sections) → Open f s → (u : ℕ) → u < s .counts .unknowns → UnknownIs f s u
+unknown-is f s o u h =
+    let t = contentsIn f s in
+    let l = long f s o in
+    let r = getD (t .unknowns) u [] in
+    let (first, fits) = unknown-fits (s .counts .names) (s .counts .deps) (t .unknowns) 0 (passes f s o .unknowns) u (omega (arith, l .unknowns)) in
+    let w = unknown-run (s .counts .names) (s .counts .deps) first r fits in
+    let (n, d) = unknown-name-below (s .counts .names) (s .counts .deps) first r fits in
+    record { name-below = n; deps-within = w; domain-fits = d; deps-long = dep-count t r (omega (arith, w, l .deps)); dep = dep-of t r }
+
+-- ---- statement q, by its record and its kind
+
+module _ (f : List ℕ) (s : Sections) (q : ℕ) where
+  abbrev stmtRecord : List ℕ
+  stmtRecord = getD (contentsIn f s .stmts) q []
+
+  pub record StmtIs : Type 0 where
+    pub kinds : (1 ≤ kindOfStmt stmtRecord) × (kindOfStmt stmtRecord ≤ 3)
+    pub right : (rightTop stmtRecord < s .counts .nodes) × (isExpr (contentsIn f s .nodes) (rightTop stmtRecord) ≡ true)
+    pub left : kindOfStmt stmtRecord ≡ 1 → (leftTop stmtRecord < s .counts .nodes) × (isExpr (contentsIn f s .nodes) (leftTop stmtRecord) ≡ true)
+    pub rate-name : kindOfStmt stmtRecord ≡ 2 → nameOfStmt stmtRecord < s .counts .names
+    pub call : kindOfStmt stmtRecord ≡ 3 → kindAt (contentsIn f s .nodes) (rightTop stmtRecord) ≡ 5
+
+module _ (ns : List (List ℕ)) (r : List ℕ) where
+  -- what a record of kind 1 says
+  pub stmt-equation : kindOfStmt r ≡ 1 → stmtOf ns r ≡ own (equation (treeAt ns (leftTop r)) (treeAt ns (rightTop r)) (spanOfStmt r))
+  unfolding stmtOf
+  stmt-equation k = simp k
+
+  -- of kind 2
+  pub stmt-rate : kindOfStmt r ≡ 2 → stmtOf ns r ≡ own (rate (nameOfStmt r) (treeAt ns (rightTop r)) (spanOfStmt r))
+  unfolding stmtOf
+  stmt-rate k = simp k
+
+  -- of kind 3
+  pub stmt-submodel : kindOfStmt r ≡ 3
+      → stmtOf ns r ≡ submodel (nameAt ns (rightTop r)) (argsBefore ns (rightTop r) (opAt ns (rightTop r)) (sizeAt ns (rightTop r) - 1)) (spanAt ns (rightTop r)) (spanOfStmt r)
+  unfolding stmtOf submodelOf
+  stmt-submodel k = simp k
+
+-- there are three kinds
+kind-among : (k : ℕ) (a b c : Bool) → cond (eqb k 1) a (cond (eqb k 2) b (cond (eqb k 3) c false)) ≡ true → (1 ≤ k) × (k ≤ 3)
+kind-among zero a b c h = clash (cc)
+kind-among (suc zero) a b c h = (omega arith, omega arith)
+kind-among (suc (suc zero)) a b c h = (omega arith, omega arith)
+kind-among (suc (suc (suc zero))) a b c h = (omega arith, omega arith)
+kind-among (suc (suc (suc (suc k)))) a b c h =
+    let n = suc (suc (suc (suc k))) in
+    let e₁ : eqb n 1 ≡ false = ne-eqb n 1 (λ e. omega arith) in
+    let e₂ : eqb n 2 ≡ false = ne-eqb n 2 (λ e. omega arith) in
+    let e₃ : eqb n 3 ≡ false = ne-eqb n 3 (λ e. omega arith) in
+    clash (cc (simp (e₁, e₂, e₃) at h))
+
+-- so of a record that keeps the layout
+stmt-kinds : (names count : ℕ) (ns : List (List ℕ)) (first : ℕ) (r : List ℕ) → stmtFits names count ns first r ≡ true → (1 ≤ kindOfStmt r) × (kindOfStmt r ≤ 3)
+unfolding stmtFits stmtKindFits
+stmt-kinds names count ns first r h = kind-among (kindOfStmt r) _ _ _ (and-both (inOrder (spanOfStmt r)) _ h .1)
+
+-- by the kind of a statement
+pub by-stmt-kind : {C : Type 0} (k : ℕ) → (1 ≤ k) × (k ≤ 3) → (k ≡ 1 → C) → (k ≡ 2 → C) → (k ≡ 3 → C) → C
+by-stmt-kind zero h a b c = absurd (omega (arith, h .0))
+by-stmt-kind (suc zero) h a b c = a refl
+by-stmt-kind (suc (suc zero)) h a b c = b refl
+by-stmt-kind (suc (suc (suc zero))) h a b c = c refl
+by-stmt-kind (suc (suc (suc (suc k)))) h a b c = absurd (omega (arith, h .1))
+
+-- of an open file
+pub stmt-is : (f : List ℕ) (s : Sections) → Open f s → (q : ℕ) → q < s .counts .stmts → StmtIs f s q
+stmt-is f s o q h =
+    let t = contentsIn f s in
+    let names = s .counts .names in
+    let count = s .counts .nodes in
+    let r = getD (t .stmts) q [] in
+    let (first, fits) = stmt-fits names count (t .nodes) (t .stmts) 0 (passes f s o .stmts) q (omega (arith, long f s o .stmts)) in
+    let ks = stmt-kinds names count (t .nodes) first r fits in
+    record {
+      kinds = ks;
+      right =
+          by-stmt-kind (kindOfStmt r) ks
+          (λ k. let a = top-is names count (t .nodes) _ _ (equation-tops names count (t .nodes) first r fits k .1) in (a .0, a .1))
+          (λ k. let a = top-is names count (t .nodes) _ _ (rate-top names count (t .nodes) first r fits k .1) in (a .0, a .1))
+          (λ k. let a = top-is names count (t .nodes) _ _ (submodel-top names count (t .nodes) first r fits k .0) in (a .0, a .1));
+      left = λ k. let a = top-is names count (t .nodes) _ _ (equation-tops names count (t .nodes) first r fits k .0) in (a .0, a .1);
+      rate-name = λ k. ltb-true _ _ (rate-top names count (t .nodes) first r fits k .0);
+      call = λ k. submodel-top names count (t .nodes) first r fits k .1;
+    }
+
+-- ---- the arguments of a call
+
+module _ (f : List ℕ) (s : Sections) (o : Open f s) where
+  -- the arguments of a call keep the layout
+  pub call-args : (i : ℕ) → i < s .counts .nodes → kindAt (contentsIn f s .nodes) i ≡ 5
+      → argsFit (contentsIn f s .nodes) i (opAt (contentsIn f s .nodes) i) (sizeAt (contentsIn f s .nodes) i - 1) ≡ true
+  call-args i l k = node-ok _ _ _ (passes f s o .nodes) i l .call k
+
+  module _ (end c total : ℕ) (l : end ≤ s .counts .nodes) (x : argsFit (contentsIn f s .nodes) end c total ≡ true) (h : 0 < c) where
+    -- the last of them
+    pub arg-here : LastArg (contentsIn f s .nodes) end c total
+    arg-here = last-arg _ _ _ (passes f s o .nodes) end c total l x (λ e. omega arith)

@@ -1,0 +1,59 @@
+use mathlib.Core.Path.{_≡_, refl, sym, ap, _∙_}
+use Prim.Native.Nat.{ℕ, _-_, _≤_}
+use native.Mathlib.Omega.{arith}
+use borrow.Author.Tests.{eq-eqb, ne-eqb}
+use lib.Dec.{eqb}
+use lib.ListN.{drop}
+use Rattle.functions.specs.Lists.{place, placeFrom, plusOne}
+use Rattle.ast.specs.Opens.{fileIn}
+use Rattle.builder.specs.Flatten.{modelNamed}
+use Rattle.builder.proofs.Finding.{find-yes, find-no, find-end, isNamed, named-test}
+use Rattle.builder.proofs.models.find_model.Statement.{statement}
+use Rattle.builder.proofs.models.find_model.Tie as tie
+
+abbrev Inv-loop : tie.InvT-loop
+Inv-loop f s name m₀ m = (m ≤ s .counts .models) × (modelNamed (fileIn f s) name ≡ placeFrom m (isNamed f s name) (drop m (fileIn f s .models)))
+
+abbrev μ-loop : tie.MeasureT-loop
+μ-loop f s name m₀ m = s .counts .models - m
+
+loop-holds : tie.Need-loop-holds Inv-loop μ-loop
+unfolding modelNamed place
+loop-holds c = (omega arith, refl)
+
+model-requires : tie.Need-model-requires Inv-loop μ-loop
+model-requires c κs = (c .before .before .before .before .pre, (omega arith, omega arith))
+
+add-result : tie.Need-add-result Inv-loop μ-loop
+add-result c = omega (arith, c .before .before .before .before .before .before .pre .laid .within .models)
+
+returns : tie.Need-returns Inv-loop μ-loop
+returns c = sym (ap plusOne (c .before .before .before .before .loop .inv .1) ∙ find-yes (c .before .before .before .before .before .before .args .f .now) (c .before .before .before .before .before .before .args .s) (isNamed (c .before .before .before .before .before .before .args .f .now) (c .before .before .before .before .before .before .args .s) _) (c .before .before .before .before .loop .m) (omega arith) (named-test (c .before .before .before .before .before .before .args .f .now) (c .before .before .before .before .before .before .args .s) (c .before .before .before .before .before .before .args .name) (c .before .before .before .before .loop .m) (omega arith) ∙ ap (λ (k : ℕ). eqb (c .before .before .before .before .before .before .args .name) k) (sym (c .before .model .ensures .0)) ∙ eq-eqb _ _ (c .if2 .taken)))
+
+add-m : tie.Need-add-m Inv-loop μ-loop
+add-m c = omega (arith, c .before .before .before .before .before .before .pre .laid .within .models)
+
+loop-less : tie.Need-loop-less Inv-loop μ-loop
+loop-less c = omega arith
+
+loop-again : tie.Need-loop-again Inv-loop μ-loop
+loop-again c = (omega arith, c .before .before .before .before .loop .inv .1 ∙ find-no (c .before .before .before .before .before .before .args .f .now) (c .before .before .before .before .before .before .args .s) (isNamed (c .before .before .before .before .before .before .args .f .now) (c .before .before .before .before .before .before .args .s) _) (c .before .before .before .before .loop .m) (omega arith) (named-test (c .before .before .before .before .before .before .args .f .now) (c .before .before .before .before .before .before .args .s) (c .before .before .before .before .before .before .args .name) (c .before .before .before .before .loop .m) (omega arith) ∙ ap (λ (k : ℕ). eqb (c .before .before .before .before .before .before .args .name) k) (sym (c .before .model .ensures .0)) ∙ ne-eqb _ _ (c .if2 .left)))
+
+returns-2 : tie.Need-returns-2 Inv-loop μ-loop
+unfolding plusOne
+returns-2 c = sym (ap plusOne (c .before .before .loop .inv .1 ∙ find-end (c .before .before .before .before .args .f .now) (c .before .before .before .before .args .s) (isNamed (c .before .before .before .before .args .f .now) (c .before .before .before .before .args .s) _) (c .before .before .loop .m) (omega arith)))
+
+pub find-model-spec : {M : Type 1} → statement M
+find-model-spec =
+    tie.close
+    (tie.spec
+    Inv-loop
+    μ-loop
+    loop-holds
+    model-requires
+    add-result
+    returns
+    add-m
+    loop-less
+    loop-again
+    returns-2)

@@ -1,0 +1,68 @@
+use mathlib.Core.Path.{_≡_, refl, sym, ap, _∙_}
+use Prim.Native.Nat.{_-_, _≤_}
+use native.Mathlib.Omega.{arith}
+use borrow.Author.Needs.{needs}
+use lib.ListN.{drop}
+use Rattle.functions.specs.Lists.{sameText, place, placeFrom, plusOne}
+use Rattle.ast.specs.Opens.{fileIn}
+use Rattle.builder.specs.Names.{textOf}
+use Rattle.builder.specs.Build.{rootOf}
+use Rattle.builder.proofs.Open.{model-name}
+use Rattle.builder.proofs.Finding.{find-yes, find-no, find-end, isRoot, root-test}
+use Rattle.builder.proofs.models.find_root.Statement.{statement}
+use Rattle.builder.proofs.models.find_root.Tie as tie
+
+abbrev Inv-loop : tie.InvT-loop
+Inv-loop f s root m₀ m = (m ≤ s .counts .models) × (rootOf (fileIn f s) root ≡ placeFrom m (isRoot f s root) (drop m (fileIn f s .models)))
+
+abbrev μ-loop : tie.MeasureT-loop
+μ-loop f s root m₀ m = s .counts .models - m
+
+loop-holds : tie.Need-loop-holds Inv-loop μ-loop
+unfolding rootOf place
+loop-holds c = (omega arith, refl)
+
+model-requires : tie.Need-model-requires Inv-loop μ-loop
+model-requires c κs = (c .before .before .before .before .before .pre, (omega arith, omega arith))
+
+name-text-requires : tie.Need-name-text-requires Inv-loop μ-loop
+name-text-requires c κs = let n = model-name (c .before .before .before .before .before .before .args .f .now) (c .before .before .before .before .before .before .args .s) (c .before .before .before .before .before .before .pre) (c .before .before .before .loop .m) (omega arith) in (c .before .before .before .before .before .before .pre, omega (arith, c .model .ensures .0))
+
+same-bytes-requires : tie.Need-same-bytes-requires Inv-loop μ-loop
+same-bytes-requires c κs = search needs
+
+add-result : tie.Need-add-result Inv-loop μ-loop
+add-result c = omega (arith, c .before .before .before .before .before .before .before .before .before .pre .laid .within .models)
+
+returns : tie.Need-returns Inv-loop μ-loop
+returns c = sym (ap plusOne (c .before .before .before .before .before .before .loop .inv .1) ∙ find-yes (c .before .before .before .before .before .before .before .before .before .args .f .now) (c .before .before .before .before .before .before .before .before .before .args .s) (isRoot (c .before .before .before .before .before .before .before .before .before .args .f .now) (c .before .before .before .before .before .before .before .before .before .args .s) _) (c .before .before .before .before .before .before .loop .m) (omega arith) (root-test (c .before .before .before .before .before .before .before .before .before .args .f .now) (c .before .before .before .before .before .before .before .before .before .args .s) (c .before .before .before .before .before .before .before .before .before .args .root .now) (c .before .before .before .before .before .before .loop .m) (omega arith) ∙ ap (sameText (c .before .before .before .before .before .before .before .before .before .args .root .now)) (ap (textOf (fileIn (c .before .before .before .before .before .before .before .before .before .args .f .now) (c .before .before .before .before .before .before .before .before .before .args .s) .names)) (sym (c .before .before .before .model .ensures .0)) ∙ sym (c .before .before .name-text .ensures)) ∙ sym (c .before .same-bytes .ensures) ∙ c .if2 .taken))
+
+add-m : tie.Need-add-m Inv-loop μ-loop
+add-m c = omega (arith, c .before .before .before .before .before .before .before .before .before .pre .laid .within .models)
+
+loop-less : tie.Need-loop-less Inv-loop μ-loop
+loop-less c = omega arith
+
+loop-again : tie.Need-loop-again Inv-loop μ-loop
+loop-again c = (omega arith, c .before .before .before .before .before .before .loop .inv .1 ∙ find-no (c .before .before .before .before .before .before .before .before .before .args .f .now) (c .before .before .before .before .before .before .before .before .before .args .s) (isRoot (c .before .before .before .before .before .before .before .before .before .args .f .now) (c .before .before .before .before .before .before .before .before .before .args .s) _) (c .before .before .before .before .before .before .loop .m) (omega arith) (root-test (c .before .before .before .before .before .before .before .before .before .args .f .now) (c .before .before .before .before .before .before .before .before .before .args .s) (c .before .before .before .before .before .before .before .before .before .args .root .now) (c .before .before .before .before .before .before .loop .m) (omega arith) ∙ ap (sameText (c .before .before .before .before .before .before .before .before .before .args .root .now)) (ap (textOf (fileIn (c .before .before .before .before .before .before .before .before .before .args .f .now) (c .before .before .before .before .before .before .before .before .before .args .s) .names)) (sym (c .before .before .before .model .ensures .0)) ∙ sym (c .before .before .name-text .ensures)) ∙ sym (c .before .same-bytes .ensures) ∙ c .if2 .left))
+
+returns-2 : tie.Need-returns-2 Inv-loop μ-loop
+unfolding plusOne
+returns-2 c = sym (ap plusOne (c .before .before .loop .inv .1 ∙ find-end (c .before .before .before .before .before .args .f .now) (c .before .before .before .before .before .args .s) (isRoot (c .before .before .before .before .before .args .f .now) (c .before .before .before .before .before .args .s) _) (c .before .before .loop .m) (omega arith)))
+
+pub find-root-spec : {M : Type 1} → statement M
+find-root-spec =
+    tie.close
+    (tie.spec
+    Inv-loop
+    μ-loop
+    loop-holds
+    model-requires
+    name-text-requires
+    same-bytes-requires
+    add-result
+    returns
+    add-m
+    loop-less
+    loop-again
+    returns-2)

@@ -1,0 +1,54 @@
+use mathlib.Core.Path.{_≡_, refl, sym, _∙_}
+use Prim.Native.Nat.{_-_, _≤_}
+use native.Mathlib.Omega.{arith}
+use lib.ListN.{drop}
+use Rattle.builder.specs.Tables.{deciding, classFrom, classOf}
+use Rattle.builder.proofs.Classes.{class-here, class-end}
+use Rattle.builder.proofs.names.class_of.Statement.{statement}
+use Rattle.builder.proofs.names.class_of.Tie as tie
+
+abbrev Inv-loop : tie.InvT-loop
+Inv-loop name i₀ i = (i ≤ 18) × (classOf name ≡ classFrom i (drop i deciding) name)
+
+abbrev μ-loop : tie.MeasureT-loop
+μ-loop name i₀ i = 18 - i
+
+loop-holds : tie.Need-loop-holds Inv-loop μ-loop
+unfolding classOf
+loop-holds c = (omega arith, refl)
+
+is-text-requires : tie.Need-is-text-requires Inv-loop μ-loop
+is-text-requires c κs = c .loop-test .taken
+
+cast-result : tie.Need-cast-result Inv-loop μ-loop
+cast-result c = omega arith
+
+returns : tie.Need-returns Inv-loop μ-loop
+returns c = sym (c .before .before .before .loop .inv .1 ∙ class-here (c .before .before .before .before .before .args .name .now) (c .before .before .before .loop .i) (c .before .before .loop-test .taken) ∙ rw (sym (c .before .is-text .ensures) ∙ c .if1 .taken))
+
+add-i : tie.Need-add-i Inv-loop μ-loop
+add-i c = omega arith
+
+loop-less : tie.Need-loop-less Inv-loop μ-loop
+loop-less c = omega arith
+
+loop-again : tie.Need-loop-again Inv-loop μ-loop
+loop-again c = (omega arith, c .before .before .before .loop .inv .1 ∙ class-here (c .before .before .before .before .before .args .name .now) (c .before .before .before .loop .i) (c .before .before .loop-test .taken) ∙ rw (sym (c .before .is-text .ensures) ∙ c .if1 .left))
+
+returns-2 : tie.Need-returns-2 Inv-loop μ-loop
+returns-2 c = let z : c .before .loop .i ≡ 18 = omega arith in sym (c .before .loop .inv .1 ∙ class-end (c .before .before .before .args .name .now) (c .before .loop .i) (c .loop-test .left) ∙ z)
+
+pub class-of-spec : {M : Type 1} → statement M
+class-of-spec =
+    tie.close
+    (tie.spec
+    Inv-loop
+    μ-loop
+    loop-holds
+    is-text-requires
+    cast-result
+    returns
+    add-i
+    loop-less
+    loop-again
+    returns-2)

@@ -1,0 +1,56 @@
+use mathlib.Core.Path.{refl, ap, _∙_}
+use Prim.Native.Nat.{_-_, _≤_}
+use native.Mathlib.Omega.{arith}
+use borrow.Author.Needs.{needs}
+use Rattle.ast.specs.Opens.{fileIn}
+use Rattle.builder.specs.Names.{textOf}
+use Rattle.builder.proofs.Filled.{Filled, filled-none, filled-more}
+use Rattle.builder.proofs.Open.{names-long}
+use Rattle.builder.specs.Tables.{classOf}
+use Rattle.builder.proofs.names.classes.Statement.{statement}
+use Rattle.builder.proofs.names.classes.Tie as tie
+
+abbrev Inv-loop : tie.InvT-loop
+Inv-loop f s out₀ n₀ out n = (n ≤ s .counts .names) × Filled 256 (λ k. classOf (textOf (fileIn f s .names) k)) n out
+
+abbrev μ-loop : tie.MeasureT-loop
+μ-loop f s out₀ n₀ out n = s .counts .names - n
+
+loop-holds : tie.Need-loop-holds Inv-loop μ-loop
+loop-holds c = (omega arith, filled-none 256 _ _ refl)
+
+name-text-requires : tie.Need-name-text-requires Inv-loop μ-loop
+name-text-requires c κs = (c .before .before .before .before .pre, omega arith)
+
+class-of-requires : tie.Need-class-of-requires Inv-loop μ-loop
+class-of-requires c κs = search needs
+
+array-write-out : tie.Need-array-write-out Inv-loop μ-loop
+array-write-out c = omega (arith, c .before .before .before .before .before .before .pre .laid .within .names, c .before .before .before .before .loop .inv .1 .long)
+
+add-n : tie.Need-add-n Inv-loop μ-loop
+add-n c = omega (arith, c .before .before .before .before .before .before .pre .laid .within .names)
+
+loop-less : tie.Need-loop-less Inv-loop μ-loop
+loop-less c = omega arith
+
+loop-again : tie.Need-loop-again Inv-loop μ-loop
+loop-again c = (omega arith, filled-more 256 _ (c .before .before .before .before .loop .n) _ _ (omega (arith, c .before .before .before .before .before .before .pre .laid .within .names)) (c .class-of .ensures ∙ ap classOf (c .before .name-text .ensures)) (c .before .before .before .before .loop .inv .1))
+
+returns : tie.Need-returns Inv-loop μ-loop
+returns c = record { class = λ k h. c .before .before .loop .inv .1 .entry k (omega (arith, names-long (c .before .before .before .before .args .f .now) (c .before .before .before .before .args .s))) }
+
+pub classes-spec : {M : Type 1} → statement M
+classes-spec =
+    tie.close
+    (tie.spec
+    Inv-loop
+    μ-loop
+    loop-holds
+    name-text-requires
+    class-of-requires
+    array-write-out
+    add-n
+    loop-less
+    loop-again
+    returns)

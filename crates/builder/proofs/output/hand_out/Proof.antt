@@ -1,0 +1,57 @@
+use mathlib.Core.Path.{sym, ap, _∙_}
+use lib.ListN.{length}
+use Rattle.builder.specs.Build.{told, resultArea}
+use Rattle.builder.proofs.Outputs.{handed, not-handed}
+use borrow.Author.Needs.{needs}
+use Rattle.builder.proofs.output.hand_out.Statement.{statement}
+use Rattle.builder.proofs.output.hand_out.Tie as tie
+use Rattle.builder.proofs.output.hand_out.Reads as reads
+use Rattle.builder.proofs.output.hand_out.Lts as lts
+use Rattle.builder.proofs.output.clear.Reads as clear-reads
+use Rattle.builder.proofs.output.copy.Reads as copy-reads
+use Rattle.builder.proofs.output.refuse.Reads as refuse-reads
+
+-- src/output.rt:47:9
+refuse-requires : tie.Need-refuse-requires
+refuse-requires c κs = search needs
+
+-- src/output.rt:47:9
+same-length : tie.Need-same-length
+same-length c = search needs
+
+-- src/output.rt:47:9
+returns : tie.Need-returns
+returns c = let e = not-handed (c .before .before .before .before .before .before .before .args .own .now) (c .before .before .before .before .before .before .before .args .area .now) (c .before .before .before .before .before .before .before .args .area .now) (c .before .before .before .before .before .before .before .args .area .now) (c .before .before .before .before .before .before .before .args .used) (c .before .before .before .before .before .before .before .pre .0) (c .before .before .before .before .if1 .taken) in (c .before .before .refuse .ensures .0 ∙ ap told (sym e), c .before .before .refuse .ensures .1 ∙ ap (resultArea (length (c .before .before .before .before .before .before .before .args .area .now))) (sym e))
+
+-- src/output.rt:49:5
+copy-requires : tie.Need-copy-requires
+copy-requires c κs = search needs
+
+-- src/output.rt:50:5
+clear-requires : tie.Need-clear-requires
+clear-requires c κs = search needs
+
+-- src/output.rt:51:5
+mul-result : tie.Need-mul-result
+mul-result c = search needs
+
+-- src/output.rt:42:1
+same-length-2 : tie.Need-same-length-2
+same-length-2 c = search needs
+
+-- src/output.rt:42:1
+returns-2 : tie.Need-returns-2
+returns-2 c = handed (c .before .before .before .before .before .before .before .before .before .before .before .args .own .now) (c .before .before .before .before .before .before .before .before .before .before .before .args .area .now) _ _ (c .before .before .before .before .before .before .before .before .before .before .before .args .used) (c .before .before .before .before .before .before .before .before .before .before .before .pre .0) (c .before .before .before .before .before .before .before .before .if1 .left) (c .before .before .before .before .before .before .copy .ensures) (c .before .before .before .before .before .before .copy .kept .1 .1 .0) (c .before .before .clear .ensures)
+
+pub hand-out-spec : {M : Type 1} → statement M
+hand-out-spec =
+    tie.close
+    (tie.spec
+    refuse-requires
+    same-length
+    returns
+    copy-requires
+    clear-requires
+    mul-result
+    same-length-2
+    returns-2)

@@ -1,0 +1,72 @@
+use mathlib.Core.Path.{_≡_, sym, _∙_}
+use Prim.Native.Nat.{_-_, _≤_, ℕ}
+use native.Mathlib.Omega.{arith}
+use mathlib.Core.Bool.{true, or-true, or-false}
+use Rattle.ast.specs.Nodes.{opAt, sizeAt, argsFit, argsBefore}
+use Rattle.ast.specs.Opens.{contentsIn}
+use Rattle.builder.specs.Flatten as flatten
+use Rattle.builder.proofs.OpenRecords.{call-args, arg-here}
+use Rattle.builder.proofs.Refusals.{beyond-here, beyond-done}
+use Rattle.builder.proofs.reached.beyond.Statement.{statement}
+use Rattle.builder.proofs.reached.beyond.Tie as tie
+
+abbrev Inv-loop : tie.InvT-loop
+Inv-loop f s call n end₀ left₀ end left = (total : ℕ) × (end ≤ s .counts .nodes) × (argsFit (contentsIn f s .nodes) end left total ≡ true) × (flatten.argsBeyond n (argsBefore (contentsIn f s .nodes) call (opAt (contentsIn f s .nodes) call) (sizeAt (contentsIn f s .nodes) call - 1)) ≡ flatten.argsBeyond n (argsBefore (contentsIn f s .nodes) end left total))
+
+abbrev μ-loop : tie.MeasureT-loop
+μ-loop f s call n end₀ left₀ end left = left
+
+node-requires : tie.Need-node-requires Inv-loop μ-loop
+node-requires c κs = (c .before .pre .0, (c .before .pre .1, omega arith))
+
+loop-holds : tie.Need-loop-holds Inv-loop μ-loop
+loop-holds c = (sizeAt (contentsIn (c .before .before .args .f .now) (c .before .before .args .s) .nodes) (c .before .before .args .call) - 1, omega (arith, c .before .before .pre .1), rw (c .node .ensures .0) (call-args (c .before .before .args .f .now) (c .before .before .args .s) (c .before .before .pre .0) (c .before .before .args .call) (c .before .before .pre .1) (c .before .before .pre .2)), rw (c .node .ensures .0))
+
+sub-left : tie.Need-sub-left Inv-loop μ-loop
+sub-left c = omega arith
+
+sub-node : tie.Need-sub-node Inv-loop μ-loop
+sub-node c = let a = arg-here (c .before .before .before .before .args .f .now) (c .before .before .before .before .args .s) (c .before .before .before .before .pre .0) (c .before .loop .end) (c .before .loop .left) (c .before .loop .inv .0) (c .before .loop .inv .1) (c .before .loop .inv .2) (c .loop-test .taken) in omega (arith, a .two)
+
+node-requires-2 : tie.Need-node-requires-2 Inv-loop μ-loop
+node-requires-2 c κs = let a = arg-here (c .before .before .before .before .args .f .now) (c .before .before .before .before .args .s) (c .before .before .before .before .pre .0) (c .before .loop .end) (c .before .loop .left) (c .before .loop .inv .0) (c .before .loop .inv .1) (c .before .loop .inv .2) (c .loop-test .taken) in (c .before .before .before .before .pre .0, (omega (arith, a .two, c .before .loop .inv .1), omega arith))
+
+returns : tie.Need-returns Inv-loop μ-loop
+returns c = sym (c .before .before .before .loop .inv .3 ∙ beyond-here (c .before .before .before .before .before .before .args .f .now) (c .before .before .before .before .before .before .args .s) (c .before .before .before .before .before .before .pre .0) (c .before .before .before .loop .end) (c .before .before .before .loop .left) (c .before .before .before .loop .inv .0) (c .before .before .before .loop .inv .1) (c .before .before .before .loop .inv .2) (c .before .before .loop-test .taken) (c .before .before .before .before .before .before .args .n) ∙ rw (← c .before .node2 .ensures .0, c .if1 .taken, or-true))
+
+sub-node-2 : tie.Need-sub-node-2 Inv-loop μ-loop
+sub-node-2 c = let a = arg-here (c .before .before .before .before .before .before .args .f .now) (c .before .before .before .before .before .before .args .s) (c .before .before .before .before .before .before .pre .0) (c .before .before .before .loop .end) (c .before .before .before .loop .left) (c .before .before .before .loop .inv .0) (c .before .before .before .loop .inv .1) (c .before .before .before .loop .inv .2) (c .before .before .loop-test .taken) in omega (arith, a .two)
+
+node-requires-3 : tie.Need-node-requires-3 Inv-loop μ-loop
+node-requires-3 c κs = let a = arg-here (c .before .before .before .before .before .before .args .f .now) (c .before .before .before .before .before .before .args .s) (c .before .before .before .before .before .before .pre .0) (c .before .before .before .loop .end) (c .before .before .before .loop .left) (c .before .before .before .loop .inv .0) (c .before .before .before .loop .inv .1) (c .before .before .before .loop .inv .2) (c .before .before .loop-test .taken) in (c .before .before .before .before .before .before .pre .0, (omega (arith, a .two, c .before .before .before .loop .inv .1), omega arith))
+
+sub-end : tie.Need-sub-end Inv-loop μ-loop
+sub-end c = let a = arg-here (c .before .before .before .before .before .before .before .args .f .now) (c .before .before .before .before .before .before .before .args .s) (c .before .before .before .before .before .before .before .pre .0) (c .before .before .before .before .loop .end) (c .before .before .before .before .loop .left) (c .before .before .before .before .loop .inv .0) (c .before .before .before .before .loop .inv .1) (c .before .before .before .before .loop .inv .2) (c .before .before .before .loop-test .taken) in omega (arith, a .within, c .node3 .ensures .0)
+
+loop-less : tie.Need-loop-less Inv-loop μ-loop
+loop-less c = omega (arith, c .before .before .before .loop-test .taken)
+
+loop-again : tie.Need-loop-again Inv-loop μ-loop
+loop-again c = let a = arg-here (c .before .before .before .before .before .before .before .args .f .now) (c .before .before .before .before .before .before .before .args .s) (c .before .before .before .before .before .before .before .pre .0) (c .before .before .before .before .loop .end) (c .before .before .before .before .loop .left) (c .before .before .before .before .loop .inv .0) (c .before .before .before .before .loop .inv .1) (c .before .before .before .before .loop .inv .2) (c .before .before .before .loop-test .taken) in (c .before .before .before .before .loop .inv .0 - sizeAt (contentsIn (c .before .before .before .before .before .before .before .args .f .now) (c .before .before .before .before .before .before .before .args .s) .nodes) (c .before .before .before .before .loop .end - 1), omega (arith, c .before .before .before .before .loop .inv .1), rw (c .node3 .ensures .0) (a .rest), c .before .before .before .before .loop .inv .3 ∙ beyond-here (c .before .before .before .before .before .before .before .args .f .now) (c .before .before .before .before .before .before .before .args .s) (c .before .before .before .before .before .before .before .pre .0) (c .before .before .before .before .loop .end) (c .before .before .before .before .loop .left) (c .before .before .before .before .loop .inv .0) (c .before .before .before .before .loop .inv .1) (c .before .before .before .before .loop .inv .2) (c .before .before .before .loop-test .taken) (c .before .before .before .before .before .before .before .args .n) ∙ rw (← c .before .before .node2 .ensures .0, ← c .node3 .ensures .0, c .before .if1 .left) (or-false _))
+
+returns-2 : tie.Need-returns-2 Inv-loop μ-loop
+returns-2 c = sym (c .before .loop .inv .3 ∙ beyond-done _ _ _ (c .before .loop .left) _ (c .loop-test .left))
+
+pub beyond-spec : {M : Type 1} → statement M
+beyond-spec =
+    tie.close
+    (tie.spec
+    Inv-loop
+    μ-loop
+    node-requires
+    loop-holds
+    sub-left
+    sub-node
+    node-requires-2
+    returns
+    sub-node-2
+    node-requires-3
+    sub-end
+    loop-less
+    loop-again
+    returns-2)

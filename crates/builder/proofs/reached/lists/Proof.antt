@@ -1,0 +1,57 @@
+use mathlib.Core.Path.{_≡_, refl, sym, _∙_}
+use Prim.Native.Nat.{_-_, _≤_}
+use native.Mathlib.Omega.{arith}
+use lib.Dec.{eqb}
+use lib.ListN.{take, drop}
+use borrow.Author.Tests.{eq-eqb, ne-eqb}
+use Rattle.functions.specs.Lists.{any, member}
+use Rattle.ast.specs.Opens.{contentsIn}
+use Rattle.builder.proofs.Runs.{member-turn, member-done}
+use Rattle.builder.proofs.reached.lists.Statement.{statement}
+use Rattle.builder.proofs.reached.lists.Tie as tie
+
+abbrev Inv-loop : tie.InvT-loop
+Inv-loop f s first count name i₀ i = (i ≤ count) × (member name (take count (drop first (contentsIn f s .deps))) ≡ any (eqb name) (drop i (take count (drop first (contentsIn f s .deps)))))
+
+abbrev μ-loop : tie.MeasureT-loop
+μ-loop f s first count name i₀ i = count - i
+
+loop-holds : tie.Need-loop-holds Inv-loop μ-loop
+unfolding member
+loop-holds c = (omega arith, refl)
+
+add-dep : tie.Need-add-dep Inv-loop μ-loop
+add-dep c = omega (arith, c .before .before .before .pre .1, c .before .before .before .pre .0 .laid .within .deps)
+
+dep-requires : tie.Need-dep-requires Inv-loop μ-loop
+dep-requires c κs = (c .before .before .before .pre .0, omega (arith, c .before .before .before .pre .1))
+
+returns : tie.Need-returns Inv-loop μ-loop
+returns c = sym (c .before .before .before .loop .inv .1 ∙ member-turn (c .before .before .before .before .before .args .f .now) (c .before .before .before .before .before .args .s) (c .before .before .before .before .before .pre .0) (c .before .before .before .before .before .args .first) (c .before .before .before .before .before .args .count) (c .before .before .before .loop .i) (c .before .before .before .before .before .pre .1) (c .before .before .before .before .before .args .name) (c .before .before .loop-test .taken) ∙ rw (eq-eqb _ _ (sym (c .if1 .taken) ∙ c .before .dep .ensures)))
+
+add-i : tie.Need-add-i Inv-loop μ-loop
+add-i c = omega arith
+
+loop-less : tie.Need-loop-less Inv-loop μ-loop
+loop-less c = omega arith
+
+loop-again : tie.Need-loop-again Inv-loop μ-loop
+loop-again c = (omega arith, c .before .before .before .loop .inv .1 ∙ member-turn (c .before .before .before .before .before .args .f .now) (c .before .before .before .before .before .args .s) (c .before .before .before .before .before .pre .0) (c .before .before .before .before .before .args .first) (c .before .before .before .before .before .args .count) (c .before .before .before .loop .i) (c .before .before .before .before .before .pre .1) (c .before .before .before .before .before .args .name) (c .before .before .loop-test .taken) ∙ rw (ne-eqb _ _ (λ z. c .if1 .left (c .before .dep .ensures ∙ sym z))))
+
+returns-2 : tie.Need-returns-2 Inv-loop μ-loop
+returns-2 c = sym (c .before .loop .inv .1 ∙ member-done (c .before .before .before .args .f .now) (c .before .before .before .args .s) (c .before .before .before .pre .0) (c .before .before .before .args .first) (c .before .before .before .args .count) (c .before .loop .i) (c .before .before .before .pre .1) (c .before .before .before .args .name) (c .loop-test .left))
+
+pub lists-spec : {M : Type 1} → statement M
+lists-spec =
+    tie.close
+    (tie.spec
+    Inv-loop
+    μ-loop
+    loop-holds
+    add-dep
+    dep-requires
+    returns
+    add-i
+    loop-less
+    loop-again
+    returns-2)

@@ -1,0 +1,14 @@
+use Rattle.functions.specs.Lists.{flag}
+use Rattle.builder.proofs.reached.one_if.Statement.{statement}
+use Rattle.builder.proofs.reached.one_if.Tie as tie
+
+returns : tie.Need-returns
+unfolding flag
+returns c = rw (c .if1 .taken)
+
+returns-2 : tie.Need-returns-2
+unfolding flag
+returns-2 c = rw (c .if1 .left)
+
+pub one-if-spec : {M : Type 1} → statement M
+one-if-spec = tie.close (tie.spec returns returns-2)

@@ -1,0 +1,153 @@
+-- `instances` and `stmt_instances` meet their contracts. The loop's invariant: the total is that of the statements passed, at most the most. The measure goes by the depth.
+use mathlib.Core.Path.{_≡_, sym, ap, _∙_}
+use Prim.Native.Nat.{ℕ, _+_, _-_, _*_, _≤_, _<_}
+use native.Mathlib.Omega.{arith}
+use lib.ListN.{take}
+use borrow.Fn.Kinds.{In}
+use borrow.Fn.PlainCycle.{Measures, is, falls, and}
+use Rattle.functions.specs.Lists.{sumOf}
+use Rattle.ast.specs.Opens.{fileIn}
+use Rattle.ast.specs.Rows.{atMost}
+use Rattle.ast.proofs.Capped.{at-most-le, at-most-zero, at-most-none, at-most-one}
+use Rattle.ast.proofs.records.model.Reads as model-reads
+use Rattle.builder.specs.Flatten.{modelAt}
+use Rattle.builder.proofs.OpenFile.{stmtIn, models-count, stmts-within}
+use Rattle.builder.proofs.Amounts.{calledInstances, at-most-add, sum-none, callee-within, called-none, called-one, instances-zero, instances-more, run-next, run-end}
+use Rattle.builder.proofs.sizes.+instances+stmt_instances.{statement}
+use Rattle.builder.proofs.sizes.+instances+stmt_instances.Tie.{close}
+use Rattle.builder.proofs.sizes.instances.Reads as instances
+use Rattle.builder.proofs.sizes.instances.Kinds as instances-kinds
+use Rattle.builder.proofs.sizes.+instances+stmt_instances.Lts-instances as instances-lts
+use Rattle.builder.proofs.sizes.stmt_instances.Reads as stmt-instances
+use Rattle.builder.proofs.sizes.stmt_instances.Kinds as stmt-instances-kinds
+use Rattle.builder.proofs.sizes.+instances+stmt_instances.Lts-stmt_instances as stmt-instances-lts
+
+abbrev μ-instances : Measures 2 instances-kinds.ps ℕ
+μ-instances κs a = 2 * a .1 .1 .1 .0
+
+abbrev μ-stmt-instances : Measures 2 stmt-instances-kinds.ps ℕ
+μ-stmt-instances κs a = 2 * a .1 .1 .1 .0 + 1
+
+abbrev instances-at : ℕ → In 2 instances-kinds.ps
+instances-at t = and 2 instances-kinds.ps (is 2 instances-kinds.ps μ-instances t) instances.Pre
+
+abbrev instances-below : ℕ → In 2 instances-kinds.ps
+instances-below t =
+    and 2 instances-kinds.ps (falls 2 instances-kinds.ps _<_ μ-instances t) instances.Pre
+
+abbrev stmt-instances-at : ℕ → In 2 stmt-instances-kinds.ps
+stmt-instances-at t =
+    and
+    2
+    stmt-instances-kinds.ps
+    (is 2 stmt-instances-kinds.ps μ-stmt-instances t)
+    stmt-instances.Pre
+
+abbrev stmt-instances-below : ℕ → In 2 stmt-instances-kinds.ps
+stmt-instances-below t =
+    and
+    2
+    stmt-instances-kinds.ps
+    (falls 2 stmt-instances-kinds.ps _<_ μ-stmt-instances t)
+    stmt-instances.Pre
+
+abbrev instances-Inv-loop : instances-lts.InvT-loop
+instances-Inv-loop f s calls k m most first count total₀ i₀ total i = (i ≤ count) × (total ≡ atMost most (1 + sumOf (calledInstances (fileIn f s) (k - 1)) (take i (modelAt (fileIn f s) m .stmts))))
+
+abbrev instances-μ-loop : instances-lts.MeasureT-loop
+instances-μ-loop f s calls k m most first count total₀ i₀ total i = count - i
+
+instances-returns : (t : ℕ) → instances-lts.Need-returns (model-reads.Asked, model-reads.Learnt, stmt-instances-below t, stmt-instances.Post) (instances-at t) instances.Post instances-Inv-loop instances-μ-loop
+instances-returns t c = at-most-none _ _ (instances-zero (fileIn (c .before .before .args .f .now) (c .before .before .args .s)) (c .before .before .args .k) (c .before .before .args .m) (c .if1 .taken))
+
+instances-returns-2 : (t : ℕ) → instances-lts.Need-returns-2 (model-reads.Asked, model-reads.Learnt, stmt-instances-below t, stmt-instances.Post) (instances-at t) instances.Post instances-Inv-loop instances-μ-loop
+instances-returns-2 t c = at-most-zero _ _ (c .if2 .taken)
+
+instances-model-requires : (t : ℕ) → instances-lts.Need-model-requires (model-reads.Asked, model-reads.Learnt, stmt-instances-below t, stmt-instances.Post) (instances-at t) instances.Post instances-Inv-loop instances-μ-loop
+instances-model-requires t c κs = let p = c .before .before .before .pre .1 in (p .0, (p .2, omega arith))
+
+instances-model-requires-2 : (t : ℕ) → instances-lts.Need-model-requires-2 (model-reads.Asked, model-reads.Learnt, stmt-instances-below t, stmt-instances.Post) (instances-at t) instances.Post instances-Inv-loop instances-μ-loop
+instances-model-requires-2 t c κs = let p = c .before .before .before .before .pre .1 in (p .0, (p .2, omega arith))
+
+instances-loop-holds : (t : ℕ) → instances-lts.Need-loop-holds (model-reads.Asked, model-reads.Learnt, stmt-instances-below t, stmt-instances.Post) (instances-at t) instances.Post instances-Inv-loop instances-μ-loop
+instances-loop-holds t c = (omega arith, at-most-one _ _ (c .before .before .if2 .left) (ap (λ (z : ℕ). 1 + z) (sum-none _ (modelAt (fileIn (c .before .before .before .before .before .args .f .now) (c .before .before .before .before .before .args .s)) (c .before .before .before .before .before .args .m) .stmts))))
+
+instances-sub-stmt-instances : (t : ℕ) → instances-lts.Need-sub-stmt-instances (model-reads.Asked, model-reads.Learnt, stmt-instances-below t, stmt-instances.Post) (instances-at t) instances.Post instances-Inv-loop instances-μ-loop
+instances-sub-stmt-instances t c = omega arith
+
+instances-add-stmt-instances : (t : ℕ) → instances-lts.Need-add-stmt-instances (model-reads.Asked, model-reads.Learnt, stmt-instances-below t, stmt-instances.Post) (instances-at t) instances.Post instances-Inv-loop instances-μ-loop
+instances-add-stmt-instances t c = let p = c .before .before .before .before .before .before .before .pre .1 in let w = stmts-within (c .before .before .before .before .before .before .before .args .f .now) (c .before .before .before .before .before .before .before .args .s) (p .0) (c .before .before .before .before .before .before .before .args .m) (p .2) in let e₁ = c .before .before .before .model .ensures .0 in let e₂ = c .before .before .model2 .ensures .0 in omega (arith, p .0 .laid .within .stmts)
+
+instances-sub-stmt-instances-2 : (t : ℕ) → instances-lts.Need-sub-stmt-instances-2 (model-reads.Asked, model-reads.Learnt, stmt-instances-below t, stmt-instances.Post) (instances-at t) instances.Post instances-Inv-loop instances-μ-loop
+instances-sub-stmt-instances-2 t c = let le = at-most-le _ _ _ (c .before .loop .inv .1) in omega arith
+
+instances-stmt-instances-requires : (t : ℕ) → instances-lts.Need-stmt-instances-requires (model-reads.Asked, model-reads.Learnt, stmt-instances-below t, stmt-instances.Post) (instances-at t) instances.Post instances-Inv-loop instances-μ-loop
+instances-stmt-instances-requires t c κs = let p = c .before .before .before .before .before .before .before .pre .1 in let w = stmts-within (c .before .before .before .before .before .before .before .args .f .now) (c .before .before .before .before .before .before .before .args .s) (p .0) (c .before .before .before .before .before .before .before .args .m) (p .2) in let e₁ = c .before .before .before .model .ensures .0 in let e₂ = c .before .before .model2 .ensures .0 in let le = at-most-le _ _ _ (c .before .loop .inv .1) in (omega arith, (p .0, p .1, omega arith, omega arith, omega arith))
+
+instances-add-total : (t : ℕ) → instances-lts.Need-add-total (model-reads.Asked, model-reads.Learnt, stmt-instances-below t, stmt-instances.Post) (instances-at t) instances.Post instances-Inv-loop instances-μ-loop
+instances-add-total t c = let le = at-most-le _ _ _ (c .before .before .loop .inv .1) in let g = at-most-le _ _ _ (c .stmt-instances .ensures) in let p = c .before .before .before .before .before .before .before .before .pre .1 in omega arith
+
+instances-add-i : (t : ℕ) → instances-lts.Need-add-i (model-reads.Asked, model-reads.Learnt, stmt-instances-below t, stmt-instances.Post) (instances-at t) instances.Post instances-Inv-loop instances-μ-loop
+instances-add-i t c = let p = c .before .before .before .before .before .before .before .before .pre .1 in let w = stmts-within (c .before .before .before .before .before .before .before .before .args .f .now) (c .before .before .before .before .before .before .before .before .args .s) (p .0) (c .before .before .before .before .before .before .before .before .args .m) (p .2) in let e₁ = c .before .before .before .before .model .ensures .0 in let e₂ = c .before .before .before .model2 .ensures .0 in omega (arith, p .0 .laid .within .stmts)
+
+instances-loop-less : (t : ℕ) → instances-lts.Need-loop-less (model-reads.Asked, model-reads.Learnt, stmt-instances-below t, stmt-instances.Post) (instances-at t) instances.Post instances-Inv-loop instances-μ-loop
+instances-loop-less t c = omega arith
+
+instances-loop-again : (t : ℕ) → instances-lts.Need-loop-again (model-reads.Asked, model-reads.Learnt, stmt-instances-below t, stmt-instances.Post) (instances-at t) instances.Post instances-Inv-loop instances-μ-loop
+instances-loop-again t c = let p = c .before .before .before .before .before .before .before .before .pre .1 in let e₁ = c .before .before .before .before .model .ensures .0 in let e₂ = c .before .before .before .model2 .ensures .0 in
+    let g = calledInstances (fileIn (c .before .before .before .before .before .before .before .before .args .f .now) (c .before .before .before .before .before .before .before .before .args .s)) (c .before .before .before .before .before .before .before .before .args .k - 1) in
+    let r = run-next (c .before .before .before .before .before .before .before .before .args .f .now) (c .before .before .before .before .before .before .before .before .args .s) (p .0) (c .before .before .before .before .before .before .before .before .args .m) (p .2) g (c .before .before .loop .i) (omega arith) in
+    let q = ap (λ (j : ℕ). g (stmtIn (c .before .before .before .before .before .before .before .before .args .f .now) (c .before .before .before .before .before .before .before .before .args .s) (j + c .before .before .loop .i))) e₁ in
+    (omega arith, at-most-add _ _ _ _ _ (c .before .before .loop .inv .1) (c .stmt-instances .ensures) ∙ ap (atMost (c .before .before .before .before .before .before .before .before .args .most)) (omega (arith, r, q)))
+
+instances-returns-3 : (t : ℕ) → instances-lts.Need-returns-3 (model-reads.Asked, model-reads.Learnt, stmt-instances-below t, stmt-instances.Post) (instances-at t) instances.Post instances-Inv-loop instances-μ-loop
+instances-returns-3 t c = let p = c .before .before .before .before .before .before .before .pre .1 in let e₂ = c .before .before .model2 .ensures .0 in c .before .loop .inv .1 ∙ ap (atMost (c .before .before .before .before .before .before .before .args .most)) (ap (λ (z : ℕ). 1 + z) (run-end (c .before .before .before .before .before .before .before .args .f .now) (c .before .before .before .before .before .before .before .args .s) (p .0) (c .before .before .before .before .before .before .before .args .m) (p .2) (calledInstances (fileIn (c .before .before .before .before .before .before .before .args .f .now) (c .before .before .before .before .before .before .before .args .s)) (c .before .before .before .before .before .before .before .args .k - 1)) (c .before .loop .i) (omega arith)) ∙ sym (instances-more (fileIn (c .before .before .before .before .before .before .before .args .f .now) (c .before .before .before .before .before .before .before .args .s)) (c .before .before .before .before .before .before .before .args .k) (c .before .before .before .before .before .before .before .args .m) (c .before .before .before .before .before .if1 .left)))
+
+stmt-instances-element-copy-out-c : (t : ℕ) → stmt-instances-lts.Need-element-copy-out-c (instances-below t, instances.Post) (stmt-instances-at t) stmt-instances.Post
+stmt-instances-element-copy-out-c t c = let p = c .before .pre .1 in omega (arith, p .0 .laid .within .stmts)
+
+stmt-instances-cast-c : (t : ℕ) → stmt-instances-lts.Need-cast-c (instances-below t, instances.Post) (stmt-instances-at t) stmt-instances.Post
+stmt-instances-cast-c t c = let p = c .before .before .pre .1 in let e = p .1 .callee (c .before .before .args .q) (p .2) in omega (arith, e, callee-within (fileIn (c .before .before .args .f .now) (c .before .before .args .s)) (stmtIn (c .before .before .args .f .now) (c .before .before .args .s) (c .before .before .args .q)), models-count (c .before .before .args .f .now) (c .before .before .args .s), p .0 .laid .within .models)
+
+stmt-instances-returns : (t : ℕ) → stmt-instances-lts.Need-returns (instances-below t, instances.Post) (stmt-instances-at t) stmt-instances.Post
+stmt-instances-returns t c = let p = c .before .before .before .pre .1 in let e = p .1 .callee (c .before .before .before .args .q) (p .2) in at-most-none _ _ (called-none (fileIn (c .before .before .before .args .f .now) (c .before .before .before .args .s)) (c .before .before .before .args .k) (stmtIn (c .before .before .before .args .f .now) (c .before .before .before .args .s) (c .before .before .before .args .q)) _ e (c .if1 .taken))
+
+stmt-instances-sub-instances : (t : ℕ) → stmt-instances-lts.Need-sub-instances (instances-below t, instances.Post) (stmt-instances-at t) stmt-instances.Post
+stmt-instances-sub-instances t c = omega arith
+
+stmt-instances-instances-requires : (t : ℕ) → stmt-instances-lts.Need-instances-requires (instances-below t, instances.Post) (stmt-instances-at t) stmt-instances.Post
+stmt-instances-instances-requires t c κs = let p = c .before .before .before .pre .1 in let e = p .1 .callee (c .before .before .before .args .q) (p .2) in let b = callee-within (fileIn (c .before .before .before .args .f .now) (c .before .before .before .args .s)) (stmtIn (c .before .before .before .args .f .now) (c .before .before .before .args .s) (c .before .before .before .args .q)) in (omega arith, (p .0, p .1, omega (arith, e, c .if1 .left, models-count (c .before .before .before .args .f .now) (c .before .before .before .args .s)), omega arith, omega arith))
+
+stmt-instances-returns-2 : (t : ℕ) → stmt-instances-lts.Need-returns-2 (instances-below t, instances.Post) (stmt-instances-at t) stmt-instances.Post
+stmt-instances-returns-2 t c = let p = c .before .before .before .before .pre .1 in let e = p .1 .callee (c .before .before .before .before .args .q) (p .2) in c .instances .ensures ∙ ap (atMost (c .before .before .before .before .args .most)) (sym (called-one (fileIn (c .before .before .before .before .args .f .now) (c .before .before .before .before .args .s)) (c .before .before .before .before .args .k) (stmtIn (c .before .before .before .before .args .f .now) (c .before .before .before .before .args .s) (c .before .before .before .before .args .q)) _ e (c .before .if1 .left)))
+
+pub +instances+stmt-instances-spec : {M : Type 1} → statement M
++instances+stmt-instances-spec = close μ-instances μ-stmt-instances (λ t. instances-lts.spec (model-reads.Asked, model-reads.Learnt, stmt-instances-below t, stmt-instances.Post)
+    (instances-at t)
+    instances.Post
+    instances-Inv-loop
+    instances-μ-loop
+    (instances-returns t)
+    (instances-returns-2 t)
+    (instances-model-requires t)
+    (instances-model-requires-2 t)
+    (instances-loop-holds t)
+    (instances-sub-stmt-instances t)
+    (instances-add-stmt-instances t)
+    (instances-sub-stmt-instances-2 t)
+    (instances-stmt-instances-requires t)
+    (instances-add-total t)
+    (instances-add-i t)
+    (instances-loop-less t)
+    (instances-loop-again t)
+    (instances-returns-3 t))
+    λ t. stmt-instances-lts.spec
+    (instances-below t, instances.Post)
+    (stmt-instances-at t)
+    stmt-instances.Post
+    (stmt-instances-element-copy-out-c t)
+    (stmt-instances-cast-c t)
+    (stmt-instances-returns t)
+    (stmt-instances-sub-instances t)
+    (stmt-instances-instances-requires t)
+    (stmt-instances-returns-2 t)

@@ -1,0 +1,7 @@
+// The continuous builder: from a tree file and a root name to an answer area.
+pub mod models;
+pub mod names;
+pub mod output;
+pub mod pairing;
+pub mod reached;
+pub mod sizes;

@@ -1,0 +1,173 @@
+// What a name's text decides, each text looked at once: a class and an argument rule for every name number.
+ghost use mathlib.Core.Path.{_≡_};
+ghost use mathlib.Core.Bool.{_&&_};
+ghost use mathlib.Core.List.{[]};
+ghost use Prim.Native.Nat.{_-_, _≤_, _<_};
+ghost use lib.Dec.{eqb, leb, ltb};
+ghost use lib.ListN.{length, take, drop, getD};
+ghost use Rattle.functions.specs.Lists.{sameText};
+ghost use Rattle.ast.specs.Opens.{Open, fileIn};
+ghost use Rattle.builder.specs.Names.{textOf};
+ghost use Rattle.builder.specs.Tables.{deciding, classOf, Classes, ruleNumber, numbered, RuleNumbers};
+use ast::records::name;
+use ast::sections::Sections;
+use functions::Rule;
+use functions::function_rule;
+use functions::same_bytes;
+
+// The classes of names: t, the other reserved names, two domains, the built-ins, and every other name.
+pub const TIME: u8 = 0;
+
+const LAST_RESERVED: u8 = 5;
+
+pub const NON_NEGATIVE: u8 = 6;
+
+pub const REAL: u8 = 7;
+
+const FIRST_BUILT_IN: u8 = 8;
+
+pub const OTHER: u8 = 18;
+
+// The texts that decide something, one after the other, and the places where they begin and end.
+const TEXTS: [u8; 67] = *b"tududtFGinputNonNegativeRsincostanpowexplogsqrtabsinterp1dpiecewise";
+
+const PLACES: [usize; 19] = [
+    0,
+    1,
+    2,
+    6,
+    7,
+    8,
+    13,
+    24,
+    25,
+    28,
+    31,
+    34,
+    37,
+    40,
+    43,
+    47,
+    50,
+    58,
+    67,
+];
+
+// Whether a name is the part of a text between two places.
+fn is_part(name: &[u8], text: &[u8], from: usize, to: usize) -> bool
+    requires { ⌜ (from ≤ to) × (to ≤ length (now text)) ⌝ }
+    ensures { λ r. ⌜ r ≡ sameText (now (name .entry)) (take (to - from) (drop from (now (text .entry)))) ⌝ }
+{
+    same_bytes(name, &text[from..to])
+}
+
+// Whether a name is text i.
+fn is_text(name: &[u8], i: usize) -> bool
+    requires { ⌜ i < 18 ⌝ }
+    ensures { λ r. ⌜ r ≡ sameText (now (name .entry)) (getD deciding i []) ⌝ }
+{
+    let texts = TEXTS;
+    is_part(name, &texts, PLACES[i], PLACES[i + 1])
+}
+
+// The class of a name's text.
+pub fn class_of(name: &[u8]) -> u8
+    ensures { λ r. ⌜ r ≡ classOf (now (name .entry)) ⌝ }
+{
+    let mut i = 0;
+    while i < 18 {
+        if is_text(name, i) {
+            return i as u8;
+        }
+        i += 1;
+    }
+    OTHER
+}
+
+pub fn is_time(class: u8) -> bool
+    ensures { λ r. ⌜ r ≡ eqb class 0 ⌝ }
+{
+    class == TIME
+}
+
+pub fn is_reserved(class: u8) -> bool
+    ensures { λ r. ⌜ r ≡ leb class 5 ⌝ }
+{
+    class <= LAST_RESERVED
+}
+
+pub fn is_built_in(class: u8) -> bool
+    ensures { λ r. ⌜ r ≡ (leb 8 class && ltb class 18) ⌝ }
+{
+    (FIRST_BUILT_IN <= class) & (class < OTHER)
+}
+
+// The text of name n.
+pub fn name_text(f: &[u8], s: Sections, n: usize) -> &[u8]
+    requires { ⌜ Open (now f) s × (n < s .counts .names) ⌝ }
+    ensures { λ r. ⌜ now r ≡ textOf (fileIn (now (f .entry)) s .names) n ⌝ }
+{
+    let from = name(f, s, n, 0);
+    let to = from + name(f, s, n, 1);
+    &f[from..to]
+}
+
+// The class of each name.
+pub fn classes(f: &[u8], s: Sections) -> [u8; 256]
+    requires { ⌜ Open (now f) s ⌝ }
+    ensures { λ r. ⌜ Classes (fileIn (now (f .entry)) s .names) r ⌝ }
+{
+    let mut out = [OTHER; 256];
+    let mut n = 0;
+    while n < s.counts.names {
+        out[n] = class_of(name_text(f, s, n));
+        n += 1;
+    }
+    out
+}
+
+// The number of a rule.
+fn rule_number(rule: Rule) -> u8
+    ensures { λ r. ⌜ r ≡ ruleNumber rule ⌝ }
+{
+    match rule {
+        Rule::One => 1,
+        Rule::Two => 2,
+        Rule::Interp1d => 3,
+        Rule::Piecewise => 4,
+        Rule::Any => 0,
+    }
+}
+
+// The rule of a number that `rule_number` gives.
+pub fn numbered_rule(number: u8) -> Rule
+    ensures { λ r. ⌜ r ≡ numbered number ⌝ }
+{
+    if number == 1 {
+        return Rule::One;
+    }
+    if number == 2 {
+        return Rule::Two;
+    }
+    if number == 3 {
+        return Rule::Interp1d;
+    }
+    if number == 4 {
+        return Rule::Piecewise;
+    }
+    Rule::Any
+}
+
+// The argument rule of each name, by its number.
+pub fn rules(f: &[u8], s: Sections) -> [u8; 256]
+    requires { ⌜ Open (now f) s ⌝ }
+    ensures { λ r. ⌜ RuleNumbers (fileIn (now (f .entry)) s .names) r ⌝ }
+{
+    let mut out = [0u8; 256];
+    let mut n = 0;
+    while n < s.counts.names {
+        out[n] = rule_number(function_rule(name_text(f, s, n)));
+        n += 1;
+    }
+    out
+}

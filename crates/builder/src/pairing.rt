@@ -1,0 +1,96 @@
+// Roles of statements as numbers, and the states that no rate equation goes to.
+ghost use mathlib.Core.Path.{_≡_};
+ghost use Prim.Native.Nat.{_+_, _≤_, _<_};
+ghost use lib.ListN.{length, take, drop};
+ghost use lib.Dec.{eqb};
+ghost use Rattle.functions.specs.Lists.{member, times, flag};
+ghost use Rattle.builder.specs.Tables.{lacksIn, lackingIn};
+
+// Whether a statement from i on, of n ones, has a role.
+pub fn has_role(roles: &[u32], i: usize, n: usize, role: u32) -> bool
+    requires { ⌜ (i ≤ n) × (n ≤ length (now roles)) ⌝ }
+    ensures { λ r. ⌜ r ≡ member role (drop i (take n (now (roles .entry)))) ⌝ }
+{
+    let mut j = i;
+    while j < n {
+        if role == roles[j] {
+            return true;
+        }
+        j += 1;
+    }
+    false
+}
+
+// 1 for no role.
+fn none_flag(role: u32) -> usize
+    ensures { λ r. ⌜ (r ≡ flag (eqb 0 role)) × (r ≤ 1) ⌝ }
+{
+    if 0 == role { 1 } else { 0 }
+}
+
+// How many of n statements have no role.
+pub fn left_count(roles: &[u32], n: usize) -> usize
+    requires { ⌜ n ≤ length (now roles) ⌝ }
+    ensures { λ r. ⌜ r ≡ times (eqb 0) (take n (now (roles .entry))) ⌝ }
+{
+    let mut total = 0;
+    let mut i = 0;
+    while i < n {
+        total += none_flag(roles[i]);
+        i += 1;
+    }
+    total
+}
+
+// States, in order.
+pub struct Queue {
+    pub count: usize,
+    pub states: [u32; 129],
+}
+
+fn no_states() -> Queue
+    ensures { λ r. ⌜ (r .count ≡ 0) × (length (r .states) ≡ 129) ⌝ }
+{
+    Queue {
+        count: 0,
+        states: [0u32; 129],
+    }
+}
+
+// Whether variable v is a state that no rate equation goes to.
+fn lacks(roles: &[u32], n: usize, starts: &[u32], v: usize) -> bool
+    requires { ⌜ (n ≤ length (now roles)) × (v < 129) × (v + 1 < length (now starts)) ⌝ }
+    ensures { λ r. ⌜ r ≡ lacksIn (take n (now (roles .entry))) (now (starts .entry)) v ⌝ }
+{
+    let role = ((2 * v + 2) % 4294967296) as u32;
+    (starts[v] < starts[v + 1]) & !has_role(roles, 0, n, role)
+}
+
+// The states below v that lack an equation, and v where it does.
+fn with_lacking(q: Queue, roles: &[u32], n: usize, starts: &[u32], v: usize) -> Queue
+    requires { ⌜ (n ≤ length (now roles)) × (v < 129) × (v + 1 < length (now starts)) × (q .count ≤ v) × (length (q .states) ≡ 129) × (take (q .count) (q .states) ≡ lackingIn (take n (now roles)) (now starts) v) ⌝ }
+    ensures { λ r. ⌜ (r .count ≤ v + 1) × (length (r .states) ≡ 129) × (take (r .count) (r .states) ≡ lackingIn (take n (now (roles .entry))) (now (starts .entry)) (v + 1)) ⌝ }
+{
+    if !lacks(roles, n, starts, v) {
+        return q;
+    }
+    let at = q.count;
+    let mut out = q;
+    out.states[at] = (v % 4294967296) as u32;
+    out.count = at + 1;
+    out
+}
+
+// The states that no rate equation goes to, of `vars` variables.
+pub fn lacking(roles: &[u32], n: usize, starts: &[u32], vars: usize) -> Queue
+    requires { ⌜ (n ≤ length (now roles)) × (vars ≤ 129) × (vars < length (now starts)) ⌝ }
+    ensures { λ r. ⌜ (r .count ≤ vars) × (length (r .states) ≡ 129) × (take (r .count) (r .states) ≡ lackingIn (take n (now (roles .entry))) (now (starts .entry)) vars) ⌝ }
+{
+    let mut q = no_states();
+    let mut v = 0;
+    while v < vars {
+        q = with_lacking(q, roles, n, starts, v);
+        v += 1;
+    }
+    q
+}

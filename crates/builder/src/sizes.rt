@@ -1,0 +1,103 @@
+// How big a build is: instances and flattened statements, each counted as the descent goes and at most to a limit.
+ghost use mathlib.Core.Path.{_≡_};
+ghost use mathlib.Core.List.{[]};
+ghost use Prim.Native.Nat.{_≤_, _<_};
+ghost use lib.ListN.{length, getD};
+ghost use Rattle.functions.specs.Lists.{sumOf};
+ghost use Rattle.ast.specs.Records.{stmtOf};
+ghost use Rattle.ast.specs.Opens.{Open, contentsIn, fileIn};
+ghost use Rattle.ast.specs.Rows.{atMost};
+ghost use Rattle.builder.specs.Flatten as Flatten;
+ghost use Rattle.builder.specs.Tables.{Callees};
+use ast::records::model;
+use ast::records::stmt;
+use ast::sections::Sections;
+
+pub const MOST_INSTANCES: usize = 1024;
+
+pub const MOST_STMTS: usize = 256;
+
+// The instances of model m, to a depth of k models, at most `most`: 1 for itself plus those of each submodel statement.
+pub fn instances(f: &[u8], s: Sections, calls: &[u8; 256], k: usize, m: usize, most: usize) -> usize
+    requires { ⌜ Open (now f) s × Callees (now f) s (now calls) × (m < s .counts .models) × (k ≤ 32) × (most ≤ 4096) ⌝ }
+    ensures { λ r. ⌜ r ≡ atMost most (Flatten.instances (fileIn (now (f .entry)) s) k m) ⌝ }
+{
+    if k == 0 {
+        return 0;
+    }
+    if most == 0 {
+        return 0;
+    }
+    let first = model(f, s, m, 3);
+    let count = model(f, s, m, 4);
+    let mut total = 1;
+    let mut i = 0;
+    while i < count {
+        total += stmt_instances(f, s, calls, k - 1, first + i, most - total);
+        i += 1;
+    }
+    total
+}
+
+// Those of the model that statement q calls, if it calls one.
+fn stmt_instances(
+    f: &[u8],
+    s: Sections,
+    calls: &[u8; 256],
+    k: usize,
+    q: usize,
+    most: usize,
+) -> usize
+    requires { ⌜ Open (now f) s × Callees (now f) s (now calls) × (q < s .counts .stmts) × (k ≤ 32) × (most ≤ 4096) ⌝ }
+    ensures { λ r. ⌜ r ≡ atMost most (sumOf (λ j. Flatten.instances (fileIn (now (f .entry)) s) k j) (Flatten.stmtModels (fileIn (now (f .entry)) s) (stmtOf (contentsIn (now (f .entry)) s .nodes) (getD (contentsIn (now (f .entry)) s .stmts) q [])))) ⌝ }
+{
+    let c = calls[q] as usize;
+    if c == 0 {
+        return 0;
+    }
+    instances(f, s, calls, k, c - 1, most)
+}
+
+// The flattened statements of model m, to a depth of k models, at most `most`.
+pub fn flat_stmts(
+    f: &[u8],
+    s: Sections,
+    calls: &[u8; 256],
+    k: usize,
+    m: usize,
+    most: usize,
+) -> usize
+    requires { ⌜ Open (now f) s × Callees (now f) s (now calls) × (m < s .counts .models) × (k ≤ 32) × (most ≤ 4096) ⌝ }
+    ensures { λ r. ⌜ r ≡ atMost most (length (Flatten.flatten (fileIn (now (f .entry)) s) k m)) ⌝ }
+{
+    if k == 0 {
+        return 0;
+    }
+    let first = model(f, s, m, 3);
+    let count = model(f, s, m, 4);
+    let mut total = 0;
+    let mut i = 0;
+    while i < count {
+        total += stmt_stmts(f, s, calls, k - 1, first + i, most - total);
+        i += 1;
+    }
+    total
+}
+
+// Those that statement q brings in: itself, or those of the model that it calls. It stops as soon as `most` is used up.
+fn stmt_stmts(f: &[u8], s: Sections, calls: &[u8; 256], k: usize, q: usize, most: usize) -> usize
+    requires { ⌜ Open (now f) s × Callees (now f) s (now calls) × (q < s .counts .stmts) × (k ≤ 32) × (most ≤ 4096) ⌝ }
+    ensures { λ r. ⌜ r ≡ atMost most (length (Flatten.stmtFlats (fileIn (now (f .entry)) s) (λ j. Flatten.flatten (fileIn (now (f .entry)) s) k j) (stmtOf (contentsIn (now (f .entry)) s .nodes) (getD (contentsIn (now (f .entry)) s .stmts) q [])))) ⌝ }
+{
+    if most == 0 {
+        return 0;
+    }
+    if stmt(f, s, q, 0) != 3 {
+        return 1;
+    }
+    let c = calls[q] as usize;
+    if c == 0 {
+        return 0;
+    }
+    flat_stmts(f, s, calls, k, c - 1, most)
+}
