@@ -33,3 +33,10 @@ pub mod Runs
 pub mod Calling
 pub mod Rounds
 pub mod Refusals
+pub mod Listings
+pub mod Checks
+pub mod Calls
+pub mod Exprs
+pub mod Dependents
+pub mod Few
+pub mod Unknowns

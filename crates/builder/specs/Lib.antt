@@ -13,6 +13,8 @@ pub mod Promise
 pub mod Models
 pub mod Tables
 pub mod Rounds
+pub mod Listing
+pub mod Checking
 pub mod Computes
 pub mod Examples
 pub mod OwnExamples

@@ -1,7 +1,10 @@
 // The continuous builder: from a tree file and a root name to an answer area.
+pub mod check;
+pub mod errors;
 pub mod models;
 pub mod names;
 pub mod output;
 pub mod pairing;
 pub mod reached;
+pub mod scope;
 pub mod sizes;

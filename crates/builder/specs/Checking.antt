@@ -1,0 +1,69 @@
+-- What the code that checks expressions stands on: an expression or arguments of an open file, and the tables of a model's scope.
+use mathlib.Core.Path.{_≡_}
+use mathlib.Core.Bool.{true}
+use mathlib.Core.List.{List, []}
+use mathlib.Core.Option.{Option, none, some}
+use Prim.Native.Nat.{ℕ, _-_, _≤_, _<_}
+use Rattle.ast.specs.Tree.{Expr, Args}
+use Rattle.ast.specs.Nodes.{kindAt, opAt, sizeAt, isExpr, argsFit, treeAt, argsBefore}
+use Rattle.ast.specs.Opens.{Open, contentsIn, fileIn}
+use Rattle.ast.specs.declared.sections.Sections.{Sections}
+use Rattle.builder.specs.Check.{Scope, depNames}
+use Rattle.builder.specs.Flatten.{modelAt, scopeOf}
+use Rattle.builder.specs.Tables.{Classes, RuleNumbers, VarsOf}
+
+module _ (f : List ℕ) (s : Sections) where
+  abbrev pub nodesOf : List (List ℕ)
+  nodesOf = contentsIn f s .nodes
+
+  -- The scope of model m.
+  abbrev pub scopeIn : ℕ → Scope
+  scopeIn m = scopeOf (fileIn f s) (modelAt (fileIn f s) m)
+
+  -- The expression at node i, and c arguments of t nodes in all before node `end`.
+  abbrev pub treeIn : ℕ → Expr
+  treeIn i = treeAt nodesOf i
+
+  abbrev pub argsIn : ℕ → ℕ → ℕ → Args
+  argsIn end c t = argsBefore nodesOf end c t
+
+  -- The arguments of the call at node i.
+  abbrev pub argsOf : ℕ → Args
+  argsOf i = argsIn i (opAt nodesOf i) (sizeAt nodesOf i - 1)
+
+-- The names, plus 1, of the kept dependents of a variable, if there is one.
+unfoldable pub keptNames : Scope → Option ℕ → List ℕ
+keptNames c none = []
+keptNames c (some v) = depNames c v
+
+pub record NodeIn (f : List ℕ) (s : Sections) (i : ℕ) : Type 0 where
+  pub opened : Open f s
+  pub within : i < s .counts .nodes
+
+-- Node i is an expression; a call; c arguments of t nodes in all stand before node `end`.
+pub record ExprIn (f : List ℕ) (s : Sections) (i : ℕ) : Type 0 where
+  pub opened : Open f s
+  pub within : i < s .counts .nodes
+  pub expr : isExpr (nodesOf f s) i ≡ true
+
+pub record CallIn (f : List ℕ) (s : Sections) (i : ℕ) : Type 0 where
+  pub opened : Open f s
+  pub within : i < s .counts .nodes
+  pub call : kindAt (nodesOf f s) i ≡ 5
+
+pub record ArgsIn (f : List ℕ) (s : Sections) (end c t : ℕ) : Type 0 where
+  pub opened : Open f s
+  pub within : end ≤ s .counts .nodes
+  pub fits : argsFit (nodesOf f s) end c t ≡ true
+
+-- The variables of model m, by name.
+pub record Scoped (f : List ℕ) (s : Sections) (m : ℕ) (vs : List ℕ) : Type 0 where
+  pub opened : Open f s
+  pub model : m < s .counts .models
+  pub vars : VarsOf (scopeIn f s m) vs
+
+-- What an expression of model m is checked against: the classes and rules of the names, and the model's variables.
+pub record Against (f : List ℕ) (s : Sections) (m : ℕ) (cs rs vs : List ℕ) : Type 0 where
+  pub scoped : Scoped f s m vs
+  pub classes : Classes (scopeIn f s m .names) cs
+  pub rules : RuleNumbers (scopeIn f s m .names) rs

@@ -1,0 +1,34 @@
+-- Errors listed in an area: all are counted, the first 256 are listed, four words each.
+use mathlib.Core.Path.{_≡_}
+use mathlib.Core.Bool.{cond}
+use mathlib.Core.List.{List, [], _∷_}
+use Prim.Native.Nat.{ℕ, _+_, _*_, _^_, _≤_, _<_}
+use lib.Dec.{ltb}
+use lib.ListN.{length}
+use Rattle.ast.specs.Tree.{Span}
+use Rattle.ast.specs.Words.{bytesOf}
+use Rattle.ast.specs.Bytes.{put}
+use Rattle.builder.specs.Numbers.{mostListed}
+use Rattle.builder.specs.Variables.{Error}
+use Rattle.builder.specs.Answer.{errorWords}
+
+abbrev pub spanned : ℕ → ℕ → Span
+spanned a b = record { from = a; to = b }
+
+-- The area with an error listed behind n of them, if it is among the first 256.
+unfoldable pub putError : List ℕ → ℕ → Error → List ℕ
+putError d n e = cond (ltb n mostListed) (put d (16 * n) (bytesOf (errorWords e))) d
+
+-- The area with errors listed behind n of them.
+unfoldable pub listed : List ℕ → ℕ → List Error → List ℕ
+listed d n [] = d
+listed d n (e ∷ es) = listed (putError d n e) (n + 1) es
+
+-- From n errors in the area d, the errors es lead to r errors in the area d′.
+abbrev pub Lists : List ℕ → ℕ → List Error → ℕ → List ℕ → Type 0
+Lists d n es r d′ = (r ≡ n + length es) × (d′ ≡ listed d n es)
+
+-- The area d has room for 256 errors, and the errors es behind n of them can be counted.
+pub record Room (d : List ℕ) (n : ℕ) (es : List Error) : Type 0 where
+  pub long : 4096 ≤ length d
+  pub few : n + length es < 2 ^ 40
