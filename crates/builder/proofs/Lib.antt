@@ -40,3 +40,13 @@ pub mod Exprs
 pub mod Dependents
 pub mod Few
 pub mod Unknowns
+pub mod OpenStmts
+pub mod Replacing
+pub mod Descents
+pub mod Putting
+pub mod Timing
+pub mod OpenUnknowns
+pub mod Rosters
+pub mod PutWords
+pub mod KeptDependents
+pub mod Bounding

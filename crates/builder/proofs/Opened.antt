@@ -9,7 +9,7 @@ use borrow.Author.Tests.{eqb-true}
 use Rattle.functions.specs.Lists.{sumOf}
 use Rattle.functions.proofs.Lists.{and-both}
 use Rattle.ast.specs.Tree.{Unknown, Stmt, Model, File}
-use Rattle.ast.specs.File.{unknownsAt, Contents, contentsOf, fileOf, openFile, opened}
+use Rattle.ast.specs.File.{unknownsAt, Contents, contentsOf, allFit, fileOf, openFile, opened}
 use Rattle.ast.specs.Records.{firstDep, depCount, unknownCount, firstUnknown, unknownFits, unknownsFit, unknownOf, stmtOf, modelOf}
 use Rattle.ast.proofs.Fields.{length-section}
 use Rattle.ast.proofs.Files.{is-open, parts}
@@ -83,3 +83,8 @@ module _ (file : List ℕ) (f : File) (h : openFile file ≡ opened f) (m : ℕ)
       let s = contentsOf (o .counts) file in
       let few : sumOf listed (modelAt f m .unknowns) ≤ sumOf depCount (s .unknowns) = rw (o .says) at (few-listed s m) in
       omega (arith, few, runs-total (o .counts .names) (o .counts .deps) 0 (s .unknowns) (parts s (o .fits) .unknowns), is-within (o .counts) (o .within) .deps)
+
+-- what the unknowns of one model list
+pub contents-listed : (s : Contents) → allFit s ≡ true → (m : ℕ) → sumOf (λ u. length (u .deps)) (modelAt (fileOf s) m .unknowns) ≤ s .counts .deps
+unfolding listed
+contents-listed s h m = omega (arith, few-listed s m, runs-total (s .counts .names) (s .counts .deps) 0 (s .unknowns) (parts s h .unknowns))

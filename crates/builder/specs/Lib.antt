@@ -12,9 +12,12 @@ pub mod Read
 pub mod Promise
 pub mod Models
 pub mod Tables
+pub mod VariableTables
 pub mod Rounds
 pub mod Listing
 pub mod Checking
+pub mod Descent
+pub mod Overlay
 pub mod Computes
 pub mod Examples
 pub mod OwnExamples

@@ -1,6 +1,7 @@
 // The continuous builder: from a tree file and a root name to an answer area.
 pub mod check;
 pub mod errors;
+pub mod flatten;
 pub mod models;
 pub mod names;
 pub mod output;
@@ -8,3 +9,4 @@ pub mod pairing;
 pub mod reached;
 pub mod scope;
 pub mod sizes;
+pub mod variables;

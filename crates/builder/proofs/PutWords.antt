@@ -1,0 +1,218 @@
+-- Words put one run after the other behind those there are: the kept dependents of an unknown, of a name and of all variables.
+use mathlib.Core.Path.{_≡_, refl, sym, ap, _∙_}
+use mathlib.Core.Bool.{Bool, true, false, cond}
+use mathlib.Core.List.{List, [], _∷_, _++_, append-assoc, append-nil, map}
+use mathlib.Core.Option.{Option, none, some}
+use Prim.Native.Nat.{ℕ, zero, suc, _+_, _-_, _*_, _/_, _%_, _^_, _≤_, _<_}
+use native.Mathlib.Numerals.{add-one, sub-one}
+use native.Mathlib.Omega.{arith}
+use borrow.Author.Tests.{ltb-true, ltb-false}
+use lib.Dec.{eqb, ltb}
+use lib.ListN.{length, take, drop, getD, set, length-append, length-drop, take-append-drop}
+use lib.Seq.{take-suc, take-all, length-take-le, getD-set-same, getD-set-other}
+use Rattle.functions.specs.Lists.{each, all, plusOne, toList}
+use Rattle.ast.specs.Tree.{Unknown}
+use Rattle.ast.specs.Words.{words, bytes4, bytesOf}
+use Rattle.ast.specs.File.{contentsOf}
+use Rattle.ast.specs.Opens.{Open, contentsIn, fileIn}
+use Rattle.ast.specs.declared.sections.Sections.{Sections}
+use Rattle.ast.specs.Bytes.{putWord, front, put}
+use Rattle.ast.proofs.Fronts.{word-behind, put-behind}
+use Rattle.ast.proofs.Encodes.{each-append, length-bytes}
+use Rattle.builder.specs.Variables.{numberOf, keptDeps, variableNames, variable, variablesOf}
+use Rattle.builder.specs.VariableTables.{Numbers, oneBelow, keptBy, unknownsIn, rosterIn}
+use Rattle.builder.specs.Flatten.{modelAt}
+use Rattle.builder.proofs.Counts.{length-kept}
+use Rattle.builder.proofs.Opened.{contents-listed}
+
+-- ---- words at a place
+
+-- no words change nothing
+pub put-none : (d : List ℕ) (k : ℕ) → put d k (bytesOf []) ≡ d
+unfolding put bytesOf each
+put-none d k = let z : k + 0 ≡ k = omega arith in rw z (take-append-drop k d)
+
+-- a write at a place, with what stands before it, is one at the front
+put-front : (d e : List ℕ) (k : ℕ) → k ≤ length d → put d k e ≡ front d (take k d ++ e)
+unfolding put front
+put-front d e k h =
+    let l : length (take k d ++ e) ≡ k + length e = simp length-append (rw (length-take-le k d h)) in
+    rw (l, append-assoc (take k d) e)
+
+-- the length stays
+pub length-put : (d e : List ℕ) (k : ℕ) → k + length e ≤ length d → length (put d k e) ≡ length d
+unfolding put
+length-put d e k h = simp (length-append, length-drop) (omega (arith, length-take-le k d (omega arith)))
+
+front-same : (d : List ℕ) (k : ℕ) → length (take k d) ≡ k → d ≡ front d (take k d)
+unfolding front
+front-same d k l = rw l (sym (take-append-drop k d))
+
+-- a word put at a place
+pub word-put : (d : List ℕ) (k w : ℕ) → k + 4 ≤ length d → putWord d k w ≡ put d k (bytesOf (w ∷ []))
+unfolding bytesOf each bytes4
+word-put d k w h =
+    let l : length (take k d) ≡ k = length-take-le k d (omega arith) in
+    word-behind d (take k d) d w k (sym l) h (front-same d k l) ∙ sym (put-front d (bytes4 w) k (omega arith))
+
+bytes-append : (ws xs : List ℕ) → bytesOf (ws ++ xs) ≡ bytesOf ws ++ bytesOf xs
+unfolding bytesOf
+bytes-append ws xs = each-append bytes4 ws xs
+
+-- a run behind the words put
+pub words-more : (d d′ d″ ws xs : List ℕ) (k n : ℕ) → n ≡ k + 4 * length ws → k ≤ length d → d′ ≡ put d k (bytesOf ws) → d″ ≡ put d′ n (bytesOf xs) → d″ ≡ put d k (bytesOf (ws ++ xs))
+words-more d d′ d″ ws xs k n en h e′ e″ =
+    let l : n ≡ length (take k d ++ bytesOf ws) = simp length-append (omega (arith, length-take-le k d h, length-bytes ws)) in
+    let f : d′ ≡ front d (take k d ++ bytesOf ws) = e′ ∙ put-front d (bytesOf ws) k h in
+    e″ ∙ put-behind d (take k d ++ bytesOf ws) (bytesOf xs) d′ n l f
+    ∙ ap (front d) (append-assoc (take k d) (bytesOf ws) (bytesOf xs) ∙ ap (λ (e : List ℕ). take k d ++ e) (sym (bytes-append ws xs)))
+    ∙ sym (put-front d (bytesOf (ws ++ xs)) k h)
+
+-- ---- one run for each element of a list
+
+module _ {A : Type 0} (g : A → List ℕ) (xs : List A) where
+  -- the runs of one element more
+  pub each-take : (d : A) (i : ℕ) → i < length xs → each g (take (i + 1) xs) ≡ each g (take i xs) ++ g (getD xs i d)
+  unfolding each
+  each-take d i h = rw (add-one, take-suc xs i d h) (each-append g (take i xs) (getD xs i d ∷ []) ∙ ap (λ (e : List ℕ). each g (take i xs) ++ e) (append-nil (g (getD xs i d))))
+
+  -- are no more than all
+  pub each-fits : (i : ℕ) → length (each g (take i xs)) ≤ length (each g xs)
+  each-fits i =
+      let e : each g (take i xs) ++ each g (drop i xs) ≡ each g xs = sym (each-append g (take i xs) (drop i xs)) ∙ ap (each g) (take-append-drop i xs) in
+      omega (arith, simp length-append at (ap length e))
+
+  -- the runs of the first i elements are put behind `done` words, and then there are `total`
+  pub record Runs (d₀ : List ℕ) (done i : ℕ) (d : List ℕ) (total : ℕ) : Type 0 where
+    pub sum : total ≡ done + length (each g (take i xs))
+    pub bytes : d ≡ put d₀ (4 * done) (bytesOf (each g (take i xs)))
+
+  module _ (d₀ : List ℕ) (done : ℕ) (room : 4 * (done + length (each g xs)) ≤ length d₀) where
+    -- none is put yet
+    pub runs-first : Runs d₀ done 0 d₀ done
+    unfolding each
+    runs-first = record { sum = omega arith; bytes = sym (put-none d₀ (4 * done)) }
+
+    module _ (i : ℕ) (d : List ℕ) (total : ℕ) (r : Runs d₀ done i d total) where
+      -- the length stays
+      pub runs-length : length d ≡ length d₀
+      runs-length = ap length (r .bytes) ∙ length-put d₀ (bytesOf (each g (take i xs))) (4 * done) (rw length-bytes (omega (arith, each-fits i)))
+
+      -- no more than all are put
+      pub runs-few : total ≤ done + length (each g xs)
+      runs-few = omega (arith, r .sum, each-fits i)
+
+      -- there is room for the next
+      pub runs-room : (o x : A) → i < length xs → x ≡ getD xs i o → 4 * (total + length (g x)) ≤ length d
+      runs-room o x h e =
+          let t = each-fits (i + 1) in
+          rw (e, runs-length) (omega (arith, r .sum, simp length-append at (ap length (each-take o i h)), t))
+
+      -- the next is put
+      pub runs-next : (o x : A) (d′ : List ℕ) (total′ : ℕ) → i < length xs → x ≡ getD xs i o → total′ ≡ total + length (g x) → d′ ≡ put d (4 * total) (bytesOf (g x)) → Runs d₀ done (i + 1) d′ total′
+      runs-next o x d′ total′ h e et ed =
+          let q : each g (take (i + 1) xs) ≡ each g (take i xs) ++ g x = each-take o i h ∙ ap (λ (y : A). each g (take i xs) ++ g y) (sym e) in
+          record {
+            sum = rw (q, length-append) (omega (arith, r .sum));
+            bytes = rw q (words-more d₀ d d′ (each g (take i xs)) (g x) (4 * done) (4 * total) (omega (arith, r .sum)) (omega arith) (r .bytes) ed);
+          }
+
+      -- all are put
+      pub runs-last : length xs ≤ i → (total ≡ done + length (each g xs)) × (d ≡ put d₀ (4 * done) (bytesOf (each g xs)))
+      runs-last h = let e = take-all i xs h in (rw e at (r .sum), rw e at (r .bytes))
+
+-- ---- a kept dependent
+
+-- none
+pub below-none : (v : ℕ) → v ≡ 0 → oneBelow v ≡ []
+unfolding oneBelow
+below-none zero e = refl
+below-none (suc v) e = absurd (omega arith)
+
+-- one
+pub below-one : (v : ℕ) → (v ≡ 0 → ⊥) → oneBelow v ≡ (v - 1) ∷ []
+unfolding oneBelow
+below-one zero h = absurd (h refl)
+below-one (suc v) h = rw (sub-one (suc v))
+
+-- by the table of numbers what is kept is what has a number
+unfoldable pub numbered : List ℕ → ℕ → List ℕ
+numbered table d = oneBelow (getD table d 0)
+
+-- one run for each dependent
+pub kept-each : (table ds : List ℕ) → keptBy table ds ≡ each (numbered table) ds
+unfolding keptBy numbered
+kept-each table ds = refl
+
+below-plus : (o : Option ℕ) → oneBelow (plusOne o) ≡ toList o
+unfolding oneBelow plusOne toList
+below-plus none = refl
+below-plus (some i) = refl
+
+-- those of a list
+kept-numbered : (vs table ds : List ℕ) → Numbers vs table → ((j : ℕ) → j < length ds → getD ds j 0 < 256) → keptBy table ds ≡ each (λ d. toList (numberOf vs d)) ds
+unfolding keptBy each
+kept-numbered vs table [] n h = refl
+kept-numbered vs table (d ∷ ds) n h =
+    rw (n .number d (h 0 (omega arith)), below-plus (numberOf vs d), kept-numbered vs table ds n (λ j l. h (suc j) (omega arith)))
+
+-- of one unknown, where it declares the name
+unfoldable pub ofNamed : List ℕ → ℕ → Unknown → List ℕ
+ofNamed vs v u = cond (eqb (suc (u .name)) v) (each (λ d. toList (numberOf vs d)) (u .deps)) []
+
+-- one run for each unknown
+pub kept-named : (vs : List ℕ) (us : List Unknown) (v : ℕ) → keptDeps vs us v ≡ each (ofNamed vs v) us
+unfolding keptDeps ofNamed
+kept-named vs us v = refl
+
+-- by the table
+pub named-kept : (vs table : List ℕ) (v : ℕ) (u : Unknown) → Numbers vs table → ((j : ℕ) → j < length (u .deps) → getD (u .deps) j 0 < 256) → cond (eqb (suc (u .name)) v) (keptBy table (u .deps)) [] ≡ ofNamed vs v u
+unfolding ofNamed
+named-kept vs table v u n h = ap (λ (ds : List ℕ). cond (eqb (suc (u .name)) v) ds []) (kept-numbered vs table (u .deps) n h)
+
+-- ---- where the runs start
+
+-- the first starts at 0
+pub starts-first : (vs : List ℕ) (g : ℕ → List ℕ) (starts : List ℕ) → getD starts 0 0 ≡ 0 → (j : ℕ) → j ≤ 0 → getD starts j 0 ≡ length (each g (take j vs))
+unfolding each
+starts-first vs g starts e zero h = e
+starts-first vs g starts e (suc j) h = absurd (omega arith)
+
+-- and each where the one before ends
+pub starts-next : (vs : List ℕ) (g : ℕ → List ℕ) (starts : List ℕ) (v total : ℕ) → v + 1 < length starts → total ≡ length (each g (take (v + 1) vs))
+    → ((j : ℕ) → j ≤ v → getD starts j 0 ≡ length (each g (take j vs))) → (j : ℕ) → j ≤ v + 1 → getD (set starts (v + 1) total) j 0 ≡ length (each g (take j vs))
+starts-next vs g starts v total l e h j k = go (ltb j (v + 1)) refl
+  where
+    go : (b : Bool) → ltb j (v + 1) ≡ b → getD (set starts (v + 1) total) j 0 ≡ length (each g (take j vs))
+    go true t = let q : j < v + 1 = ltb-true j (v + 1) t in getD-set-other starts (v + 1) j total 0 (λ z. omega arith) ∙ h j (omega arith)
+    go false t = let q : v + 1 ≡ j = omega (arith, ltb-false j (v + 1) t) in rw (← q) (getD-set-same starts (v + 1) total 0 l ∙ e)
+
+-- ---- all kept dependents of a model
+
+each-map : {A B : Type 0} (g : B → List ℕ) (h : A → B) (xs : List A) → each g (map h xs) ≡ each (λ x. g (h x)) xs
+unfolding each
+each-map g h [] = refl
+each-map g h (x ∷ xs) = ap (λ (e : List ℕ). g (h x) ++ e) (each-map g h xs)
+
+kept-of : (names : List (List ℕ)) (us : List Unknown) → each (λ v. v .deps) (variablesOf names us) ≡ each (keptDeps (variableNames names us) us) (variableNames names us)
+unfolding variablesOf variable
+kept-of names us = each-map (λ v. v .deps) (variable names (variableNames names us) us) (variableNames names us)
+
+module _ (f : List ℕ) (s : Sections) (o : Open f s) (m : ℕ) where
+  -- no more than the file lists
+  pub kept-few : length (each (keptDeps (rosterIn f s m) (unknownsIn f s m)) (rosterIn f s m)) ≤ 1024
+  unfolding rosterIn unknownsIn contentsOf
+  kept-few =
+      let us = modelAt (fileIn f s) m .unknowns in
+      omega (arith, length-kept (fileIn f s .names) us, ap length (kept-of (fileIn f s .names) us), contents-listed (contentsIn f s) (o .fits) m, o .laid .within .deps)
+
+-- ---- the words that were put, read by their starts
+
+-- words that were written are read
+pub words-bytes : (ws rest : List ℕ) → ((j : ℕ) → j < length ws → getD ws j 0 < 2 ^ 32) → words (bytesOf ws ++ rest) ≡ ws ++ words rest
+unfolding words bytesOf each bytes4
+words-bytes [] rest h = refl
+words-bytes (w ∷ ws) rest h =
+    let l : w < 2 ^ 32 = h 0 (omega arith) in
+    let e : w % 256 + 256 * (w / 256 % 256) + 65536 * (w / 65536 % 256) + 16777216 * (w / 16777216) ≡ w = omega arith in
+    rw (e, words-bytes ws rest (λ j k. h (suc j) (omega arith)))

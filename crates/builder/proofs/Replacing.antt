@@ -1,0 +1,249 @@
+-- The replacements of a call, noted in a row from the last argument back.
+use mathlib.Core.Path.{_≡_, refl, sym, ap, _∙_}
+use mathlib.Core.Bool.{Bool, true, false, cond}
+use mathlib.Core.List.{List, [], _∷_, _++_}
+use Prim.Native.Nat.{ℕ, zero, suc, _+_, _-_, _≤_, _<_}
+use native.Mathlib.Omega.{arith}
+use borrow.Author.Tests.{eqb-true, eqb-false, eq-eqb, ne-eqb, leb-true}
+use lib.Dec.{eqb}
+use lib.ListN.{length, take, drop, getD, set, replicate, length-set, length-append, length-drop, replicate-append-replicate}
+use lib.Seq.{getD-set-same, getD-set-other, getD-drop, length-take-le, take-at, drop-at}
+use Rattle.ast.specs.Tree.{Expr, Unknown}
+use Rattle.ast.specs.Subst.{Replacements}
+use Rattle.ast.specs.Words.{wordOf}
+use Rattle.ast.specs.Nodes.{kindAt, nameAt, opAt, sizeAt, isExpr, argsFit, treeAt, argsBefore}
+use Rattle.ast.specs.Levels.{byTable}
+use Rattle.ast.specs.Records.{unknownCount, firstUnknown, unknownOf}
+use Rattle.ast.specs.Rows.{RowsFit}
+use Rattle.ast.specs.Opens.{Open, contentsIn, fileIn}
+use Rattle.ast.specs.declared.sections.Sections.{Sections}
+use Rattle.ast.proofs.Fitting.{node-ok, LastArg, last-arg}
+use Rattle.ast.proofs.Trees.{args-more, args-none}
+use Rattle.ast.proofs.Sizes.{count-before}
+use Rattle.ast.proofs.Filling.{rows-fit-set}
+use Rattle.builder.specs.Flatten.{unknownName, replacedName, replacements, modelAt}
+use Rattle.builder.specs.Descent.{replacedBy, RowsIn}
+use Rattle.builder.specs.Overlay.{over, replacing}
+use Rattle.builder.proofs.Outputs.{take-step}
+use Rattle.builder.proofs.OpenStmts.{nodes-pass, unknown-named, model-within, unknowns-count, model-unknown}
+
+-- ---- what an argument replaces
+
+unknown-name-at : (us : List Unknown) (i : ℕ) (d : Unknown) → i < length us → unknownName us i ≡ suc (getD us i d .name)
+unfolding unknownName
+unknown-name-at [] i d h = absurd (omega arith)
+unknown-name-at (u ∷ us) zero d h = refl
+unknown-name-at (u ∷ us) (suc i) d h = unknown-name-at us i d (omega arith)
+
+unknown-name-past : (us : List Unknown) (i : ℕ) → length us ≤ i → unknownName us i ≡ 0
+unfolding unknownName
+unknown-name-past [] i h = refl
+unknown-name-past (u ∷ us) zero h = absurd (omega arith)
+unknown-name-past (u ∷ us) (suc i) h = unknown-name-past us i (omega arith)
+
+-- a keyword's is itself
+pub target-keyword : (us : List Unknown) (i k : ℕ) → (k ≡ 0 → ⊥) → k ≡ replacedName us i k
+unfolding replacedName
+target-keyword us i zero h = absurd (h refl)
+target-keyword us i (suc k) h = refl
+
+target-place : (us : List Unknown) (i k : ℕ) → k ≡ 0 → replacedName us i k ≡ unknownName us i
+unfolding replacedName
+target-place us i zero e = refl
+target-place us i (suc k) e = absurd (omega arith)
+
+module _ (f : List ℕ) (s : Sections) (o : Open f s) (m : ℕ) (l : m < s .counts .models) (i k many : ℕ) (pos : k ≡ 0)
+    (e : many ≡ unknownCount (getD (contentsIn f s .models) m [])) where
+  -- a positional one's is its unknown's name
+  pub target-unknown : (first w : ℕ) → i < many → first ≡ firstUnknown (getD (contentsIn f s .models) m []) → w ≡ wordOf (getD (contentsIn f s .unknowns) (first + i) []) 0
+      → (w + 1 ≡ replacedName (modelAt (fileIn f s) m .unknowns) i k) × (w + 1 ≤ s .counts .names)
+  unfolding unknownOf
+  target-unknown first w h ef ew =
+      let c : i < unknownCount (getD (contentsIn f s .models) m []) = omega arith in
+      let b : i < length (modelAt (fileIn f s) m .unknowns) = rw (unknowns-count f s o m l) c in
+      let d = unknownOf [] [] in
+      let w₁ : w ≡ wordOf (getD (contentsIn f s .unknowns) (firstUnknown (getD (contentsIn f s .models) m []) + i) []) 0 = rw ef at ew in
+      let n : getD (modelAt (fileIn f s) m .unknowns) i d .name ≡ w = ap (λ (u : Unknown). u .name) (model-unknown f s o m l i d c) ∙ sym w₁ in
+      let t : replacedName (modelAt (fileIn f s) m .unknowns) i k ≡ suc w = target-place _ i k pos ∙ unknown-name-at _ i d b ∙ ap suc n in
+      let y = unknown-named f s o (firstUnknown (getD (contentsIn f s .models) m []) + i) (omega (arith, model-within f s o m l .0)) in
+      (omega arith, omega (arith, y))
+
+  -- one beyond the unknowns has none
+  pub target-beyond : many ≤ i → 0 ≡ replacedName (modelAt (fileIn f s) m .unknowns) i k
+  target-beyond h = sym (target-place _ i k pos ∙ unknown-name-past _ i (rw (unknowns-count f s o m l) (omega arith)))
+
+-- ---- one entry
+
+module _ (ns : List (List ℕ)) where
+  noted-by : (row : List ℕ) (j v : ℕ) (by : Replacements) (n : ℕ) → j < length row → 0 < v → (b : Bool) → eqb (getD row j 0) 0 ≡ b → (d : Bool) → eqb n j ≡ d
+      → over ns (cond b (set row j v) row) by n ≡ over ns row (replacing (suc j) (treeAt ns (v - 1)) by) n
+  unfolding over replacing
+  noted-by row j v by n h p true e true q =
+      let nz : eqb v 0 ≡ false = ne-eqb v 0 (λ z. omega arith) in
+      let same : eqb (suc j) (suc j) ≡ true = eq-eqb (suc j) (suc j) refl in
+      rw (eqb-true n j q, getD-set-same row j v 0 h, nz, e, same) refl
+  noted-by row j v by n h p true e false q =
+      let ne : eqb (suc n) (suc j) ≡ false = ne-eqb (suc n) (suc j) (λ z. eqb-false n j q (omega arith)) in
+      rw (getD-set-other row j n v 0 (eqb-false n j q), ne) refl
+  noted-by row j v by n h p false e true q = rw (eqb-true n j q, e) refl
+  noted-by row j v by n h p false e false q =
+      let ne : eqb (suc n) (suc j) ≡ false = ne-eqb (suc n) (suc j) (λ z. eqb-false n j q (omega arith)) in
+      rw ne refl
+
+  -- the entry of name t - 1 is set where it is free
+  pub noted : (row row′ : List ℕ) (t v : ℕ) → (t ≡ 0 → ⊥) → t - 1 < length row → 0 < v → row′ ≡ cond (eqb (getD row (t - 1) 0) 0) (set row (t - 1) v) row
+      → (by : Replacements) (n : ℕ) → over ns row′ by n ≡ over ns row (replacing t (treeAt ns (v - 1)) by) n
+  noted row row′ t v ne h p e by n =
+      let et : suc (t - 1) ≡ t = omega arith in
+      ap (λ (x : List ℕ). over ns x by n) e ∙ noted-by row (t - 1) v by n h p _ refl _ refl ∙ ap (λ (x : ℕ). over ns row (replacing x (treeAt ns (v - 1)) by) n) et
+
+  -- nothing is noted
+  pub noted-none : (row : List ℕ) (t : ℕ) (e : Expr) → t ≡ 0 → (by : Replacements) (n : ℕ) → over ns row by n ≡ over ns row (replacing t e by) n
+  unfolding over replacing
+  noted-none row t e z by n =
+      let ne : eqb (suc n) 0 ≡ false = ne-eqb (suc n) 0 (λ q. omega arith) in
+      rw (z, ne) refl
+
+  free-fit : (k : ℕ) (row : List ℕ) (j v : ℕ) (b : Bool) → RowsFit ns k row → j < length row → 0 < v → v - 1 < k → isExpr ns (v - 1) ≡ true → RowsFit ns k (cond b (set row j v) row)
+  free-fit k row j v true fit h p l x =
+      let e : suc (v - 1) ≡ v = omega arith in
+      rw e at (rows-fit-set ns k row j (v - 1) fit h l x)
+  free-fit k row j v false fit h p l x = fit
+
+  pub noted-fit : (k : ℕ) (row row′ : List ℕ) (j v : ℕ) → RowsFit ns k row → j < length row → 0 < v → v - 1 < k → isExpr ns (v - 1) ≡ true
+      → row′ ≡ cond (eqb (getD row j 0) 0) (set row j v) row → RowsFit ns k row′
+  noted-fit k row row′ j v fit h p l x e = rw e (free-fit k row j v (eqb (getD row j 0) 0) fit h p l x)
+
+length-free : (row : List ℕ) (j v : ℕ) (b : Bool) → length (cond b (set row j v) row) ≡ length row
+length-free row j v true = length-set row j v
+length-free row j v false = refl
+
+pub noted-length : (row row′ : List ℕ) (j v : ℕ) → row′ ≡ cond (eqb (getD row j 0) 0) (set row j v) row → length row′ ≡ length row
+noted-length row row′ j v e = ap length e ∙ length-free row j v (eqb (getD row j 0) 0)
+
+-- ---- an argument of an open file
+
+module _ (f : List ℕ) (s : Sections) (o : Open f s) (end : ℕ) (p : 1 ≤ end) (l : end ≤ s .counts .nodes) (k : kindAt (contentsIn f s .nodes) (end - 1) ≡ 6) where
+  pub argument-child : (2 ≤ end) × (isExpr (contentsIn f s .nodes) (end - 1 - 1) ≡ true)
+  argument-child =
+      let a = node-ok (s .counts .names) (contentsIn f s .nodes) (s .counts .nodes) (nodes-pass f s o) (end - 1) (omega arith) .argument k in
+      (omega (arith, a .0), a .2)
+
+  pub argument-keyword : nameAt (contentsIn f s .nodes) (end - 1) ≤ s .counts .names
+  argument-keyword = leb-true _ _ (node-ok (s .counts .names) (contentsIn f s .nodes) (s .counts .nodes) (nodes-pass f s o) (end - 1) (omega arith) .keyword k)
+
+-- ---- all of them
+
+pub none-at : (k n : ℕ) → _≡_ {A = ℕ} (getD (replicate k 0) n 0) 0
+none-at zero n = refl
+none-at (suc k) zero = refl
+none-at (suc k) (suc n) = none-at k n
+
+pub zeros-fit : (ns : List (List ℕ)) (k : ℕ) (row : List ℕ) → ((n : ℕ) → getD row n 0 ≡ 0) → RowsFit ns k row
+zeros-fit ns k row e j h = absurd (omega (arith, e j))
+
+module _ (f : List ℕ) (s : Sections) (m call : ℕ) where
+  -- `left` arguments before node `end` are still to be noted
+  pub record Filling (row : List ℕ) (end left : ℕ) : Type 0 where
+    pub long : length row ≡ 256
+    pub fit : RowsIn f s row
+    pub within : end ≤ s .counts .nodes
+    pub total : ℕ
+    pub args : argsFit (contentsIn f s .nodes) end left total ≡ true
+    pub noted : (n : ℕ) → over (contentsIn f s .nodes) row (replacements (modelAt (fileIn f s) m .unknowns) (argsBefore (contentsIn f s .nodes) end left total)) n
+        ≡ replacedBy f s m call n
+
+  module _ (o : Open f s) where
+    over-zeros : (row : List ℕ) → ((n : ℕ) → getD row n 0 ≡ 0) → (by : Replacements) (n : ℕ) → over (contentsIn f s .nodes) row by n ≡ by n
+    unfolding over
+    over-zeros row e by n = rw (e n) refl
+
+    pub filling-start : (row : List ℕ) (many : ℕ) → call < s .counts .nodes → kindAt (contentsIn f s .nodes) call ≡ 5 → length row ≡ 256 → ((n : ℕ) → getD row n 0 ≡ 0) → many ≡ opAt (contentsIn f s .nodes) call
+        → Filling row call many
+    filling-start row many l k long e em =
+        record {
+          long = long;
+          fit = zeros-fit (contentsIn f s .nodes) (s .counts .nodes) row e;
+          within = omega arith;
+          total = sizeAt (contentsIn f s .nodes) call - 1;
+          args = rw em (node-ok (s .counts .names) (contentsIn f s .nodes) (s .counts .nodes) (nodes-pass f s o) call l .call k);
+          noted = λ n. rw em (over-zeros row e _ n);
+        }
+
+    module _ (row : List ℕ) (end left : ℕ) (h : Filling row end left) where
+      module _ (p : 0 < left) where
+        pub filling-last : LastArg (contentsIn f s .nodes) end left (h .total)
+        filling-last = last-arg (s .counts .names) (contentsIn f s .nodes) (s .counts .nodes) (nodes-pass f s o) end left (h .total) (h .within) (h .args) (λ z. omega arith)
+
+        last-noted : (row′ : List ℕ) (n : ℕ)
+            → ((by : Replacements) (n : ℕ) → over (contentsIn f s .nodes) row′ by n ≡ over (contentsIn f s .nodes) row (replacing (replacedName (modelAt (fileIn f s) m .unknowns) (left - 1) (nameAt (contentsIn f s .nodes) (end - 1))) (treeAt (contentsIn f s .nodes) (end - 1 - 1)) by) n)
+            → over (contentsIn f s .nodes) row′ (replacements (modelAt (fileIn f s) m .unknowns) (argsBefore (contentsIn f s .nodes) (end - sizeAt (contentsIn f s .nodes) (end - 1)) (left - 1) (h .total - sizeAt (contentsIn f s .nodes) (end - 1)))) n
+            ≡ over (contentsIn f s .nodes) row (replacements (modelAt (fileIn f s) m .unknowns) (argsBefore (contentsIn f s .nodes) end left (h .total))) n
+        unfolding over replacing replacements
+        last-noted row′ n g =
+            let ok = nodes-pass f s o in
+            let ne : (left ≡ 0) → ⊥ = λ z. omega arith in
+            let b : end - sizeAt (contentsIn f s .nodes) (end - 1) ≤ s .counts .nodes = omega (arith, h .within) in
+            g (replacements (modelAt (fileIn f s) m .unknowns) (argsBefore (contentsIn f s .nodes) (end - sizeAt (contentsIn f s .nodes) (end - 1)) (left - 1) (h .total - sizeAt (contentsIn f s .nodes) (end - 1)))) n
+            ∙ sym (rw (args-more (s .counts .names) (contentsIn f s .nodes) (s .counts .nodes) ok end left (h .total) (h .within) (h .args) ne, count-before (s .counts .names) (contentsIn f s .nodes) (s .counts .nodes) ok (left - 1) _ _ b (filling-last .rest)) refl)
+
+        pub filling-step : (row′ : List ℕ) (z : ℕ) → z ≡ sizeAt (contentsIn f s .nodes) (end - 1)
+            → (length row′ ≡ 256) × RowsIn f s row′
+            × ((by : Replacements) (n : ℕ) → over (contentsIn f s .nodes) row′ by n ≡ over (contentsIn f s .nodes) row (replacing (replacedName (modelAt (fileIn f s) m .unknowns) (left - 1) (nameAt (contentsIn f s .nodes) (end - 1))) (treeAt (contentsIn f s .nodes) (end - 1 - 1)) by) n)
+            → Filling row′ (end - z) (left - 1)
+        filling-step row′ z e g =
+            record {
+              long = g .0;
+              fit = g .1;
+              within = omega (arith, h .within);
+              total = h .total - z;
+              args = rw e (filling-last .rest);
+              noted = λ n. rw e (last-noted row′ n (g .2)) ∙ h .noted n;
+            }
+
+      pub filling-end : left ≤ 0 → (n : ℕ) → byTable (contentsIn f s .nodes) row n
+          ≡ replacedBy f s m call n
+      unfolding over byTable replacements
+      filling-end z n =
+          let e : left ≡ 0 = omega arith in
+          sym (rw (args-none (contentsIn f s .nodes) end left (h .total) e) refl) ∙ h .noted n
+
+-- ---- a row cleared
+
+pub zeros-more : (row : List ℕ) (i : ℕ) → i < length row → take i row ≡ replicate i 0 → take (i + 1) (set row i 0) ≡ replicate (i + 1) 0
+zeros-more row i h e = take-step row i 0 h e ∙ replicate-append-replicate i 1 0
+
+-- ---- a row lent out of the rows of all levels
+
+module _ (P : ℕ → Type 0) (none : P 0) where
+  all-append : (xs ys : List ℕ) → ((j : ℕ) → P (getD xs j 0)) → ((j : ℕ) → P (getD ys j 0)) → (j : ℕ) → P (getD (xs ++ ys) j 0)
+  all-append [] ys h g j = g j
+  all-append (x ∷ xs) ys h g zero = h zero
+  all-append (x ∷ xs) ys h g (suc j) = all-append xs ys (λ i. h (suc i)) g j
+
+  all-take : (n : ℕ) (xs : List ℕ) → ((j : ℕ) → P (getD xs j 0)) → (j : ℕ) → P (getD (take n xs) j 0)
+  all-take zero xs h j = none
+  all-take (suc n) [] h j = none
+  all-take (suc n) (x ∷ xs) h zero = h zero
+  all-take (suc n) (x ∷ xs) h (suc j) = all-take n xs (λ i. h (suc i)) j
+
+  all-drop : (n : ℕ) (xs : List ℕ) → ((j : ℕ) → P (getD xs j 0)) → (j : ℕ) → P (getD (drop n xs) j 0)
+  all-drop n xs h j = rw (getD-drop n xs j 0) (h (n + j))
+
+module _ (ns : List (List ℕ)) (k : ℕ) where
+  rows-fit-join : (a b : List ℕ) (n m : ℕ) → RowsFit ns k a → RowsFit ns k b → RowsFit ns k (take n a ++ (b ++ drop m (drop n a)))
+  rows-fit-join a b n m h g =
+      let P : ℕ → Type 0 = λ t. 0 < t → (t - 1 < k) × (isExpr ns (t - 1) ≡ true) in
+      let z : P 0 = λ p. absurd (omega arith) in
+      all-append P z (take n a) (b ++ drop m (drop n a)) (all-take P z n a h) (all-append P z b (drop m (drop n a)) g (all-drop P z m (drop n a) (all-drop P z n a h)))
+
+  pub row-lent : (rows ys : List ℕ) (from w : ℕ) (by : Replacements) → from + 256 ≤ length rows → w ≡ 256 → RowsFit ns k rows
+      → (length ys ≡ 256) × RowsFit ns k ys × ((n : ℕ) → byTable ns ys n ≡ by n)
+      → ((length (take from rows ++ (ys ++ drop w (drop from rows))) ≡ length rows)
+      × (take from (take from rows ++ (ys ++ drop w (drop from rows))) ≡ take from rows)
+      × RowsFit ns k (take from rows ++ (ys ++ drop w (drop from rows))))
+      × ((n : ℕ) → byTable ns (take 256 (drop from (take from rows ++ (ys ++ drop w (drop from rows))))) n ≡ by n)
+  row-lent rows ys from w by h ew fit g =
+      let l : length (take from rows) ≡ from = length-take-le from rows (omega arith) in
+      let row : take 256 (drop from (take from rows ++ (ys ++ drop w (drop from rows)))) ≡ ys = rw (drop-at (take from rows) (ys ++ drop w (drop from rows)) from l) (take-at ys (drop w (drop from rows)) 256 (g .0)) in
+      ((simp (length-append, length-drop) (omega (arith, l, g .0)), take-at (take from rows) (ys ++ drop w (drop from rows)) from l, rows-fit-join rows ys from w fit (g .1)), λ n. ap (λ (x : List ℕ). byTable ns x n) row ∙ g .2 n)

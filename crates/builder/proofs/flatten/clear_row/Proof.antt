@@ -1,0 +1,57 @@
+use native.Mathlib.Omega.{arith}
+use mathlib.Core.Path.{_≡_, refl, sym, _∙_}
+use Prim.Native.Nat.{_-_, _≤_, _<_}
+use lib.ListN.{length, take, replicate, length-set}
+use lib.Seq.{take-all}
+use Rattle.builder.proofs.Replacing.{zeros-more}
+use Rattle.builder.proofs.flatten.clear_row.Statement.{statement}
+use Rattle.builder.proofs.flatten.clear_row.Tie as tie
+
+abbrev Inv-loop : tie.InvT-loop
+Inv-loop row₀ i₀ row i = (i ≤ length row₀) × (length row ≡ length row₀) × (take i row ≡ replicate i 0)
+
+abbrev μ-loop : tie.MeasureT-loop
+μ-loop row₀ i₀ row i = length row - i
+
+loop-holds : tie.Need-loop-holds Inv-loop μ-loop
+loop-holds c = (omega arith, refl, refl)
+
+mul-row : tie.Need-mul-row Inv-loop μ-loop
+mul-row c = omega arith
+
+slice-write-row : tie.Need-slice-write-row Inv-loop μ-loop
+slice-write-row c = omega arith
+
+add-i : tie.Need-add-i Inv-loop μ-loop
+add-i c = omega arith
+
+loop-less : tie.Need-loop-less Inv-loop μ-loop
+loop-less c = simp length-set (omega arith)
+
+loop-again : tie.Need-loop-again Inv-loop μ-loop
+loop-again c = let inv = c .before .loop .inv in
+    let l : c .before .loop .i < length (c .before .loop .row) = omega arith in
+    (omega arith, simp length-set (inv .1), zeros-more _ _ l (inv .2))
+
+same-length : tie.Need-same-length Inv-loop μ-loop
+same-length c = c .before .loop .inv .1
+
+returns : tie.Need-returns Inv-loop μ-loop
+returns c = let inv = c .before .loop .inv in
+    let e : c .before .loop .i ≡ length (c .before .before .args .row .now) = omega arith in
+    sym (take-all (c .before .loop .i) (c .before .loop .row) (omega arith)) ∙ inv .2 ∙ rw e
+
+pub clear-row-spec : {M : Type 1} → statement M
+clear-row-spec =
+    tie.close
+    (tie.spec
+    Inv-loop
+    μ-loop
+    loop-holds
+    mul-row
+    slice-write-row
+    add-i
+    loop-less
+    loop-again
+    same-length
+    returns)

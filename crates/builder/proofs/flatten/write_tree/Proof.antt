@@ -1,0 +1,55 @@
+use mathlib.Core.Path.{refl}
+use native.Mathlib.Omega.{arith}
+use lib.ListN.{length-take, length-drop}
+use Rattle.ast.proofs.Opened.{ranges}
+use Rattle.builder.proofs.Descents.{ready, readable}
+use Rattle.builder.proofs.Putting.{bearing-size, tree-put}
+use borrow.Author.Needs.{needs}
+use Rattle.builder.proofs.flatten.write_tree.Statement.{statement}
+use Rattle.builder.proofs.flatten.write_tree.Tie as tie
+
+record-word-requires : tie.Need-record-word-requires
+record-word-requires c κs = (omega (arith, ranges (c .before .before .before .args .f .now) (c .before .before .before .args .s) (c .before .before .before .pre .0) .nodes), c .before .before .before .pre .1 .0, omega arith)
+
+record-word-requires-2 : tie.Need-record-word-requires-2
+record-word-requires-2 c κs = (omega (arith, ranges (c .before .before .before .before .args .f .now) (c .before .before .before .before .args .s) (c .before .before .before .before .pre .0) .nodes), c .before .before .before .before .pre .1 .0, omega arith)
+
+mul-start : tie.Need-mul-start
+mul-start c = search needs
+
+sub-clone-and-subst : tie.Need-sub-clone-and-subst
+sub-clone-and-subst c = search needs
+
+part-clone-and-subst-start : tie.Need-part-clone-and-subst-start
+part-clone-and-subst-start c = search needs
+
+part-clone-and-subst-end : tie.Need-part-clone-and-subst-end
+part-clone-and-subst-end c = search needs
+
+clone-and-subst-requires : tie.Need-clone-and-subst-requires
+clone-and-subst-requires c κs = let p = c .before .before .before .before .before .before .pre in let z = bearing-size (c .before .before .before .before .before .before .args .f .now) (c .before .before .before .before .before .before .args .s) (c .before .before .before .before .before .before .pre .0) (c .before .before .before .before .before .before .args .rows .now) (c .before .before .before .before .before .before .args .level) (c .before .before .before .before .before .before .args .i) (c .before .before .record-word .result) (c .before .record-word2 .result) in
+    (ready (c .before .before .before .before .before .before .args .f .now) (c .before .before .before .before .before .before .args .s) (c .before .before .before .before .before .before .pre .0) (c .before .before .before .before .before .before .args .rows .now) (p .2 .2), (p .2 .0, p .2 .1), readable (c .before .before .before .before .before .before .args .f .now) (c .before .before .before .before .before .before .args .s) (c .before .before .before .before .before .before .pre .0) _ _ refl (p .1), (omega (arith, z, p .3 .0), simp (length-take, length-drop) (omega (arith, z, p .3 .1))))
+
+add-result : tie.Need-add-result
+add-result c = let z = bearing-size (c .before .before .before .before .before .before .before .before .before .args .f .now) (c .before .before .before .before .before .before .before .before .before .args .s) (c .before .before .before .before .before .before .before .before .before .pre .0) (c .before .before .before .before .before .before .before .before .before .args .rows .now) (c .before .before .before .before .before .before .before .before .before .args .level) (c .before .before .before .before .before .before .before .before .before .args .i) (c .before .before .before .before .before .record-word .result) (c .before .before .before .before .record-word2 .result) in omega (arith, z, c .before .before .before .before .before .before .before .before .before .pre .3 .0, c .before .before .clone-and-subst .ensures .0)
+
+same-length : tie.Need-same-length
+same-length c = search needs
+
+returns : tie.Need-returns
+returns c = let p = c .before .before .before .before .before .before .before .before .before .pre in tree-put (c .before .before .before .before .before .before .before .before .before .args .f .now) (c .before .before .before .before .before .before .before .before .before .args .s) (c .before .before .before .before .before .before .before .before .before .pre .0) (c .before .before .before .before .before .before .before .before .before .args .rows .now) (c .before .before .before .before .before .before .before .before .before .args .level) (c .before .before .before .before .before .before .before .before .before .args .i) _ _ (c .before .before .before .before .before .before .before .before .before .args .out .now) _ (c .before .before .before .before .before .before .before .before .before .args .done) _ (omega (arith, p .3 .1)) (p .1 .0) (p .1 .1) (c .before .before .before .before .before .record-word .ensures) (c .before .before .before .before .record-word2 .ensures) (c .before .before .clone-and-subst .ensures)
+
+pub write-tree-spec : {M : Type 1} → statement M
+write-tree-spec =
+    tie.close
+    (tie.spec
+    record-word-requires
+    record-word-requires-2
+    mul-start
+    sub-clone-and-subst
+    part-clone-and-subst-start
+    part-clone-and-subst-end
+    clone-and-subst-requires
+    add-result
+    same-length
+    returns)

@@ -1,0 +1,125 @@
+-- The tables of a model's variables: names, numbers, kept dependents, reaching time, and bounds.
+use Prim.Native.Nat.{ℕ, zero, suc, _+_, _-_, _*_, _≤_, _<_}
+use mathlib.Core.Path.{_≡_}
+use mathlib.Core.Bool.{Bool, true, cond, _||_}
+use mathlib.Core.List.{List, [], _∷_, _++_}
+use lib.Dec.{ltb, eqb}
+use lib.ListN.{length, take, drop, getD}
+use Rattle.functions.specs.Lists.{any, all, each, member, plusOne, reaches, flag}
+use Rattle.ast.specs.Tree.{Unknown}
+use Rattle.ast.specs.Words.{words}
+use Rattle.ast.specs.Numbers.{numberOf}
+use Rattle.ast.specs.declared.numbers as numbers
+use Rattle.ast.specs.declared.numbers.Domain.the-variants.{None, Span, Named}
+use Rattle.ast.specs.Records.{unknownOf}
+use Rattle.ast.specs.Opens.{contentsIn, fileIn}
+use Rattle.ast.specs.declared.sections.Sections.{Sections}
+use Rattle.builder.specs.Variables as vars
+use Rattle.builder.specs.Variables.{variableNames, keptDeps, Bounds, fromZero, unbounded, domainBounds}
+use Rattle.builder.specs.Flatten.{modelAt}
+use Rattle.builder.specs.declared.variables.Roster.{Roster}
+
+-- ---- dependents, as words of bytes: those of variable v go from starts v up to starts (v + 1)
+
+unfoldable pub wordsFrom : List ℕ → ℕ → ℕ → List ℕ
+wordsFrom bytes first end = take (end - first) (drop first (words bytes))
+
+unfoldable pub nextIn : List ℕ → List ℕ → ℕ → List ℕ
+nextIn starts deps v = wordsFrom deps (getD starts v 0) (getD starts (v + 1) 0)
+
+-- the starts rise within the bytes, and each dependent is one of `vars` variables
+pub record DepsIn (starts deps : List ℕ) (vars : ℕ) : Type 0 where
+  pub few : vars ≤ 129
+  pub rise : (v : ℕ) → v < vars → getD starts v 0 ≤ getD starts (v + 1) 0
+  pub within : (v : ℕ) → v < vars → 4 * getD starts (v + 1) 0 ≤ length deps
+  pub below : (v : ℕ) → v < vars → all (λ d. ltb d vars) (nextIn starts deps v) ≡ true
+
+-- a step to t, variable 0, or to a variable that the table marks
+unfoldable pub leads : List ℕ → ℕ → Bool
+leads old d = eqb d 0 || eqb (getD old d 0) 1
+
+-- the next round: 1 for each variable from which a step leads there
+pub record Round (starts deps : List ℕ) (vars : ℕ) (old new : List ℕ) : Type 0 where
+  pub mark : (v : ℕ) → v < vars → getD new v 0 ≡ flag (any (leads old) (nextIn starts deps v))
+
+-- 1 for each variable from which t is reached by at most k steps
+pub record TimeReached (starts deps : List ℕ) (vars k : ℕ) (table : List ℕ) : Type 0 where
+  pub mark : (v : ℕ) → v < vars → getD table v 0 ≡ flag (reaches (nextIn starts deps) k v 0)
+
+-- ---- the variables' names, plus 1, by number, and their numbers, plus 1 or 0, by name
+
+-- the first of n places from i on that holds 0, plus 1, or 0
+unfoldable pub firstZero : List ℕ → ℕ → ℕ → ℕ
+firstZero table i zero = 0
+firstZero table i (suc n) = cond (eqb (getD table i 0) 0) (suc i) (firstZero table (suc i) n)
+
+unfoldable pub listed : Roster → List ℕ
+listed r = take (r .count) (r .names)
+
+-- a name that is new goes behind those there are
+unfoldable pub declareOne : List ℕ → ℕ → List ℕ
+declareOne vs n = cond (member (suc n) vs) vs (vs ++ suc n ∷ [])
+
+pub record Numbers (vs table : List ℕ) : Type 0 where
+  pub number : (n : ℕ) → n < 256 → getD table n 0 ≡ plusOne (vars.numberOf vs n)
+
+pub record Listing (vs : List ℕ) (r : Roster) : Type 0 where
+  pub few : r .count ≤ 129
+  pub count : r .count ≡ length vs
+  pub names : take (r .count) (r .names) ≡ vs
+  pub numbers : Numbers vs (r .numbers)
+  pub room : length (r .names) ≡ 129
+  pub every : length (r .numbers) ≡ 256
+
+-- the unknowns of model m, and the names of its variables
+unfoldable pub unknownsIn : List ℕ → Sections → ℕ → List Unknown
+unknownsIn f s m = modelAt (fileIn f s) m .unknowns
+
+unfoldable pub rosterIn : List ℕ → Sections → ℕ → List ℕ
+rosterIn f s m = variableNames (fileIn f s .names) (unknownsIn f s m)
+
+-- unknown u of the file
+unfoldable pub unknownIn : List ℕ → Sections → ℕ → Unknown
+unknownIn f s u = unknownOf (contentsIn f s .deps) (getD (contentsIn f s .unknowns) u [])
+
+-- ---- kept dependents, by the table of numbers
+
+unfoldable pub oneBelow : ℕ → List ℕ
+oneBelow zero = []
+oneBelow (suc v) = v ∷ []
+
+unfoldable pub keptBy : List ℕ → List ℕ → List ℕ
+keptBy table ds = each (λ d. oneBelow (getD table d 0)) ds
+
+-- where each variable's kept dependents begin, and, last, where they end
+pub record StartsOf (vs : List ℕ) (us : List Unknown) (starts : List ℕ) : Type 0 where
+  pub start : (v : ℕ) → v ≤ length vs → getD starts v 0 ≡ length (each (keptDeps vs us) (take v vs))
+
+-- ---- bounds
+
+-- from 0 to infinity, or unbounded
+unfoldable pub fromZeroIf : Bool → Bounds
+fromZeroIf z = cond z fromZero unbounded
+
+-- a bounds pair in the code's terms
+unfoldable pub boundsValue : Bounds → numbers.Bounds.Bounds
+boundsValue b = record { lower = numberOf (b .lower); upper = numberOf (b .upper) }
+
+-- the bounds of a domain: its own, or by whether its name is NonNegative, or by whether its unknown is t
+unfoldable pub boundsGiven : numbers.Domain.Domain → Bool → Bool → numbers.Bounds.Bounds
+boundsGiven None time nonneg = boundsValue (fromZeroIf time)
+boundsGiven (Span l u) time nonneg = record { lower = l; upper = u }
+boundsGiven (Named d) time nonneg = boundsValue (fromZeroIf nonneg)
+
+-- the unknown, plus 1, of those from number i on, that declares a name (plus 1) last, or o
+unfoldable pub lastDeclared : ℕ → ℕ → ℕ → List Unknown → ℕ
+lastDeclared v i o [] = o
+lastDeclared v i o (u ∷ us) = lastDeclared v (suc i) (cond (eqb (suc (u .name)) v) (suc i) o) us
+
+-- the bounds that unknown u declares, and those that it declares plus 1, or others for 0
+unfoldable pub boundsIn : List ℕ → Sections → ℕ → Bounds
+boundsIn f s u = domainBounds (fileIn f s .names) (unknownIn f s u .name) (unknownIn f s u .domain)
+
+unfoldable pub declaredBounds : List ℕ → Sections → ℕ → Bounds → Bounds
+declaredBounds f s zero b = b
+declaredBounds f s (suc u) b = boundsIn f s u
