@@ -50,3 +50,8 @@ pub mod Rosters
 pub mod PutWords
 pub mod KeptDependents
 pub mod Bounding
+pub mod Flats
+pub mod LeftSides
+pub mod ListedAt
+pub mod RoleErrors
+pub mod Allocations

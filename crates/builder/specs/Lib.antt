@@ -18,6 +18,8 @@ pub mod Listing
 pub mod Checking
 pub mod Descent
 pub mod Overlay
+pub mod Places
+pub mod Allocating
 pub mod Computes
 pub mod Examples
 pub mod OwnExamples

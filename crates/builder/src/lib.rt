@@ -1,4 +1,5 @@
 // The continuous builder: from a tree file and a root name to an answer area.
+pub mod allocate;
 pub mod check;
 pub mod errors;
 pub mod flatten;
@@ -6,6 +7,7 @@ pub mod models;
 pub mod names;
 pub mod output;
 pub mod pairing;
+pub mod places;
 pub mod reached;
 pub mod scope;
 pub mod sizes;

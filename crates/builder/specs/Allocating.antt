@@ -1,0 +1,201 @@
+-- What each flattened statement of an answer's area asks for, by tables of the root's variables.
+use Prim.Native.Nat.{ℕ, zero, suc, _+_, _-_, _*_, _≤_, _<_}
+use mathlib.Core.Path.{_≡_}
+use mathlib.Core.Logic.{_⊎_}
+use mathlib.Core.Bool.{Bool, true, false, cond}
+use mathlib.Core.List.{List, [], _∷_, _++_, map}
+use mathlib.Core.Option.{Option, none, some}
+use lib.Dec.{eqb, leb}
+use lib.ListN.{length, take, drop, getD}
+use Rattle.functions.specs.Lists.{unless, plusOne, flag, _>>=_}
+use Rattle.ast.specs.Tree.{Span, Expr, name, number, binary, unary, call, Args, Flat, equation, rate, count}
+use Rattle.ast.specs.Words.{section, wordOf, spanFrom}
+use Rattle.ast.specs.Nodes.{kindAt, nameAt, opAt, sizeAt, spanAt, bitsAt, treeAt, isExpr, nodesFit}
+use Rattle.builder.specs.Numbers.{nameNotFound, wrongStart, rateInvalid}
+use Rattle.builder.specs.Variables.{Error, error, Bounds, at, timeIndex}
+use Rattle.builder.specs.Check.{Scope, lookup}
+use Rattle.builder.specs.Roles.{Start, argAt, numberIn, sameFloat, takesRate}
+use Rattle.builder.specs.Listing.{listed}
+use Rattle.builder.specs.Places.{Small, stmtsAt}
+use Rattle.builder.specs.declared.places.Sizes.{Sizes}
+use Rattle.builder.specs.declared.allocate.Start as found
+use Rattle.builder.specs.declared.allocate.Start.the-variants.{Nothing, Short, Number}
+
+-- ---- the statements of an area: kind (1 for an equation, 2 for a rate equation), name, left top, right top, span, fate, variable
+
+unfoldable pub flatAt : List (List ℕ) → List ℕ → Flat
+flatAt ns r =
+    cond (eqb (wordOf r 0) 1) (equation (treeAt ns (wordOf r 2)) (treeAt ns (wordOf r 3)) (spanFrom r 4))
+    (rate (wordOf r 1) (treeAt ns (wordOf r 3)) (spanFrom r 4))
+
+module _ (b : List ℕ) (z : Sizes) where
+  -- the nodes and the statements' records
+  abbrev pub nodesIn : List (List ℕ)
+  nodesIn = section 8 (z .nodes) 40 b
+
+  abbrev pub stmtsIn : List (List ℕ)
+  stmtsIn = section 8 (z .stmts) (stmtsAt z) b
+
+  abbrev pub stmtIn : ℕ → List ℕ
+  stmtIn i = getD stmtsIn i []
+
+  -- statement i, and all of them
+  unfoldable pub flatIn : ℕ → Flat
+  flatIn i = flatAt nodesIn (stmtIn i)
+
+  unfoldable pub flatsIn : List Flat
+  flatsIn = map (flatAt nodesIn) stmtsIn
+
+-- An area with the nodes and statements of a flattened model, where there are `names` names.
+pub record Flattened (names : ℕ) (b : List ℕ) (z : Sizes) : Type 0 where
+  pub long : 40 + 32 * z .nodes + 32 * z .stmts ≤ length b
+  pub small : Small z
+  pub few : names ≤ 256
+  pub nodes : nodesFit names (nodesIn b z) (z .nodes) ≡ true
+  pub kind : (i : ℕ) → i < z .stmts → (wordOf (stmtIn b z i) 0 ≡ 1) ⊎ (wordOf (stmtIn b z i) 0 ≡ 2)
+  pub right : (i : ℕ) → i < z .stmts → (wordOf (stmtIn b z i) 3 < z .nodes) × (isExpr (nodesIn b z) (wordOf (stmtIn b z i) 3) ≡ true)
+  pub left : (i : ℕ) → i < z .stmts → wordOf (stmtIn b z i) 0 ≡ 1 → (wordOf (stmtIn b z i) 2 < z .nodes) × (isExpr (nodesIn b z) (wordOf (stmtIn b z i) 2) ≡ true)
+  pub name : (i : ℕ) → i < z .stmts → wordOf (stmtIn b z i) 0 ≡ 2 → wordOf (stmtIn b z i) 1 < names
+
+-- ---- tables: `numbers` has each name's variable number plus 1 or 0, `indexes` each variable's time index plus 1 or 0, `rates` 1 for each
+-- variable that a rate equation may go to; `lower` is time's lower bound
+
+-- one less than an entry, and none for 0
+unfoldable pub lessOne : ℕ → Option ℕ
+lessOne zero = none
+lessOne (suc n) = some n
+
+unfoldable pub entryBy : List ℕ → ℕ → Option ℕ
+entryBy table n = lessOne (getD table n 0)
+
+-- tables that are long enough, for names up to 256 and variables up to 129
+pub record Tabled (z : Sizes) (numbers indexes : List ℕ) : Type 0 where
+  pub names : 256 ≤ length numbers
+  pub vars : 129 ≤ length indexes
+  pub entries : (n : ℕ) → n < 256 → getD numbers n 0 ≤ z .vars
+
+module _ (numbers indexes : List ℕ) where
+  -- A left side that is itself a call by a variable's name with a number in time's place.
+  unfoldable pub startBy : Expr → Option Start
+  startBy (name n s) = none
+  startBy (number b s) = none
+  startBy (binary o l r s) = none
+  startBy (unary o e s) = none
+  startBy (call f a s) = do
+    v ← entryBy numbers f
+    i ← entryBy indexes v
+    (e, z) ← argAt i a
+    b ← numberIn e
+    some (record { variable = v; caller = f; bits = b; span = z })
+
+  -- Refusal 10: a left side that is a call with too few arguments to reach its variable's time index.
+  unfoldable pub fewFor : Args → Option ℕ → Bool
+  fewFor a none = false
+  fewFor a (some i) = leb (count a) i
+
+  unfoldable pub shortCallBy : Args → Option ℕ → Bool
+  shortCallBy a none = false
+  shortCallBy a (some v) = fewFor a (entryBy indexes v)
+
+  unfoldable pub shortLeftBy : Expr → Bool
+  shortLeftBy (name n s) = false
+  shortLeftBy (number b s) = false
+  shortLeftBy (binary o l r s) = false
+  shortLeftBy (unary o e s) = false
+  shortLeftBy (call f a s) = shortCallBy a (entryBy numbers f)
+
+  unfoldable pub shortBy : Flat → Bool
+  shortBy (equation l r s) = shortLeftBy l
+  shortBy (rate n r s) = false
+
+-- Roles as numbers: 0 for neither, 2 v + 1 for an initial condition of v, 2 v + 2 for a rate equation that goes to v.
+unfoldable pub startNumber : ℕ → Option Start → ℕ
+startNumber lower none = 0
+startNumber lower (some x) = cond (sameFloat (x .bits) lower) (2 * x .variable + 1) 0
+
+unfoldable pub startErrorsBy : ℕ → Option Start → List Error
+startErrorsBy lower none = []
+startErrorsBy lower (some x) = unless (sameFloat (x .bits) lower) (error wrongStart (x .span) (suc (x .caller)))
+
+unfoldable pub rateNumber : List ℕ → Option ℕ → ℕ
+rateNumber rates none = 0
+rateNumber rates (some v) = cond (eqb (getD rates v 0) 1) (2 * v + 2) 0
+
+unfoldable pub rateErrorsBy : List ℕ → ℕ → Span → Option ℕ → List Error
+rateErrorsBy rates n s none = error nameNotFound s (suc n) ∷ []
+rateErrorsBy rates n s (some v) = unless (eqb (getD rates v 0) 1) (error rateInvalid s (suc n))
+
+module _ (numbers indexes rates : List ℕ) (lower : ℕ) where
+  unfoldable pub roleBy : Flat → ℕ
+  roleBy (equation l r s) = startNumber lower (startBy numbers indexes l)
+  roleBy (rate n r s) = rateNumber rates (entryBy numbers n)
+
+  unfoldable pub roleErrorsBy : Flat → List Error
+  roleErrorsBy (equation l r s) = startErrorsBy lower (startBy numbers indexes l)
+  roleErrorsBy (rate n r s) = rateErrorsBy rates n s (entryBy numbers n)
+
+-- The tables are those of a scope and of time's bounds.
+pub record Agree (c : Scope) (time : Bounds) (numbers indexes rates : List ℕ) (lower : ℕ) : Type 0 where
+  pub number : (n : ℕ) → n < length (c .names) → getD numbers n 0 ≡ plusOne (lookup c n)
+  pub index : (v : ℕ) → v < length (c .vars) → getD indexes v 0 ≡ plusOne (timeIndex (at (c .vars) v))
+  pub rate : (v : ℕ) → v < length (c .vars) → getD rates v 0 ≡ flag (takesRate c v)
+  pub low : lower ≡ time .lower
+
+-- ---- the code's answer for a left side
+
+module _ (ns : List (List ℕ)) where
+  -- the node of argument number k, of c arguments directly before node `end`
+  unfoldable pub argNode : ℕ → ℕ → ℕ → ℕ
+  argNode k end zero = 0
+  argNode k end (suc c) = cond (eqb k c) (end - 1) (argNode k (end - sizeAt ns (end - 1)) c)
+
+  -- what each answer is of a call by name f: none, one too short, or a variable and the node of the argument whose expression is the number
+  unfoldable pub foundStart : ℕ → found.Start → Option Start
+  foundStart f Nothing = none
+  foundStart f Short = none
+  foundStart f (Number v a) = some (record { variable = v; caller = f; bits = bitsAt ns (a - 1); span = spanAt ns a })
+
+  -- the answer for argument node a of a call by variable v
+  unfoldable pub atArg : ℕ → ℕ → found.Start
+  atArg v a = cond (eqb (kindAt ns (a - 1)) 2) (Number v a) Nothing
+
+  -- the answer for the call at node i by variable v, by v's time index
+  unfoldable pub atIndex : ℕ → ℕ → Option ℕ → found.Start
+  atIndex i v none = Nothing
+  atIndex i v (some k) = cond (leb (opAt ns i) k) Short (atArg v (argNode k i (opAt ns i)))
+
+  module _ (numbers indexes : List ℕ) where
+    -- by its variable
+    unfoldable pub atVariable : ℕ → Option ℕ → found.Start
+    atVariable i none = Nothing
+    atVariable i (some v) = atIndex i v (entryBy indexes v)
+
+    -- the answer for node i
+    unfoldable pub startAt : ℕ → found.Start
+    startAt i = cond (eqb (kindAt ns i) 5) (atVariable i (entryBy numbers (nameAt ns i))) Nothing
+
+unfoldable pub isShort : found.Start → Bool
+isShort Nothing = false
+isShort Short = true
+isShort (Number v a) = false
+
+-- an answer whose variable and nodes are there
+unfoldable pub StartFits : Sizes → found.Start → Type 0
+StartFits z Nothing = Unit {0}
+StartFits z Short = Unit {0}
+StartFits z (Number v a) = (v < z .vars) × (1 ≤ a) × (a < z .nodes)
+
+-- an answer with a number is of a call, whose name there is
+unfoldable pub CallFits : List (List ℕ) → ℕ → found.Start → Type 0
+CallFits ns i Nothing = Unit {0}
+CallFits ns i Short = Unit {0}
+CallFits ns i (Number v a) = nameAt ns i < 256
+
+-- ---- errors listed in an area whose errors begin at byte k
+
+unfoldable pub listedAt : ℕ → List ℕ → ℕ → List Error → List ℕ
+listedAt k d n es = take k d ++ listed (drop k d) n es
+
+-- From n errors in the area d, the errors es lead to r errors in the area d′.
+abbrev pub ListsAt : ℕ → List ℕ → ℕ → List Error → ℕ → List ℕ → Type 0
+ListsAt k d n es r d′ = (r ≡ n + length es) × (d′ ≡ listedAt k d n es)
