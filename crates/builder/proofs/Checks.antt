@@ -88,7 +88,7 @@ module _ {f : List ℕ} {s : Sections} where
         pub args-rest : ArgsIn f s (end - z) (c - 1) (t - z)
         args-rest = record { opened = a .opened; within = omega (arith, a .within); fits = rw ez (arg-last .rest) }
 
-        args-are : argsIn f s end c t ≡ snoc (argsIn f s (end - z) (c - 1) (t - z)) (nameAt (nodesOf f s) (end - 1)) (treeIn f s (end - 1 - 1)) (spanAt (nodesOf f s) (end - 1))
+        pub args-are : argsIn f s end c t ≡ snoc (argsIn f s (end - z) (c - 1) (t - z)) (nameAt (nodesOf f s) (end - 1)) (treeIn f s (end - 1 - 1)) (spanAt (nodesOf f s) (end - 1))
         args-are = rw ez (args-more _ _ _ (nodes-fit (a .opened)) end c t (a .within) (a .fits) ne)
 
         pub args-more-errors : (v : Scope) → Joins (argsErrors v (argsIn f s end c t)) (argsErrors v (argsIn f s (end - z) (c - 1) (t - z))) (exprErrors v (treeIn f s (end - 1 - 1)))

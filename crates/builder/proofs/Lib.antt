@@ -55,3 +55,5 @@ pub mod LeftSides
 pub mod ListedAt
 pub mod RoleErrors
 pub mod Allocations
+pub mod ModelErrors
+pub mod ScopeTables

@@ -4,13 +4,15 @@ use mathlib.Core.Bool.{true}
 use mathlib.Core.List.{List, []}
 use mathlib.Core.Option.{Option, none, some}
 use Prim.Native.Nat.{ℕ, _-_, _≤_, _<_}
-use Rattle.ast.specs.Tree.{Expr, Args}
+use lib.ListN.{getD}
+use Rattle.ast.specs.Tree.{Expr, Args, Stmt, Unknown}
 use Rattle.ast.specs.Nodes.{kindAt, opAt, sizeAt, isExpr, argsFit, treeAt, argsBefore}
+use Rattle.ast.specs.Records.{unknownOf, stmtOf}
 use Rattle.ast.specs.Opens.{Open, contentsIn, fileIn}
 use Rattle.ast.specs.declared.sections.Sections.{Sections}
 use Rattle.builder.specs.Check.{Scope, depNames}
 use Rattle.builder.specs.Flatten.{modelAt, scopeOf}
-use Rattle.builder.specs.Tables.{Classes, RuleNumbers, VarsOf}
+use Rattle.builder.specs.Tables.{Classes, RuleNumbers, Callees, VarsOf}
 
 module _ (f : List ℕ) (s : Sections) where
   abbrev pub nodesOf : List (List ℕ)
@@ -67,3 +69,24 @@ pub record Against (f : List ℕ) (s : Sections) (m : ℕ) (cs rs vs : List ℕ)
   pub scoped : Scoped f s m vs
   pub classes : Classes (scopeIn f s m .names) cs
   pub rules : RuleNumbers (scopeIn f s m .names) rs
+
+-- The tables that the models of a file are checked with: the classes and rules of the names, and the models that the statements call.
+pub record Tabled (f : List ℕ) (s : Sections) (cs rs ts : List ℕ) : Type 0 where
+  pub opened : Open f s
+  pub classes : Classes (fileIn f s .names) cs
+  pub rules : RuleNumbers (fileIn f s .names) rs
+  pub callees : Callees f s ts
+
+-- Unknown u, and the classes of the names.
+pub record UnknownIn (f : List ℕ) (s : Sections) (cs : List ℕ) (u : ℕ) : Type 0 where
+  pub opened : Open f s
+  pub classes : Classes (fileIn f s .names) cs
+  pub within : u < s .counts .unknowns
+
+module _ (f : List ℕ) (s : Sections) where
+  -- Unknown u and statement q of the file.
+  abbrev pub unknownIn : ℕ → Unknown
+  unknownIn u = unknownOf (contentsIn f s .deps) (getD (contentsIn f s .unknowns) u [])
+
+  abbrev pub stmtIn : ℕ → Stmt
+  stmtIn q = stmtOf (contentsIn f s .nodes) (getD (contentsIn f s .stmts) q [])

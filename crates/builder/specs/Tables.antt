@@ -6,7 +6,7 @@ use lib.Dec.{eqb, ltb}
 use mathlib.Core.List.{List, [], _∷_, _++_}
 use mathlib.Core.Option.{Option, none, some}
 use lib.ListN.{length, getD}
-use Rattle.functions.specs.Lists.{text, sameText, plusOne, reaches, flag, member}
+use Rattle.functions.specs.Lists.{text, sameText, plusOne, reaches, flag, member, sumOf}
 use Rattle.functions.specs.declared.Rule.{Rule}
 use Rattle.functions.specs.declared.Rule.the-variants.{One, Two, Interp1d, Piecewise, Any}
 use Rattle.functions.specs.Rules.{ruleOf}
@@ -75,6 +75,15 @@ entryOf c (some v) = suc (length (at (c .vars) v .deps))
 
 pub record VarsOf (c : Scope) (table : List ℕ) : Type 0 where
   pub var : (n : ℕ) → n < length (c .names) → getD table n 0 ≡ entryOf c (lookup c n)
+
+-- 1 at each name that is among the variables' names, plus 1, `vs`, and 0 at every other
+pub record Marks (n : ℕ) (vs table : List ℕ) : Type 0 where
+  pub long : length table ≡ 256
+  pub mark : (k : ℕ) → k < n → getD table k 0 ≡ flag (member (suc k) vs)
+
+-- how many of some names have an entry
+unfoldable pub keptIn : List ℕ → List ℕ → ℕ
+keptIn table ds = sumOf (λ d. flag (not (eqb (getD table d 0) 0))) ds
 
 -- ---- roles of statements by number: 0 for neither, 2 v + 1 for an initial condition of v, 2 v + 2 for a rate equation that goes to v
 

@@ -38,7 +38,7 @@ fn node_error(
 }
 
 // Lists it unless a test passed.
-fn error_unless(
+pub fn error_unless(
     f: &[u8],
     s: Sections,
     i: usize,

@@ -1,5 +1,6 @@
 // The continuous builder: from a tree file and a root name to an answer area.
 pub mod allocate;
+pub mod builder;
 pub mod check;
 pub mod errors;
 pub mod flatten;

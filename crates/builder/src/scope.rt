@@ -1,14 +1,21 @@
 // What expressions of a model are checked against: which names are its variables, and how many kept dependents each has.
 ghost use mathlib.Core.Path.{_≡_};
-ghost use mathlib.Core.Bool.{true};
-ghost use mathlib.Core.List.{[]};
-ghost use Prim.Native.Nat.{suc, _<_};
+ghost use mathlib.Core.Bool.{true, cond, not};
+ghost use mathlib.Core.List.{[], _∷_};
+ghost use Prim.Native.Nat.{suc, _+_, _^_, _≤_, _<_};
+ghost use lib.Dec.{eqb};
 ghost use lib.ListN.{getD};
-ghost use Rattle.functions.specs.Lists.{isSome, member};
-ghost use Rattle.ast.specs.Opens.{Open, contentsIn};
+ghost use Rattle.functions.specs.Lists.{isSome, member, flag};
+ghost use Rattle.ast.specs.Opens.{Open, contentsIn, fileIn};
 ghost use Rattle.ast.specs.Records.{unknownOf};
+ghost use Rattle.builder.specs.Names.{timeName};
+ghost use Rattle.builder.specs.Variables.{variableNames};
 ghost use Rattle.builder.specs.Check.{lookup};
-ghost use Rattle.builder.specs.Checking.{scopeIn, keptNames, Scoped};
+ghost use Rattle.builder.specs.Flatten.{modelAt};
+ghost use Rattle.builder.specs.Tables.{Classes, VarsOf, Marks, keptIn};
+ghost use Rattle.builder.specs.Checking.{scopeIn, keptNames, unknownIn, Scoped};
+use super::names::is_reserved;
+use super::names::is_time;
 use ast::records::dep;
 use ast::records::model;
 use ast::records::unknown;
@@ -56,4 +63,109 @@ pub fn is_dep_of(
         i += 1;
     }
     false
+}
+
+// The number, plus 1, of the first name that is t, or 0.
+fn time_name(f: &[u8], s: Sections, classes: &[u8; 256]) -> usize
+    requires { ⌜ Open (now f) s × Classes (fileIn (now f) s .names) (now classes) ⌝ }
+    ensures { λ r. ⌜ r ≡ timeName (fileIn (now (f .entry)) s .names) ⌝ }
+{
+    let mut n = 0;
+    while n < s.counts.names {
+        if is_time(classes[n]) {
+            return n + 1;
+        }
+        n += 1;
+    }
+    0
+}
+
+// 1 for t's name, 0 for every other.
+fn time_declared(f: &[u8], s: Sections, classes: &[u8; 256]) -> [u32; 256]
+    requires { ⌜ Open (now f) s × Classes (fileIn (now f) s .names) (now classes) ⌝ }
+    ensures { λ r. ⌜ Marks (s .counts .names) (timeName (fileIn (now (f .entry)) s .names) ∷ []) r ⌝ }
+{
+    let time = time_name(f, s, classes);
+    let mut out = [0u32; 256];
+    if time == 0 {
+        return out;
+    }
+    out[time - 1] = 1;
+    out
+}
+
+// The mark of an unknown's name: as it was where the name is reserved, else 1.
+fn marked(old: u32, reserved: bool) -> u32
+    ensures { λ r. ⌜ r ≡ cond reserved old 1 ⌝ }
+{
+    if reserved { old } else { 1 }
+}
+
+// For each name 0 where it is no variable of model m, else 1: t, and each unreserved unknown's name.
+fn declared(f: &[u8], s: Sections, classes: &[u8; 256], m: usize) -> [u32; 256]
+    requires { ⌜ Open (now f) s × Classes (fileIn (now f) s .names) (now classes) × (m < s .counts .models) ⌝ }
+    ensures { λ r. ⌜ Marks (s .counts .names) (variableNames (fileIn (now (f .entry)) s .names) (modelAt (fileIn (now (f .entry)) s) m .unknowns)) r ⌝ }
+{
+    let mut out = time_declared(f, s, classes);
+    let first = model(f, s, m, 1);
+    let count = model(f, s, m, 2);
+    let mut i = 0;
+    while i < count {
+        let name = unknown(f, s, first + i, 0);
+        out[name] = marked(out[name], is_reserved(classes[name]));
+        i += 1;
+    }
+    out
+}
+
+// 1 where an entry is not 0.
+fn one_kept(entry: u32) -> u32
+    ensures { λ r. ⌜ r ≡ flag (not (eqb entry 0)) ⌝ }
+{
+    if entry == 0 { 0 } else { 1 }
+}
+
+// How many of unknown u's dependents are variables.
+fn kept_count(f: &[u8], s: Sections, vars: &[u32; 256], u: usize) -> u32
+    requires { ⌜ Open (now f) s × (u < s .counts .unknowns) ⌝ }
+    ensures { λ r. ⌜ (r ≡ keptIn (now (vars .entry)) (unknownIn (now (f .entry)) s u .deps)) × (r ≤ 1024) ⌝ }
+{
+    let first = unknown(f, s, u, 1);
+    let count = unknown(f, s, u, 2);
+    let mut total: u32 = 0;
+    let mut i = 0;
+    while i < count {
+        total += one_kept(vars[dep(f, s, first + i)]);
+        i += 1;
+    }
+    total
+}
+
+// The entry of a name with more kept dependents: 0 stays 0.
+fn raised(entry: u32, kept: u32) -> u32
+    requires { ⌜ entry + kept < 2 ^ 32 ⌝ }
+    ensures { λ r. ⌜ r ≡ cond (eqb entry 0) 0 (entry + kept) ⌝ }
+{
+    if entry == 0 {
+        return 0;
+    }
+    entry + kept
+}
+
+// The variables of model m by name: 0 where a name is none, else 1 plus the count of its kept dependents.
+pub fn model_vars(f: &[u8], s: Sections, classes: &[u8; 256], m: usize) -> [u32; 256]
+    requires { ⌜ Open (now f) s × (m < s .counts .models) × Classes (fileIn (now f) s .names) (now classes) ⌝ }
+    ensures { λ r. ⌜ VarsOf (scopeIn (now (f .entry)) s m) r ⌝ }
+{
+    let mut out = declared(f, s, classes, m);
+    let first = model(f, s, m, 1);
+    let count = model(f, s, m, 2);
+    let mut i = 0;
+    while i < count {
+        let name = unknown(f, s, first + i, 0);
+        let kept = kept_count(f, s, &out, first + i);
+        out[name] = raised(out[name], kept);
+        i += 1;
+    }
+    out
 }

@@ -1,0 +1,292 @@
+-- How the errors of a model go on, in the code's terms: those of an unknown, of a run, of the arguments of a submodel statement and of a statement.
+use mathlib.Core.Path.{_≡_, refl, sym, ap, _∙_}
+use mathlib.Core.Bool.{Bool, true, false, cond, not, _&&_, _||_}
+use mathlib.Core.List.{List, [], _∷_, _++_, append-nil}
+use mathlib.Core.Option.{Option, none, some}
+use Prim.Native.Nat.{ℕ, zero, suc, _+_, _-_, _≤_, _<_}
+use native.Mathlib.Omega.{arith}
+use native.Mathlib.Numerals.{add-one, sub-one}
+use borrow.Author.Tests.{ltb-true, eqb-true, eqb-false, ne-eqb}
+use lib.Dec.{eqb, leb, ltb}
+use lib.ListN.{length, take, drop, getD, take-append-drop}
+use lib.Seq.{take-suc, take-all}
+use Rattle.functions.specs.Lists.{unless, each, plusOne}
+use Rattle.functions.proofs.Lists.{clash, and-both, drop-here}
+use Rattle.ast.specs.Tree.{Span, Expr, Args, snoc, submodel, equation, rate, File}
+use Rattle.ast.specs.Words.{wordOf}
+use Rattle.ast.specs.Nodes.{nameAt, opAt, sizeAt, spanAt}
+use Rattle.ast.specs.Records.{domainKind, domainName, domainFits, domainOf, unknownOf, spanOfUnknown, spanOfStmt}
+use Rattle.ast.specs.Opens.{Open, contentsIn, fileIn}
+use Rattle.ast.specs.declared.sections.Sections.{Sections}
+use Rattle.ast.proofs.Encodes.{each-append}
+use Rattle.builder.specs.Names.{textOf, isNonNegative, isReal}
+use Rattle.builder.specs.Variables.{Error, error, domainErrors, unknownErrors}
+use Rattle.builder.specs.Check.{Scope, hasKeyword, exprErrors, flatErrors}
+use Rattle.builder.specs.Flatten.{modelNamed, modelAt, scopeOf, orderErrors, subErrors, stmtErrors, errorsOf}
+use Rattle.builder.specs.Tables.{classOf, calleeOf, VarsOf}
+use Rattle.builder.specs.Listing.{Lists, Room}
+use Rattle.builder.specs.Checking.{nodesOf, scopeIn, treeIn, argsIn, argsOf, unknownIn, stmtIn, UnknownIn, ExprIn, CallIn, ArgsIn, Against, Tabled}
+use Rattle.builder.proofs.Classes.{class-time, class-reserved, class-non-negative, class-real}
+use Rattle.builder.proofs.OpenRecords.{long, model-is, unknown-is, stmt-is, stmt-equation, stmt-rate, stmt-submodel}
+use Rattle.builder.proofs.Listings.{Joins, lists-none, lists-then, room-first, room-then}
+use Rattle.builder.proofs.Checks.{args-are}
+
+-- ---- a domain, by its kind k
+
+first-of : (x : Bool) (a b : ℕ) (y z : Bool) → cond x (ltb a b && y && z) false ≡ true → a < b
+first-of true a b y z h = ltb-true _ _ (and-both _ _ (and-both _ _ h .0) .0)
+first-of false a b y z h = clash (cc)
+
+module _ (names : List (List ℕ)) (p : Span) (r : List ℕ) where
+  -- a domain that is no name has no error
+  no-name : domainKind r ≤ 1 → domainErrors names p (domainOf r) ≡ []
+  unfolding domainErrors domainOf
+  no-name l = go (eqb (domainKind r) 0) (eqb (domainKind r) 1) refl refl
+    where
+      go : (x y : Bool) → eqb (domainKind r) 0 ≡ x → eqb (domainKind r) 1 ≡ y → domainErrors names p (domainOf r) ≡ []
+      go true y e g = rw e refl
+      go false true e g = rw (e, g) refl
+      go false false e g =
+          let a = eqb-false (domainKind r) 0 e in
+          let b = eqb-false (domainKind r) 1 g in
+          absurd (omega arith)
+
+  module _ (l : 1 < domainKind r) where
+    a-name : domainErrors names p (domainOf r) ≡ unless (isNonNegative names (domainName r) || isReal names (domainName r)) (error 1 p (suc (domainName r)))
+    unfolding domainErrors domainOf
+    a-name =
+        let e : eqb (domainKind r) 0 ≡ false = ne-eqb (domainKind r) 0 (λ q. omega arith) in
+        let g : eqb (domainKind r) 1 ≡ false = ne-eqb (domainKind r) 1 (λ q. omega arith) in
+        rw (e, g) refl
+
+    name-fits : (n : ℕ) → domainFits n r ≡ true → domainName r < n
+    unfolding domainFits
+    name-fits n h =
+        let e : eqb (domainKind r) 0 ≡ false = ne-eqb (domainKind r) 0 (λ q. omega arith) in
+        let g : eqb (domainKind r) 1 ≡ false = ne-eqb (domainKind r) 1 (λ q. omega arith) in
+        first-of (eqb (domainKind r) 2) (domainName r) n _ _ (rw (e, g) at h)
+
+-- ---- unknown u
+
+module _ {f : List ℕ} {s : Sections} {cs : List ℕ} {u : ℕ} (q : UnknownIn f s cs u) where
+  abbrev record-u : List ℕ
+  record-u = getD (contentsIn f s .unknowns) u []
+
+  class-of : (x : ℕ) → x < s .counts .names → getD cs x 0 ≡ classOf (textOf (fileIn f s .names) x)
+  class-of x h = q .classes .class x (omega (arith, long f s (q .opened) .file-names))
+
+  -- no domain, or a range
+  pub domain-none : (k : ℕ) → k ≡ wordOf record-u 3 → k ≤ 1 → domainErrors (fileIn f s .names) (unknownIn f s u .span) (unknownIn f s u .domain) ≡ []
+  unfolding unknownOf
+  domain-none k e l = no-name (fileIn f s .names) _ record-u (omega arith)
+
+  -- a domain by name
+  module _ (k x : ℕ) (ek : k ≡ wordOf record-u 3) (l : 1 < k) (ex : x ≡ wordOf record-u 4) where
+    pub domain-below : x < s .counts .names
+    domain-below = omega (arith, ex, name-fits (fileIn f s .names) (spanOfUnknown record-u) record-u (omega arith) (s .counts .names) (unknown-is f s (q .opened) u (q .within) .domain-fits))
+
+    pub domain-small : x < 256
+    domain-small = omega (arith, domain-below, q .opened .laid .within .names)
+
+    pub domain-named : domainErrors (fileIn f s .names) (unknownIn f s u .span) (unknownIn f s u .domain) ≡ unless (eqb (getD cs x 0) 6 || eqb (getD cs x 0) 7) (error 1 (spanOfUnknown record-u) (x + 1))
+    unfolding unknownOf
+    domain-named =
+        let names = fileIn f s .names in
+        let w = a-name names (spanOfUnknown record-u) record-u (omega arith) in
+        let c = class-of x domain-below in
+        let e₁ = class-non-negative names x in
+        let e₂ = class-real names x in
+        rw (c, e₁, e₂, add-one, ex) w
+
+  -- its name
+  module _ (x : ℕ) (ex : x ≡ wordOf record-u 0) where
+    pub unknown-below : x < s .counts .names
+    unknown-below = omega (arith, ex, unknown-is f s (q .opened) u (q .within) .name-below)
+
+    pub unknown-small : x < 256
+    unknown-small = omega (arith, unknown-below, q .opened .laid .within .names)
+
+    pub unknown-more : (a b : Bool) → a ≡ leb (getD cs x 0) 5 → b ≡ eqb (getD cs x 0) 0
+        → Joins (unknownErrors (fileIn f s .names) (unknownIn f s u)) (domainErrors (fileIn f s .names) (unknownIn f s u .span) (unknownIn f s u .domain)) (unless (not a || b) (error 2 (spanOfUnknown record-u) (x + 1)))
+    unfolding unknownErrors unknownOf
+    unknown-more a b ea eb =
+        let names = fileIn f s .names in
+        let c = class-of x unknown-below in
+        let e₁ = class-reserved names x in
+        let e₂ = class-time names x in
+        record { is = rw (ea, eb, c, e₁, e₂, add-one, ex) refl }
+
+-- ---- the errors of a run, element by element
+
+module _ {A : Type 0} (g : A → List Error) (xs : List A) where
+  each-split : (i : ℕ) → Joins (each g xs) (each g (take i xs)) (each g (drop i xs))
+  each-split i = record { is = sym (ap (each g) (take-append-drop i xs)) ∙ each-append g (take i xs) (drop i xs) }
+
+  -- none yet
+  pub run-begins : (d : List ℕ) (n : ℕ) → Lists d n (each g (take 0 xs)) n d
+  unfolding each
+  run-begins d n = lists-none d n
+
+  -- the element at place i is x
+  module _ (x : A) (i : ℕ) (h : i < length xs) (e : getD xs i x ≡ x) where
+    each-here : Joins (each g (drop i xs)) (g x) (each g (drop (i + 1) xs))
+    unfolding each
+    each-here = record { is = ap (each g) (drop-here xs x i h) ∙ ap (λ (y : A). g y ++ each g (drop (i + 1) xs)) e }
+
+    each-next : Joins (each g (take (i + 1) xs)) (each g (take i xs)) (g x)
+    unfolding each
+    each-next = record { is = rw (add-one, take-suc xs i x) (each-append g (take i xs) (getD xs i x ∷ []) ∙ rw (append-nil, e) refl) }
+
+    pub run-room : (d d′ : List ℕ) (n r : ℕ) → Room d n (each g xs) → Lists d n (each g (take i xs)) r d′ → Room d′ r (g x)
+    run-room d d′ n r m p = room-first each-here (room-then (each-split i) d′ r m p)
+
+    pub run-goes : (d d′ d″ : List ℕ) (n r r′ : ℕ) → Lists d n (each g (take i xs)) r d′ → Lists d′ r (g x) r′ d″ → Lists d n (each g (take (i + 1) xs)) r′ d″
+    run-goes d d′ d″ n r r′ p t = lists-then each-next d d′ d″ n r r′ p t
+
+  -- all of them
+  pub run-ends : (i : ℕ) → length xs ≤ i → (d d′ : List ℕ) (n r : ℕ) → Lists d n (each g (take i xs)) r d′ → Lists d n (each g xs) r d′
+  run-ends i h d d′ n r p = let t : take i xs ≡ xs = take-all i xs h in rw t at p
+
+-- of a model's unknowns and statements; the first one's number and the count are those of its record
+module _ (f : List ℕ) (s : Sections) (o : Open f s) (m : ℕ) (h : m < s .counts .models) (first count i : ℕ) where
+  module _ (ef : first ≡ wordOf (getD (contentsIn f s .models) m []) 1) (ec : count ≡ wordOf (getD (contentsIn f s .models) m []) 2) where
+    pub unknown-here : i < count → getD (modelAt (fileIn f s) m .unknowns) i (unknownIn f s (first + i)) ≡ unknownIn f s (first + i)
+    unknown-here l = model-is f s o m h .unknown i _ (omega (arith, ec)) ∙ ap (λ (k : ℕ). unknownIn f s (k + i)) (sym ef)
+
+    pub unknown-there : i < count → i < length (modelAt (fileIn f s) m .unknowns)
+    unknown-there l = omega (arith, model-is f s o m h .unknowns-long, ec)
+
+    pub unknowns-past : count ≤ i → length (modelAt (fileIn f s) m .unknowns) ≤ i
+    unknowns-past l = omega (arith, model-is f s o m h .unknowns-long, ec)
+
+  module _ (ef : first ≡ wordOf (getD (contentsIn f s .models) m []) 3) (ec : count ≡ wordOf (getD (contentsIn f s .models) m []) 4) where
+    pub stmt-here : i < count → getD (modelAt (fileIn f s) m .stmts) i (stmtIn f s (first + i)) ≡ stmtIn f s (first + i)
+    stmt-here l = model-is f s o m h .stmt i _ (omega (arith, ec)) ∙ ap (λ (k : ℕ). stmtIn f s (k + i)) (sym ef)
+
+    pub stmt-there : i < count → i < length (modelAt (fileIn f s) m .stmts)
+    stmt-there l = omega (arith, model-is f s o m h .stmts-long, ec)
+
+    pub stmts-past : count ≤ i → length (modelAt (fileIn f s) m .stmts) ≤ i
+    stmts-past l = omega (arith, model-is f s o m h .stmts-long, ec)
+
+-- ---- the arguments of a submodel statement: the last of them is node end - 1, of z nodes, its keyword k
+
+order-snoc : (a : Args) (k : ℕ) (e : Expr) (s : Span) (b : Bool) → b ≡ hasKeyword a → orderErrors (snoc a k e s) ≡ orderErrors a ++ unless (not (eqb k 0) || not b) (error 4 s 0)
+unfolding orderErrors unless
+order-snoc a zero e s b h = rw h refl
+order-snoc a (suc k) e s b h = rw (ne-eqb (suc k) 0 (λ q. omega arith)) (sym (append-nil (orderErrors a)))
+
+pub order-more : {f : List ℕ} {s : Sections} {end c t : ℕ} (a : ArgsIn f s end c t) → (c ≡ 0 → ⊥) → (k : ℕ) → k ≡ nameAt (nodesOf f s) (end - 1) → (z : ℕ) → z ≡ sizeAt (nodesOf f s) (end - 1)
+    → (b : Bool) → b ≡ hasKeyword (argsIn f s (end - z) (c - 1) (t - z))
+    → Joins (orderErrors (argsIn f s end c t)) (orderErrors (argsIn f s (end - z) (c - 1) (t - z))) (unless (not (eqb k 0) || not b) (error 4 (spanAt (nodesOf f s) (end - 1)) 0))
+order-more a ne k ek z ez b eb = record { is = rw ek (ap orderErrors (args-are a ne z ez) ∙ order-snoc _ _ _ _ b eb) }
+
+-- ---- statement q, its kind k
+
+module _ {f : List ℕ} {s : Sections} (o : Open f s) (q : ℕ) (l : q < s .counts .stmts) where
+  abbrev record-q : List ℕ
+  record-q = getD (contentsIn f s .stmts) q []
+
+  pub right-in : (x : ℕ) → x ≡ wordOf record-q 3 → ExprIn f s x
+  right-in x e =
+      let a = stmt-is f s o q l .right in
+      rw e (record { opened = o; within = a .0; expr = a .1 })
+
+  module _ (k : ℕ) (ek : k ≡ wordOf record-q 0) where
+    pub left-in : k ≡ 1 → (x : ℕ) → x ≡ wordOf record-q 2 → ExprIn f s x
+    left-in h x e =
+        let a = stmt-is f s o q l .left (sym ek ∙ h) in
+        rw e (record { opened = o; within = a .0; expr = a .1 })
+
+    pub call-in : k ≡ 3 → (x : ℕ) → x ≡ wordOf record-q 3 → CallIn f s x
+    call-in h x e =
+        let a = stmt-is f s o q l in
+        rw e (record { opened = o; within = a .right .0; call = a .call (sym ek ∙ h) })
+
+    -- what is neither a rate equation nor a submodel statement is an equation
+    pub an-equation : k < 3 → (k ≡ 2 → ⊥) → k ≡ 1
+    an-equation h n = let a = stmt-is f s o q l .kinds in omega (arith, a .0, n)
+
+    pub not-three : (k ≡ 3 → ⊥) → k < 3
+    not-three n = let a = stmt-is f s o q l .kinds in omega (arith, a .1, n)
+
+    module _ (sub : ℕ → List Error) (c : Scope) where
+      pub rate-errors : k ≡ 2 → (x : ℕ) → x ≡ wordOf record-q 3 → stmtErrors (fileIn f s) sub c (stmtIn f s q) ≡ exprErrors c (treeIn f s x)
+      unfolding stmtErrors flatErrors
+      rate-errors h x e = rw e (ap (stmtErrors (fileIn f s) sub c) (stmt-rate (nodesOf f s) record-q (sym ek ∙ h)))
+
+      pub equation-errors : k ≡ 1 → (x y : ℕ) → x ≡ wordOf record-q 3 → y ≡ wordOf record-q 2 → Joins (stmtErrors (fileIn f s) sub c (stmtIn f s q)) (exprErrors c (treeIn f s x)) (exprErrors c (treeIn f s y))
+      unfolding stmtErrors flatErrors
+      equation-errors h x y ex ey = record { is = rw (ex, ey) (ap (stmtErrors (fileIn f s) sub c) (stmt-equation (nodesOf f s) record-q (sym ek ∙ h))) }
+
+      -- whatever the left side adds
+      pub right-first : k < 3 → (x : ℕ) → x ≡ wordOf record-q 3 → (ys : List Error) × Joins (stmtErrors (fileIn f s) sub c (stmtIn f s q)) (exprErrors c (treeIn f s x)) ys
+      right-first h x ex = go (eqb k 2) refl
+        where
+          go : (b : Bool) → eqb k 2 ≡ b → (ys : List Error) × Joins (stmtErrors (fileIn f s) sub c (stmtIn f s q)) (exprErrors c (treeIn f s x)) ys
+          go true e = ([], record { is = rate-errors (eqb-true k 2 e) x ex ∙ sym (append-nil _) })
+          go false e = (_, equation-errors (an-equation h (eqb-false k 2 e)) x _ ex refl)
+
+    -- an equation or a rate equation has the same errors whatever those of submodels are
+    pub own-same : k < 3 → (sub rest : ℕ → List Error) (c : Scope) → stmtErrors (fileIn f s) sub c (stmtIn f s q) ≡ stmtErrors (fileIn f s) rest c (stmtIn f s q)
+    own-same h sub rest c = go (eqb k 2) refl
+      where
+        go : (b : Bool) → eqb k 2 ≡ b → stmtErrors (fileIn f s) sub c (stmtIn f s q) ≡ stmtErrors (fileIn f s) rest c (stmtIn f s q)
+        go true e = let a = eqb-true k 2 e in rate-errors sub c a _ refl ∙ sym (rate-errors rest c a _ refl)
+        go false e = let a = an-equation h (eqb-false k 2 e) in equation-errors sub c a _ _ refl refl .is ∙ sym (equation-errors rest c a _ _ refl refl .is)
+
+-- ---- a submodel statement, by the model that it calls
+
+module _ (f : File) (sub : ℕ → List Error) (n : ℕ) (a : Args) (p : Span) where
+  none-found : (o : Option ℕ) → plusOne o ≡ 0 → subErrors f sub n a p o ≡ error 3 p (suc n) ∷ []
+  unfolding subErrors plusOne
+  none-found none e = refl
+  none-found (some m) e = absurd (omega arith)
+
+  one-found : (o : Option ℕ) (c : ℕ) → c ≡ plusOne o → (c ≡ 0 → ⊥) → subErrors f sub n a p o ≡ sub (c - 1) ++ orderErrors a
+  unfolding subErrors plusOne
+  one-found none c e h = absurd (h e)
+  one-found (some m) c e h = let z : m ≡ c - 1 = omega arith in ap (λ (j : ℕ). sub j ++ orderErrors a) z
+
+module _ {f : List ℕ} {s : Sections} {cs rs ts : List ℕ} (g : Tabled f s cs rs ts) (q : ℕ) (l : q < s .counts .stmts) where
+  module _ (k : ℕ) (ek : k ≡ wordOf (getD (contentsIn f s .stmts) q []) 0) (h : k ≡ 3) (x : ℕ) (ex : x ≡ wordOf (getD (contentsIn f s .stmts) q []) 3) where
+    submodel-is : stmtIn f s q ≡ submodel (nameAt (nodesOf f s) x) (argsOf f s x) (spanAt (nodesOf f s) x) (spanOfStmt (getD (contentsIn f s .stmts) q []))
+    submodel-is = rw ex (stmt-submodel (nodesOf f s) (getD (contentsIn f s .stmts) q []) (sym ek ∙ h))
+
+    callee-is : getD ts q 0 ≡ plusOne (modelNamed (fileIn f s) (nameAt (nodesOf f s) x))
+    unfolding calleeOf
+    callee-is = g .callees .callee q l ∙ ap (calleeOf (fileIn f s)) submodel-is
+
+    module _ (sub : ℕ → List Error) (c : Scope) where
+      -- its model is missing
+      pub submodel-missing : getD ts q 0 ≡ 0 → (n : ℕ) → n ≡ nameAt (nodesOf f s) x
+          → stmtErrors (fileIn f s) sub c (stmtIn f s q) ≡ error 3 (spanOfStmt (getD (contentsIn f s .stmts) q [])) (n + 1) ∷ []
+      unfolding stmtErrors
+      submodel-missing z n e =
+          rw (add-one, e) (ap (stmtErrors (fileIn f s) sub c) submodel-is ∙ none-found (fileIn f s) sub (nameAt (nodesOf f s) x) (argsOf f s x) _ (modelNamed (fileIn f s) (nameAt (nodesOf f s) x)) (sym callee-is ∙ z))
+
+      -- it is found
+      pub submodel-found : (getD ts q 0 ≡ 0 → ⊥) → (n z : ℕ) → n ≡ opAt (nodesOf f s) x → z ≡ sizeAt (nodesOf f s) x
+          → Joins (stmtErrors (fileIn f s) sub c (stmtIn f s q)) (sub (getD ts q 0 - 1)) (orderErrors (argsIn f s x n (z - 1)))
+      unfolding stmtErrors
+      submodel-found ne n z en ez =
+          record { is = rw (en, ez) (ap (stmtErrors (fileIn f s) sub c) submodel-is ∙ one-found (fileIn f s) sub (nameAt (nodesOf f s) x) (argsOf f s x) _ (modelNamed (fileIn f s) (nameAt (nodesOf f s) x)) (getD ts q 0) callee-is ne) }
+
+-- ---- model m, to a depth of k models
+
+module _ (f : File) where
+  pub errors-none : (k m : ℕ) → k ≡ 0 → errorsOf f k m ≡ []
+  unfolding errorsOf
+  errors-none zero m e = refl
+  errors-none (suc k) m e = absurd (omega arith)
+
+  pub errors-more : (k m : ℕ) → (k ≡ 0 → ⊥)
+      → Joins (errorsOf f k m) (each (unknownErrors (f .names)) (modelAt f m .unknowns)) (each (stmtErrors f (λ j. errorsOf f (k - 1) j) (scopeOf f (modelAt f m))) (modelAt f m .stmts))
+  unfolding errorsOf
+  errors-more zero m n = absurd (n refl)
+  errors-more (suc k) m n = record { is = rw (sub-one (suc k)) refl }
+
+-- what its statements are checked against
+pub against : {f : List ℕ} {s : Sections} {cs rs ts : List ℕ} → Tabled f s cs rs ts → (m : ℕ) → m < s .counts .models → {vs : List ℕ} → VarsOf (scopeIn f s m) vs → Against f s m cs rs vs
+unfolding scopeOf
+against g m h v = record { scoped = record { opened = g .opened; model = h; vars = v }; classes = g .classes; rules = g .rules }

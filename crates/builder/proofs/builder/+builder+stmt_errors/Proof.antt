@@ -1,0 +1,202 @@
+use mathlib.Core.Path.{refl, ap, _∙_}
+use mathlib.Core.List.{[]}
+use Prim.Native.Nat.{_+_, _-_, _*_, _≤_}
+use native.Mathlib.Omega.{arith}
+use lib.ListN.{length, take}
+use Rattle.functions.specs.Lists.{each}
+use Rattle.ast.specs.Opens.{fileIn}
+use Rattle.builder.specs.Flatten.{modelAt, stmtErrors, errorsOf}
+use Rattle.builder.specs.Listing.{Lists}
+use Rattle.builder.specs.Checking.{scopeIn, stmtIn}
+use Rattle.builder.proofs.Listings.{lists-none, lists-then, room-first, room-then, length-listed}
+use Rattle.builder.proofs.Runs.{stmts-below}
+use Rattle.builder.proofs.Calling.{entry-below}
+use Rattle.builder.proofs.Calls.{call-small, call-sized, call-args}
+use Rattle.builder.proofs.ModelErrors.{run-begins, run-room, run-goes, run-ends, stmt-here, stmt-there, stmts-past, errors-none, errors-more, against, not-three, own-same, call-in, submodel-missing, submodel-found}
+use Prim.Native.Nat.{ℕ, _<_}
+use borrow.Fn.Kinds.{In}
+use borrow.Fn.PlainCycle.{Measures, is, falls, and}
+use Rattle.builder.proofs.builder.builder.Reads as builder
+use Rattle.builder.proofs.builder.builder.Kinds as builder-kinds
+use Rattle.builder.proofs.builder.+builder+stmt_errors.Lts-builder as builder-lts
+use Rattle.builder.proofs.builder.stmt_errors.Reads as stmt-errors
+use Rattle.builder.proofs.builder.stmt_errors.Kinds as stmt-errors-kinds
+use Rattle.builder.proofs.builder.+builder+stmt_errors.Lts-stmt_errors as stmt-errors-lts
+use Rattle.ast.proofs.records.model.Reads as model-reads
+use Rattle.ast.proofs.records.node.Reads as node-reads
+use Rattle.ast.proofs.records.stmt.Reads as stmt-reads
+use Rattle.builder.proofs.builder.missing_error.Reads as missing-error-reads
+use Rattle.builder.proofs.builder.order_errors.Reads as order-errors-reads
+use Rattle.builder.proofs.builder.own_errors.Reads as own-errors-reads
+use Rattle.builder.proofs.builder.unknowns_errors.Reads as unknowns-errors-reads
+use Rattle.builder.proofs.scope.model_vars.Reads as model-vars-reads
+use Rattle.builder.proofs.builder.+builder+stmt_errors.{statement}
+use Rattle.builder.proofs.builder.+builder+stmt_errors.Tie.{close}
+
+abbrev μ-builder : Measures 5 builder-kinds.ps ℕ
+μ-builder κs a = 2 * a .1 .1 .1 .1 .1 .0
+
+abbrev μ-stmt-errors : Measures 6 stmt-errors-kinds.ps ℕ
+μ-stmt-errors κs a = 2 * a .1 .1 .1 .1 .1 .1 .0 + 1
+
+abbrev builder-at : ℕ → In 5 builder-kinds.ps
+builder-at t = and 5 builder-kinds.ps (is 5 builder-kinds.ps μ-builder t) builder.Pre
+
+abbrev builder-below : ℕ → In 5 builder-kinds.ps
+builder-below t = and 5 builder-kinds.ps (falls 5 builder-kinds.ps _<_ μ-builder t) builder.Pre
+
+abbrev stmt-errors-at : ℕ → In 6 stmt-errors-kinds.ps
+stmt-errors-at t =
+    and 6 stmt-errors-kinds.ps (is 6 stmt-errors-kinds.ps μ-stmt-errors t) stmt-errors.Pre
+
+abbrev stmt-errors-below : ℕ → In 6 stmt-errors-kinds.ps
+stmt-errors-below t =
+    and 6 stmt-errors-kinds.ps (falls 6 stmt-errors-kinds.ps _<_ μ-stmt-errors t) stmt-errors.Pre
+
+abbrev builder-Inv-loop : builder-lts.InvT-loop
+builder-Inv-loop f s classes rules callees k m out₀ count vars first stmts listed₀ i₀ out listed i = (i ≤ stmts) × Lists out₀ listed₀ (each (stmtErrors (fileIn f s) (λ j. errorsOf (fileIn f s) (k - 1) j) (scopeIn f s m)) (take i (modelAt (fileIn f s) m .stmts))) listed out
+
+abbrev builder-μ-loop : builder-lts.MeasureT-loop
+builder-μ-loop f s classes rules callees k m out₀ count vars first stmts listed₀ i₀ out listed i = stmts - i
+
+builder-returns : (t : ℕ) → builder-lts.Need-returns (model-vars-reads.Asked, model-vars-reads.Learnt, model-reads.Asked, model-reads.Learnt, unknowns-errors-reads.Asked, unknowns-errors-reads.Learnt, stmt-errors-below t, stmt-errors.Post) (builder-at t) builder.Post builder-Inv-loop builder-μ-loop
+builder-returns t c = rw (errors-none (fileIn (c .before .before .before .args .f .now) (c .before .before .before .args .s)) (c .before .before .before .args .k) (c .before .before .before .args .m) (c .if1 .taken)) (lists-none _ _)
+
+builder-model-vars-requires : (t : ℕ) → builder-lts.Need-model-vars-requires (model-vars-reads.Asked, model-vars-reads.Learnt, model-reads.Asked, model-reads.Learnt, unknowns-errors-reads.Asked, unknowns-errors-reads.Learnt, stmt-errors-below t, stmt-errors.Post) (builder-at t) builder.Post builder-Inv-loop builder-μ-loop
+builder-model-vars-requires t c κs = (c .before .before .before .pre .1 .0 .opened, c .before .before .before .pre .1 .1, c .before .before .before .pre .1 .0 .classes)
+
+builder-model-requires : (t : ℕ) → builder-lts.Need-model-requires (model-vars-reads.Asked, model-vars-reads.Learnt, model-reads.Asked, model-reads.Learnt, unknowns-errors-reads.Asked, unknowns-errors-reads.Learnt, stmt-errors-below t, stmt-errors.Post) (builder-at t) builder.Post builder-Inv-loop builder-μ-loop
+builder-model-requires t c κs = (c .before .before .before .before .pre .1 .0 .opened, (c .before .before .before .before .pre .1 .1, omega arith))
+
+builder-model-requires-2 : (t : ℕ) → builder-lts.Need-model-requires-2 (model-vars-reads.Asked, model-vars-reads.Learnt, model-reads.Asked, model-reads.Learnt, unknowns-errors-reads.Asked, unknowns-errors-reads.Learnt, stmt-errors-below t, stmt-errors.Post) (builder-at t) builder.Post builder-Inv-loop builder-μ-loop
+builder-model-requires-2 t c κs = (c .before .before .before .before .before .pre .1 .0 .opened, (c .before .before .before .before .before .pre .1 .1, omega arith))
+
+builder-unknowns-errors-requires : (t : ℕ) → builder-lts.Need-unknowns-errors-requires (model-vars-reads.Asked, model-vars-reads.Learnt, model-reads.Asked, model-reads.Learnt, unknowns-errors-reads.Asked, unknowns-errors-reads.Learnt, stmt-errors-below t, stmt-errors.Post) (builder-at t) builder.Post builder-Inv-loop builder-μ-loop
+builder-unknowns-errors-requires t c κs = (c .before .before .before .before .before .before .before .pre .1 .0 .opened, c .before .before .before .before .before .before .before .pre .1 .0 .classes, c .before .before .before .before .before .before .before .pre .1 .1, room-first (errors-more (fileIn (c .before .before .before .before .before .before .before .args .f .now) (c .before .before .before .before .before .before .before .args .s)) (c .before .before .before .before .before .before .before .args .k) (c .before .before .before .before .before .before .before .args .m) (c .before .before .before .before .if1 .left)) (c .before .before .before .before .before .before .before .pre .1 .3))
+
+builder-loop-holds : (t : ℕ) → builder-lts.Need-loop-holds (model-vars-reads.Asked, model-vars-reads.Learnt, model-reads.Asked, model-reads.Learnt, unknowns-errors-reads.Asked, unknowns-errors-reads.Learnt, stmt-errors-below t, stmt-errors.Post) (builder-at t) builder.Post builder-Inv-loop builder-μ-loop
+builder-loop-holds t c = (omega arith, run-begins (stmtErrors (fileIn (c .before .before .before .before .before .before .before .before .before .before .args .f .now) (c .before .before .before .before .before .before .before .before .before .before .args .s)) (λ j. errorsOf (fileIn (c .before .before .before .before .before .before .before .before .before .before .args .f .now) (c .before .before .before .before .before .before .before .before .before .before .args .s)) (c .before .before .before .before .before .before .before .before .before .before .args .k - 1) j) (scopeIn (c .before .before .before .before .before .before .before .before .before .before .args .f .now) (c .before .before .before .before .before .before .before .before .before .before .args .s) (c .before .before .before .before .before .before .before .before .before .before .args .m))) (modelAt (fileIn (c .before .before .before .before .before .before .before .before .before .before .args .f .now) (c .before .before .before .before .before .before .before .before .before .before .args .s)) (c .before .before .before .before .before .before .before .before .before .before .args .m) .stmts) _ _)
+
+builder-sub-stmt-errors : (t : ℕ) → builder-lts.Need-sub-stmt-errors (model-vars-reads.Asked, model-vars-reads.Learnt, model-reads.Asked, model-reads.Learnt, unknowns-errors-reads.Asked, unknowns-errors-reads.Learnt, stmt-errors-below t, stmt-errors.Post) (builder-at t) builder.Post builder-Inv-loop builder-μ-loop
+builder-sub-stmt-errors t c = omega (arith, c .before .before .before .before .before .before .before .before .before .before .if1 .left)
+
+builder-add-stmt-errors : (t : ℕ) → builder-lts.Need-add-stmt-errors (model-vars-reads.Asked, model-vars-reads.Learnt, model-reads.Asked, model-reads.Learnt, unknowns-errors-reads.Asked, unknowns-errors-reads.Learnt, stmt-errors-below t, stmt-errors.Post) (builder-at t) builder.Post builder-Inv-loop builder-μ-loop
+builder-add-stmt-errors t c = omega (arith, stmts-below (c .before .before .before .before .before .before .before .before .before .before .before .before .before .args .f .now) (c .before .before .before .before .before .before .before .before .before .before .before .before .before .args .s) (c .before .before .before .before .before .before .before .before .before .before .before .before .before .pre .1 .0 .opened) (c .before .before .before .before .before .before .before .before .before .before .before .before .before .args .m) (c .before .before .before .before .before .before .before .before .before .before .before .before .before .pre .1 .1) (c .before .before .before .before .before .before .before .before .model .result) (c .before .before .before .before .before .before .before .model2 .result) (c .before .before .loop .i) (c .before .before .before .before .before .before .before .before .model .ensures .0) (c .before .before .before .before .before .before .before .model2 .ensures .0) (c .before .loop-test .taken), c .before .before .before .before .before .before .before .before .before .before .before .before .before .pre .1 .0 .opened .laid .within .stmts)
+
+builder-stmt-errors-requires : (t : ℕ) → builder-lts.Need-stmt-errors-requires (model-vars-reads.Asked, model-vars-reads.Learnt, model-reads.Asked, model-reads.Learnt, unknowns-errors-reads.Asked, unknowns-errors-reads.Learnt, stmt-errors-below t, stmt-errors.Post) (builder-at t) builder.Post builder-Inv-loop builder-μ-loop
+builder-stmt-errors-requires t c κs = (omega (arith, c .before .before .before .before .before .before .before .before .before .before .before .before .before .before .pre .0, c .before .before .before .before .before .before .before .before .before .before .before .if1 .left), (c .before .before .before .before .before .before .before .before .before .before .before .before .before .before .pre .1 .0, against (c .before .before .before .before .before .before .before .before .before .before .before .before .before .before .pre .1 .0) (c .before .before .before .before .before .before .before .before .before .before .before .before .before .before .args .m) (c .before .before .before .before .before .before .before .before .before .before .before .before .before .before .pre .1 .1) (c .before .before .before .before .before .before .before .before .before .before .model-vars .ensures), stmts-below (c .before .before .before .before .before .before .before .before .before .before .before .before .before .before .args .f .now) (c .before .before .before .before .before .before .before .before .before .before .before .before .before .before .args .s) (c .before .before .before .before .before .before .before .before .before .before .before .before .before .before .pre .1 .0 .opened) (c .before .before .before .before .before .before .before .before .before .before .before .before .before .before .args .m) (c .before .before .before .before .before .before .before .before .before .before .before .before .before .before .pre .1 .1) (c .before .before .before .before .before .before .before .before .before .model .result) (c .before .before .before .before .before .before .before .before .model2 .result) (c .before .before .before .loop .i) (c .before .before .before .before .before .before .before .before .before .model .ensures .0) (c .before .before .before .before .before .before .before .before .model2 .ensures .0) (c .before .before .loop-test .taken), omega (arith, c .before .before .before .before .before .before .before .before .before .before .before .before .before .before .pre .1 .2), run-room (stmtErrors (fileIn (c .before .before .before .before .before .before .before .before .before .before .before .before .before .before .args .f .now) (c .before .before .before .before .before .before .before .before .before .before .before .before .before .before .args .s)) (λ j. errorsOf (fileIn (c .before .before .before .before .before .before .before .before .before .before .before .before .before .before .args .f .now) (c .before .before .before .before .before .before .before .before .before .before .before .before .before .before .args .s)) (c .before .before .before .before .before .before .before .before .before .before .before .before .before .before .args .k - 1) j) (scopeIn (c .before .before .before .before .before .before .before .before .before .before .before .before .before .before .args .f .now) (c .before .before .before .before .before .before .before .before .before .before .before .before .before .before .args .s) (c .before .before .before .before .before .before .before .before .before .before .before .before .before .before .args .m))) (modelAt (fileIn (c .before .before .before .before .before .before .before .before .before .before .before .before .before .before .args .f .now) (c .before .before .before .before .before .before .before .before .before .before .before .before .before .before .args .s)) (c .before .before .before .before .before .before .before .before .before .before .before .before .before .before .args .m) .stmts) (stmtIn (c .before .before .before .before .before .before .before .before .before .before .before .before .before .before .args .f .now) (c .before .before .before .before .before .before .before .before .before .before .before .before .before .before .args .s) (c .before .before .before .before .before .before .before .before .before .model .result + c .before .before .before .loop .i)) (c .before .before .before .loop .i) (stmt-there (c .before .before .before .before .before .before .before .before .before .before .before .before .before .before .args .f .now) (c .before .before .before .before .before .before .before .before .before .before .before .before .before .before .args .s) (c .before .before .before .before .before .before .before .before .before .before .before .before .before .before .pre .1 .0 .opened) (c .before .before .before .before .before .before .before .before .before .before .before .before .before .before .args .m) (c .before .before .before .before .before .before .before .before .before .before .before .before .before .before .pre .1 .1) (c .before .before .before .before .before .before .before .before .before .model .result) (c .before .before .before .before .before .before .before .before .model2 .result) (c .before .before .before .loop .i) (c .before .before .before .before .before .before .before .before .before .model .ensures .0) (c .before .before .before .before .before .before .before .before .model2 .ensures .0) (c .before .before .loop-test .taken)) (stmt-here (c .before .before .before .before .before .before .before .before .before .before .before .before .before .before .args .f .now) (c .before .before .before .before .before .before .before .before .before .before .before .before .before .before .args .s) (c .before .before .before .before .before .before .before .before .before .before .before .before .before .before .pre .1 .0 .opened) (c .before .before .before .before .before .before .before .before .before .before .before .before .before .before .args .m) (c .before .before .before .before .before .before .before .before .before .before .before .before .before .before .pre .1 .1) (c .before .before .before .before .before .before .before .before .before .model .result) (c .before .before .before .before .before .before .before .before .model2 .result) (c .before .before .before .loop .i) (c .before .before .before .before .before .before .before .before .before .model .ensures .0) (c .before .before .before .before .before .before .before .before .model2 .ensures .0) (c .before .before .loop-test .taken)) _ _ _ _ (room-then (errors-more (fileIn (c .before .before .before .before .before .before .before .before .before .before .before .before .before .before .args .f .now) (c .before .before .before .before .before .before .before .before .before .before .before .before .before .before .args .s)) (c .before .before .before .before .before .before .before .before .before .before .before .before .before .before .args .k) (c .before .before .before .before .before .before .before .before .before .before .before .before .before .before .args .m) (c .before .before .before .before .before .before .before .before .before .before .before .if1 .left)) _ _ (c .before .before .before .before .before .before .before .before .before .before .before .before .before .before .pre .1 .3) (c .before .before .before .before .before .before .unknowns-errors .ensures)) (c .before .before .before .loop .inv .1)))
+
+builder-add-i : (t : ℕ) → builder-lts.Need-add-i (model-vars-reads.Asked, model-vars-reads.Learnt, model-reads.Asked, model-reads.Learnt, unknowns-errors-reads.Asked, unknowns-errors-reads.Learnt, stmt-errors-below t, stmt-errors.Post) (builder-at t) builder.Post builder-Inv-loop builder-μ-loop
+builder-add-i t c = omega (arith, stmts-below (c .before .before .before .before .before .before .before .before .before .before .before .before .before .before .before .before .before .args .f .now) (c .before .before .before .before .before .before .before .before .before .before .before .before .before .before .before .before .before .args .s) (c .before .before .before .before .before .before .before .before .before .before .before .before .before .before .before .before .before .pre .1 .0 .opened) (c .before .before .before .before .before .before .before .before .before .before .before .before .before .before .before .before .before .args .m) (c .before .before .before .before .before .before .before .before .before .before .before .before .before .before .before .before .before .pre .1 .1) (c .before .before .before .before .before .before .before .before .before .before .before .before .model .result) (c .before .before .before .before .before .before .before .before .before .before .before .model2 .result) (c .before .before .before .before .before .before .loop .i) (c .before .before .before .before .before .before .before .before .before .before .before .before .model .ensures .0) (c .before .before .before .before .before .before .before .before .before .before .before .model2 .ensures .0) (c .before .before .before .before .before .loop-test .taken), c .before .before .before .before .before .before .before .before .before .before .before .before .before .before .before .before .before .pre .1 .0 .opened .laid .within .stmts)
+
+builder-loop-less : (t : ℕ) → builder-lts.Need-loop-less (model-vars-reads.Asked, model-vars-reads.Learnt, model-reads.Asked, model-reads.Learnt, unknowns-errors-reads.Asked, unknowns-errors-reads.Learnt, stmt-errors-below t, stmt-errors.Post) (builder-at t) builder.Post builder-Inv-loop builder-μ-loop
+builder-loop-less t c = omega (arith, c .before .before .before .before .before .loop-test .taken)
+
+builder-loop-again : (t : ℕ) → builder-lts.Need-loop-again (model-vars-reads.Asked, model-vars-reads.Learnt, model-reads.Asked, model-reads.Learnt, unknowns-errors-reads.Asked, unknowns-errors-reads.Learnt, stmt-errors-below t, stmt-errors.Post) (builder-at t) builder.Post builder-Inv-loop builder-μ-loop
+builder-loop-again t c = (omega (arith, c .before .before .before .before .before .loop-test .taken), run-goes (stmtErrors (fileIn (c .before .before .before .before .before .before .before .before .before .before .before .before .before .before .before .before .before .args .f .now) (c .before .before .before .before .before .before .before .before .before .before .before .before .before .before .before .before .before .args .s)) (λ j. errorsOf (fileIn (c .before .before .before .before .before .before .before .before .before .before .before .before .before .before .before .before .before .args .f .now) (c .before .before .before .before .before .before .before .before .before .before .before .before .before .before .before .before .before .args .s)) (c .before .before .before .before .before .before .before .before .before .before .before .before .before .before .before .before .before .args .k - 1) j) (scopeIn (c .before .before .before .before .before .before .before .before .before .before .before .before .before .before .before .before .before .args .f .now) (c .before .before .before .before .before .before .before .before .before .before .before .before .before .before .before .before .before .args .s) (c .before .before .before .before .before .before .before .before .before .before .before .before .before .before .before .before .before .args .m))) (modelAt (fileIn (c .before .before .before .before .before .before .before .before .before .before .before .before .before .before .before .before .before .args .f .now) (c .before .before .before .before .before .before .before .before .before .before .before .before .before .before .before .before .before .args .s)) (c .before .before .before .before .before .before .before .before .before .before .before .before .before .before .before .before .before .args .m) .stmts) (stmtIn (c .before .before .before .before .before .before .before .before .before .before .before .before .before .before .before .before .before .args .f .now) (c .before .before .before .before .before .before .before .before .before .before .before .before .before .before .before .before .before .args .s) (c .before .before .before .before .before .before .before .before .before .before .before .before .model .result + c .before .before .before .before .before .before .loop .i)) (c .before .before .before .before .before .before .loop .i) (stmt-there (c .before .before .before .before .before .before .before .before .before .before .before .before .before .before .before .before .before .args .f .now) (c .before .before .before .before .before .before .before .before .before .before .before .before .before .before .before .before .before .args .s) (c .before .before .before .before .before .before .before .before .before .before .before .before .before .before .before .before .before .pre .1 .0 .opened) (c .before .before .before .before .before .before .before .before .before .before .before .before .before .before .before .before .before .args .m) (c .before .before .before .before .before .before .before .before .before .before .before .before .before .before .before .before .before .pre .1 .1) (c .before .before .before .before .before .before .before .before .before .before .before .before .model .result) (c .before .before .before .before .before .before .before .before .before .before .before .model2 .result) (c .before .before .before .before .before .before .loop .i) (c .before .before .before .before .before .before .before .before .before .before .before .before .model .ensures .0) (c .before .before .before .before .before .before .before .before .before .before .before .model2 .ensures .0) (c .before .before .before .before .before .loop-test .taken)) (stmt-here (c .before .before .before .before .before .before .before .before .before .before .before .before .before .before .before .before .before .args .f .now) (c .before .before .before .before .before .before .before .before .before .before .before .before .before .before .before .before .before .args .s) (c .before .before .before .before .before .before .before .before .before .before .before .before .before .before .before .before .before .pre .1 .0 .opened) (c .before .before .before .before .before .before .before .before .before .before .before .before .before .before .before .before .before .args .m) (c .before .before .before .before .before .before .before .before .before .before .before .before .before .before .before .before .before .pre .1 .1) (c .before .before .before .before .before .before .before .before .before .before .before .before .model .result) (c .before .before .before .before .before .before .before .before .before .before .before .model2 .result) (c .before .before .before .before .before .before .loop .i) (c .before .before .before .before .before .before .before .before .before .before .before .before .model .ensures .0) (c .before .before .before .before .before .before .before .before .before .before .before .model2 .ensures .0) (c .before .before .before .before .before .loop-test .taken)) _ _ _ _ _ _ (c .before .before .before .before .before .before .loop .inv .1) (c .before .before .stmt-errors .ensures))
+
+builder-same-length : (t : ℕ) → builder-lts.Need-same-length (model-vars-reads.Asked, model-vars-reads.Learnt, model-reads.Asked, model-reads.Learnt, unknowns-errors-reads.Asked, unknowns-errors-reads.Learnt, stmt-errors-below t, stmt-errors.Post) (builder-at t) builder.Post builder-Inv-loop builder-μ-loop
+builder-same-length t c = let r = room-then (errors-more (fileIn (c .before .before .before .before .before .before .before .before .before .before .before .before .args .f .now) (c .before .before .before .before .before .before .before .before .before .before .before .before .args .s)) (c .before .before .before .before .before .before .before .before .before .before .before .before .args .k) (c .before .before .before .before .before .before .before .before .before .before .before .before .args .m) (c .before .before .before .before .before .before .before .before .before .if1 .left)) _ _ (c .before .before .before .before .before .before .before .before .before .before .before .before .pre .1 .3) (c .before .before .before .before .unknowns-errors .ensures) in ap length (c .before .loop .inv .1 .1) ∙ length-listed _ _ _ (r .long) ∙ ap length (c .before .before .before .before .unknowns-errors .ensures .1) ∙ length-listed _ _ _ (c .before .before .before .before .before .before .before .before .before .before .before .before .pre .1 .3 .long)
+
+builder-returns-2 : (t : ℕ) → builder-lts.Need-returns-2 (model-vars-reads.Asked, model-vars-reads.Learnt, model-reads.Asked, model-reads.Learnt, unknowns-errors-reads.Asked, unknowns-errors-reads.Learnt, stmt-errors-below t, stmt-errors.Post) (builder-at t) builder.Post builder-Inv-loop builder-μ-loop
+builder-returns-2 t c = lists-then (errors-more (fileIn (c .before .before .before .before .before .before .before .before .before .before .before .before .args .f .now) (c .before .before .before .before .before .before .before .before .before .before .before .before .args .s)) (c .before .before .before .before .before .before .before .before .before .before .before .before .args .k) (c .before .before .before .before .before .before .before .before .before .before .before .before .args .m) (c .before .before .before .before .before .before .before .before .before .if1 .left)) _ _ _ _ _ _ (c .before .before .before .before .unknowns-errors .ensures) (run-ends (stmtErrors (fileIn (c .before .before .before .before .before .before .before .before .before .before .before .before .args .f .now) (c .before .before .before .before .before .before .before .before .before .before .before .before .args .s)) (λ j. errorsOf (fileIn (c .before .before .before .before .before .before .before .before .before .before .before .before .args .f .now) (c .before .before .before .before .before .before .before .before .before .before .before .before .args .s)) (c .before .before .before .before .before .before .before .before .before .before .before .before .args .k - 1) j) (scopeIn (c .before .before .before .before .before .before .before .before .before .before .before .before .args .f .now) (c .before .before .before .before .before .before .before .before .before .before .before .before .args .s) (c .before .before .before .before .before .before .before .before .before .before .before .before .args .m))) (modelAt (fileIn (c .before .before .before .before .before .before .before .before .before .before .before .before .args .f .now) (c .before .before .before .before .before .before .before .before .before .before .before .before .args .s)) (c .before .before .before .before .before .before .before .before .before .before .before .before .args .m) .stmts) (c .before .loop .i) (stmts-past (c .before .before .before .before .before .before .before .before .before .before .before .before .args .f .now) (c .before .before .before .before .before .before .before .before .before .before .before .before .args .s) (c .before .before .before .before .before .before .before .before .before .before .before .before .pre .1 .0 .opened) (c .before .before .before .before .before .before .before .before .before .before .before .before .args .m) (c .before .before .before .before .before .before .before .before .before .before .before .before .pre .1 .1) (c .before .before .before .before .before .before .before .model .result) (c .before .before .before .before .before .before .model2 .result) (c .before .loop .i) (c .before .before .before .before .before .before .before .model .ensures .0) (c .before .before .before .before .before .before .model2 .ensures .0) (c .loop-test .left)) _ _ _ _ (c .before .loop .inv .1))
+
+stmt-errors-stmt-requires : (t : ℕ) → stmt-errors-lts.Need-stmt-requires (stmt-reads.Asked, stmt-reads.Learnt, own-errors-reads.Asked, own-errors-reads.Learnt, node-reads.Asked, node-reads.Learnt, missing-error-reads.Asked, missing-error-reads.Learnt, builder-below t, builder.Post, order-errors-reads.Asked, order-errors-reads.Learnt) (stmt-errors-at t) stmt-errors.Post
+stmt-errors-stmt-requires t c κs = (c .before .before .pre .1 .0 .opened, (c .before .before .pre .1 .2, omega arith))
+
+stmt-errors-own-errors-requires : (t : ℕ) → stmt-errors-lts.Need-own-errors-requires (stmt-reads.Asked, stmt-reads.Learnt, own-errors-reads.Asked, own-errors-reads.Learnt, node-reads.Asked, node-reads.Learnt, missing-error-reads.Asked, missing-error-reads.Learnt, builder-below t, builder.Post, order-errors-reads.Asked, order-errors-reads.Learnt) (stmt-errors-at t) stmt-errors.Post
+stmt-errors-own-errors-requires t c κs = (c .before .before .before .before .before .pre .1 .1, c .before .before .before .before .before .pre .1 .2, (let n = not-three (c .before .before .before .before .before .pre .1 .0 .opened) (c .before .before .before .before .before .args .q) (c .before .before .before .before .before .pre .1 .2) (c .before .before .stmt .result) (c .before .before .stmt .ensures .0) (c .before .if1 .taken) in omega (arith, n, c .before .before .stmt .ensures .0)), rw (own-same (c .before .before .before .before .before .pre .1 .0 .opened) (c .before .before .before .before .before .args .q) (c .before .before .before .before .before .pre .1 .2) (c .before .before .stmt .result) (c .before .before .stmt .ensures .0) (not-three (c .before .before .before .before .before .pre .1 .0 .opened) (c .before .before .before .before .before .args .q) (c .before .before .before .before .before .pre .1 .2) (c .before .before .stmt .result) (c .before .before .stmt .ensures .0) (c .before .if1 .taken)) (λ j. errorsOf (fileIn (c .before .before .before .before .before .args .f .now) (c .before .before .before .before .before .args .s)) (c .before .before .before .before .before .args .k) j) (λ j. []) (scopeIn (c .before .before .before .before .before .args .f .now) (c .before .before .before .before .before .args .s) (c .before .before .before .before .before .args .m))) at (c .before .before .before .before .before .pre .1 .4))
+
+stmt-errors-same-length : (t : ℕ) → stmt-errors-lts.Need-same-length (stmt-reads.Asked, stmt-reads.Learnt, own-errors-reads.Asked, own-errors-reads.Learnt, node-reads.Asked, node-reads.Learnt, missing-error-reads.Asked, missing-error-reads.Learnt, builder-below t, builder.Post, order-errors-reads.Asked, order-errors-reads.Learnt) (stmt-errors-at t) stmt-errors.Post
+stmt-errors-same-length t c = omega arith
+
+stmt-errors-returns : (t : ℕ) → stmt-errors-lts.Need-returns (stmt-reads.Asked, stmt-reads.Learnt, own-errors-reads.Asked, own-errors-reads.Learnt, node-reads.Asked, node-reads.Learnt, missing-error-reads.Asked, missing-error-reads.Learnt, builder-below t, builder.Post, order-errors-reads.Asked, order-errors-reads.Learnt) (stmt-errors-at t) stmt-errors.Post
+stmt-errors-returns t c = rw (own-same (c .before .before .before .before .before .before .before .before .pre .1 .0 .opened) (c .before .before .before .before .before .before .before .before .args .q) (c .before .before .before .before .before .before .before .before .pre .1 .2) (c .before .before .before .before .before .stmt .result) (c .before .before .before .before .before .stmt .ensures .0) (not-three (c .before .before .before .before .before .before .before .before .pre .1 .0 .opened) (c .before .before .before .before .before .before .before .before .args .q) (c .before .before .before .before .before .before .before .before .pre .1 .2) (c .before .before .before .before .before .stmt .result) (c .before .before .before .before .before .stmt .ensures .0) (c .before .before .before .before .if1 .taken)) (λ j. errorsOf (fileIn (c .before .before .before .before .before .before .before .before .args .f .now) (c .before .before .before .before .before .before .before .before .args .s)) (c .before .before .before .before .before .before .before .before .args .k) j) (λ j. []) (scopeIn (c .before .before .before .before .before .before .before .before .args .f .now) (c .before .before .before .before .before .before .before .before .args .s) (c .before .before .before .before .before .before .before .before .args .m))) (c .before .before .own-errors .ensures)
+
+stmt-errors-stmt-requires-2 : (t : ℕ) → stmt-errors-lts.Need-stmt-requires-2 (stmt-reads.Asked, stmt-reads.Learnt, own-errors-reads.Asked, own-errors-reads.Learnt, node-reads.Asked, node-reads.Learnt, missing-error-reads.Asked, missing-error-reads.Learnt, builder-below t, builder.Post, order-errors-reads.Asked, order-errors-reads.Learnt) (stmt-errors-at t) stmt-errors.Post
+stmt-errors-stmt-requires-2 t c κs = (c .before .before .before .before .pre .1 .0 .opened, (c .before .before .before .before .pre .1 .2, omega arith))
+
+stmt-errors-element-copy-out-c : (t : ℕ) → stmt-errors-lts.Need-element-copy-out-c (stmt-reads.Asked, stmt-reads.Learnt, own-errors-reads.Asked, own-errors-reads.Learnt, node-reads.Asked, node-reads.Learnt, missing-error-reads.Asked, missing-error-reads.Learnt, builder-below t, builder.Post, order-errors-reads.Asked, order-errors-reads.Learnt) (stmt-errors-at t) stmt-errors.Post
+stmt-errors-element-copy-out-c t c = omega (arith, c .before .before .before .before .before .pre .1 .0 .opened .laid .within .stmts, c .before .before .before .before .before .pre .1 .2)
+
+stmt-errors-cast-c : (t : ℕ) → stmt-errors-lts.Need-cast-c (stmt-reads.Asked, stmt-reads.Learnt, own-errors-reads.Asked, own-errors-reads.Learnt, node-reads.Asked, node-reads.Learnt, missing-error-reads.Asked, missing-error-reads.Learnt, builder-below t, builder.Post, order-errors-reads.Asked, order-errors-reads.Learnt) (stmt-errors-at t) stmt-errors.Post
+stmt-errors-cast-c t c = omega (arith, entry-below (c .before .before .before .before .before .before .args .f .now) (c .before .before .before .before .before .before .args .s) (c .before .before .before .before .before .before .pre .1 .0 .opened) (c .before .before .before .before .before .before .args .callees .now) (c .before .before .before .before .before .before .pre .1 .0 .callees) (c .before .before .before .before .before .before .args .q) (c .before .before .before .before .before .before .pre .1 .2), c .before .before .before .before .before .before .pre .1 .0 .opened .laid .within .models)
+
+stmt-errors-node-requires : (t : ℕ) → stmt-errors-lts.Need-node-requires (stmt-reads.Asked, stmt-reads.Learnt, own-errors-reads.Asked, own-errors-reads.Learnt, node-reads.Asked, node-reads.Learnt, missing-error-reads.Asked, missing-error-reads.Learnt, builder-below t, builder.Post, order-errors-reads.Asked, order-errors-reads.Learnt) (stmt-errors-at t) stmt-errors.Post
+stmt-errors-node-requires t c κs = (c .before .before .before .before .before .before .before .pre .1 .0 .opened, ((call-in (c .before .before .before .before .before .before .before .pre .1 .0 .opened) (c .before .before .before .before .before .before .before .args .q) (c .before .before .before .before .before .before .before .pre .1 .2) (c .before .before .before .before .stmt .result) (c .before .before .before .before .stmt .ensures .0) (c .before .before .before .if1 .left) (c .before .before .stmt2 .result) (c .before .before .stmt2 .ensures .0)) .within, omega arith))
+
+stmt-errors-missing-error-requires : (t : ℕ) → stmt-errors-lts.Need-missing-error-requires (stmt-reads.Asked, stmt-reads.Learnt, own-errors-reads.Asked, own-errors-reads.Learnt, node-reads.Asked, node-reads.Learnt, missing-error-reads.Asked, missing-error-reads.Learnt, builder-below t, builder.Post, order-errors-reads.Asked, order-errors-reads.Learnt) (stmt-errors-at t) stmt-errors.Post
+stmt-errors-missing-error-requires t c κs = (c .before .before .before .before .before .before .before .before .before .pre .1 .0 .opened, c .before .before .before .before .before .before .before .before .before .pre .1 .2, omega (arith, c .before .node .ensures .0, call-small (call-in (c .before .before .before .before .before .before .before .before .before .pre .1 .0 .opened) (c .before .before .before .before .before .before .before .before .before .args .q) (c .before .before .before .before .before .before .before .before .before .pre .1 .2) (c .before .before .before .before .before .before .stmt .result) (c .before .before .before .before .before .before .stmt .ensures .0) (c .before .before .before .before .before .if1 .left) (c .before .before .before .before .stmt2 .result) (c .before .before .before .before .stmt2 .ensures .0))), c .before .before .before .before .before .before .before .before .before .pre .1 .4 .long, omega (arith, c .before .before .before .before .before .before .before .before .before .pre .1 .4 .few))
+
+stmt-errors-same-length-2 : (t : ℕ) → stmt-errors-lts.Need-same-length-2 (stmt-reads.Asked, stmt-reads.Learnt, own-errors-reads.Asked, own-errors-reads.Learnt, node-reads.Asked, node-reads.Learnt, missing-error-reads.Asked, missing-error-reads.Learnt, builder-below t, builder.Post, order-errors-reads.Asked, order-errors-reads.Learnt) (stmt-errors-at t) stmt-errors.Post
+stmt-errors-same-length-2 t c = omega arith
+
+stmt-errors-returns-2 : (t : ℕ) → stmt-errors-lts.Need-returns-2 (stmt-reads.Asked, stmt-reads.Learnt, own-errors-reads.Asked, own-errors-reads.Learnt, node-reads.Asked, node-reads.Learnt, missing-error-reads.Asked, missing-error-reads.Learnt, builder-below t, builder.Post, order-errors-reads.Asked, order-errors-reads.Learnt) (stmt-errors-at t) stmt-errors.Post
+stmt-errors-returns-2 t c = rw (submodel-missing (c .before .before .before .before .before .before .before .before .before .before .before .before .pre .1 .0) (c .before .before .before .before .before .before .before .before .before .before .before .before .args .q) (c .before .before .before .before .before .before .before .before .before .before .before .before .pre .1 .2) (c .before .before .before .before .before .before .before .before .before .stmt .result) (c .before .before .before .before .before .before .before .before .before .stmt .ensures .0) (c .before .before .before .before .before .before .before .before .if1 .left) (c .before .before .before .before .before .before .before .stmt2 .result) (c .before .before .before .before .before .before .before .stmt2 .ensures .0) (λ j. errorsOf (fileIn (c .before .before .before .before .before .before .before .before .before .before .before .before .args .f .now) (c .before .before .before .before .before .before .before .before .before .before .before .before .args .s)) (c .before .before .before .before .before .before .before .before .before .before .before .before .args .k) j) (scopeIn (c .before .before .before .before .before .before .before .before .before .before .before .before .args .f .now) (c .before .before .before .before .before .before .before .before .before .before .before .before .args .s) (c .before .before .before .before .before .before .before .before .before .before .before .before .args .m)) (c .before .before .before .before .before .if2 .taken) (c .before .before .before .before .node .result) (c .before .before .before .before .node .ensures .0)) (c .before .before .missing-error .ensures)
+
+stmt-errors-sub-builder : (t : ℕ) → stmt-errors-lts.Need-sub-builder (stmt-reads.Asked, stmt-reads.Learnt, own-errors-reads.Asked, own-errors-reads.Learnt, node-reads.Asked, node-reads.Learnt, missing-error-reads.Asked, missing-error-reads.Learnt, builder-below t, builder.Post, order-errors-reads.Asked, order-errors-reads.Learnt) (stmt-errors-at t) stmt-errors.Post
+stmt-errors-sub-builder t c = omega (arith, c .if2 .left)
+
+stmt-errors-builder-requires : (t : ℕ) → stmt-errors-lts.Need-builder-requires (stmt-reads.Asked, stmt-reads.Learnt, own-errors-reads.Asked, own-errors-reads.Learnt, node-reads.Asked, node-reads.Learnt, missing-error-reads.Asked, missing-error-reads.Learnt, builder-below t, builder.Post, order-errors-reads.Asked, order-errors-reads.Learnt) (stmt-errors-at t) stmt-errors.Post
+stmt-errors-builder-requires t c κs = (omega (arith, c .before .before .before .before .before .before .before .before .pre .0), (c .before .before .before .before .before .before .before .before .pre .1 .0, omega (arith, entry-below (c .before .before .before .before .before .before .before .before .args .f .now) (c .before .before .before .before .before .before .before .before .args .s) (c .before .before .before .before .before .before .before .before .pre .1 .0 .opened) (c .before .before .before .before .before .before .before .before .args .callees .now) (c .before .before .before .before .before .before .before .before .pre .1 .0 .callees) (c .before .before .before .before .before .before .before .before .args .q) (c .before .before .before .before .before .before .before .before .pre .1 .2), c .before .if2 .left), omega (arith, c .before .before .before .before .before .before .before .before .pre .1 .3), room-first (submodel-found (c .before .before .before .before .before .before .before .before .pre .1 .0) (c .before .before .before .before .before .before .before .before .args .q) (c .before .before .before .before .before .before .before .before .pre .1 .2) (c .before .before .before .before .before .stmt .result) (c .before .before .before .before .before .stmt .ensures .0) (c .before .before .before .before .if1 .left) (c .before .before .before .stmt2 .result) (c .before .before .before .stmt2 .ensures .0) (λ j. errorsOf (fileIn (c .before .before .before .before .before .before .before .before .args .f .now) (c .before .before .before .before .before .before .before .before .args .s)) (c .before .before .before .before .before .before .before .before .args .k) j) (scopeIn (c .before .before .before .before .before .before .before .before .args .f .now) (c .before .before .before .before .before .before .before .before .args .s) (c .before .before .before .before .before .before .before .before .args .m)) (c .before .if2 .left) _ _ refl refl) (c .before .before .before .before .before .before .before .before .pre .1 .4)))
+
+stmt-errors-node-requires-2 : (t : ℕ) → stmt-errors-lts.Need-node-requires-2 (stmt-reads.Asked, stmt-reads.Learnt, own-errors-reads.Asked, own-errors-reads.Learnt, node-reads.Asked, node-reads.Learnt, missing-error-reads.Asked, missing-error-reads.Learnt, builder-below t, builder.Post, order-errors-reads.Asked, order-errors-reads.Learnt) (stmt-errors-at t) stmt-errors.Post
+stmt-errors-node-requires-2 t c κs = (c .before .before .before .before .before .before .before .before .before .before .before .pre .1 .0 .opened, ((call-in (c .before .before .before .before .before .before .before .before .before .before .before .pre .1 .0 .opened) (c .before .before .before .before .before .before .before .before .before .before .before .args .q) (c .before .before .before .before .before .before .before .before .before .before .before .pre .1 .2) (c .before .before .before .before .before .before .before .before .stmt .result) (c .before .before .before .before .before .before .before .before .stmt .ensures .0) (c .before .before .before .before .before .before .before .if1 .left) (c .before .before .before .before .before .before .stmt2 .result) (c .before .before .before .before .before .before .stmt2 .ensures .0)) .within, omega arith))
+
+stmt-errors-node-requires-3 : (t : ℕ) → stmt-errors-lts.Need-node-requires-3 (stmt-reads.Asked, stmt-reads.Learnt, own-errors-reads.Asked, own-errors-reads.Learnt, node-reads.Asked, node-reads.Learnt, missing-error-reads.Asked, missing-error-reads.Learnt, builder-below t, builder.Post, order-errors-reads.Asked, order-errors-reads.Learnt) (stmt-errors-at t) stmt-errors.Post
+stmt-errors-node-requires-3 t c κs = (c .before .before .before .before .before .before .before .before .before .before .before .before .pre .1 .0 .opened, ((call-in (c .before .before .before .before .before .before .before .before .before .before .before .before .pre .1 .0 .opened) (c .before .before .before .before .before .before .before .before .before .before .before .before .args .q) (c .before .before .before .before .before .before .before .before .before .before .before .before .pre .1 .2) (c .before .before .before .before .before .before .before .before .before .stmt .result) (c .before .before .before .before .before .before .before .before .before .stmt .ensures .0) (c .before .before .before .before .before .before .before .before .if1 .left) (c .before .before .before .before .before .before .before .stmt2 .result) (c .before .before .before .before .before .before .before .stmt2 .ensures .0)) .within, omega arith))
+
+stmt-errors-sub-total : (t : ℕ) → stmt-errors-lts.Need-sub-total (stmt-reads.Asked, stmt-reads.Learnt, own-errors-reads.Asked, own-errors-reads.Learnt, node-reads.Asked, node-reads.Learnt, missing-error-reads.Asked, missing-error-reads.Learnt, builder-below t, builder.Post, order-errors-reads.Asked, order-errors-reads.Learnt) (stmt-errors-at t) stmt-errors.Post
+stmt-errors-sub-total t c = omega (arith, c .node3 .ensures .0, call-sized (call-in (c .before .before .before .before .before .before .before .before .before .before .before .before .before .pre .1 .0 .opened) (c .before .before .before .before .before .before .before .before .before .before .before .before .before .args .q) (c .before .before .before .before .before .before .before .before .before .before .before .before .before .pre .1 .2) (c .before .before .before .before .before .before .before .before .before .before .stmt .result) (c .before .before .before .before .before .before .before .before .before .before .stmt .ensures .0) (c .before .before .before .before .before .before .before .before .before .if1 .left) (c .before .before .before .before .before .before .before .before .stmt2 .result) (c .before .before .before .before .before .before .before .before .stmt2 .ensures .0)))
+
+stmt-errors-order-errors-requires : (t : ℕ) → stmt-errors-lts.Need-order-errors-requires (stmt-reads.Asked, stmt-reads.Learnt, own-errors-reads.Asked, own-errors-reads.Learnt, node-reads.Asked, node-reads.Learnt, missing-error-reads.Asked, missing-error-reads.Learnt, builder-below t, builder.Post, order-errors-reads.Asked, order-errors-reads.Learnt) (stmt-errors-at t) stmt-errors.Post
+stmt-errors-order-errors-requires t c κs = (call-args (call-in (c .before .before .before .before .before .before .before .before .before .before .before .before .before .before .pre .1 .0 .opened) (c .before .before .before .before .before .before .before .before .before .before .before .before .before .before .args .q) (c .before .before .before .before .before .before .before .before .before .before .before .before .before .before .pre .1 .2) (c .before .before .before .before .before .before .before .before .before .before .before .stmt .result) (c .before .before .before .before .before .before .before .before .before .before .before .stmt .ensures .0) (c .before .before .before .before .before .before .before .before .before .before .if1 .left) (c .before .before .before .before .before .before .before .before .before .stmt2 .result) (c .before .before .before .before .before .before .before .before .before .stmt2 .ensures .0)) (c .before .before .node2 .result) (c .before .node3 .result) (c .before .before .node2 .ensures .0) (c .before .node3 .ensures .0), room-then (submodel-found (c .before .before .before .before .before .before .before .before .before .before .before .before .before .before .pre .1 .0) (c .before .before .before .before .before .before .before .before .before .before .before .before .before .before .args .q) (c .before .before .before .before .before .before .before .before .before .before .before .before .before .before .pre .1 .2) (c .before .before .before .before .before .before .before .before .before .before .before .stmt .result) (c .before .before .before .before .before .before .before .before .before .before .before .stmt .ensures .0) (c .before .before .before .before .before .before .before .before .before .before .if1 .left) (c .before .before .before .before .before .before .before .before .before .stmt2 .result) (c .before .before .before .before .before .before .before .before .before .stmt2 .ensures .0) (λ j. errorsOf (fileIn (c .before .before .before .before .before .before .before .before .before .before .before .before .before .before .args .f .now) (c .before .before .before .before .before .before .before .before .before .before .before .before .before .before .args .s)) (c .before .before .before .before .before .before .before .before .before .before .before .before .before .before .args .k) j) (scopeIn (c .before .before .before .before .before .before .before .before .before .before .before .before .before .before .args .f .now) (c .before .before .before .before .before .before .before .before .before .before .before .before .before .before .args .s) (c .before .before .before .before .before .before .before .before .before .before .before .before .before .before .args .m)) (c .before .before .before .before .before .before .before .if2 .left) (c .before .before .node2 .result) (c .before .node3 .result) (c .before .before .node2 .ensures .0) (c .before .node3 .ensures .0)) _ _ (c .before .before .before .before .before .before .before .before .before .before .before .before .before .before .pre .1 .4) (c .before .before .before .before .before .builder .ensures))
+
+stmt-errors-same-length-3 : (t : ℕ) → stmt-errors-lts.Need-same-length-3 (stmt-reads.Asked, stmt-reads.Learnt, own-errors-reads.Asked, own-errors-reads.Learnt, node-reads.Asked, node-reads.Learnt, missing-error-reads.Asked, missing-error-reads.Learnt, builder-below t, builder.Post, order-errors-reads.Asked, order-errors-reads.Learnt) (stmt-errors-at t) stmt-errors.Post
+stmt-errors-same-length-3 t c = omega arith
+
+stmt-errors-returns-3 : (t : ℕ) → stmt-errors-lts.Need-returns-3 (stmt-reads.Asked, stmt-reads.Learnt, own-errors-reads.Asked, own-errors-reads.Learnt, node-reads.Asked, node-reads.Learnt, missing-error-reads.Asked, missing-error-reads.Learnt, builder-below t, builder.Post, order-errors-reads.Asked, order-errors-reads.Learnt) (stmt-errors-at t) stmt-errors.Post
+stmt-errors-returns-3 t c = lists-then (submodel-found (c .before .before .before .before .before .before .before .before .before .before .before .before .before .before .before .before .before .pre .1 .0) (c .before .before .before .before .before .before .before .before .before .before .before .before .before .before .before .before .before .args .q) (c .before .before .before .before .before .before .before .before .before .before .before .before .before .before .before .before .before .pre .1 .2) (c .before .before .before .before .before .before .before .before .before .before .before .before .before .before .stmt .result) (c .before .before .before .before .before .before .before .before .before .before .before .before .before .before .stmt .ensures .0) (c .before .before .before .before .before .before .before .before .before .before .before .before .before .if1 .left) (c .before .before .before .before .before .before .before .before .before .before .before .before .stmt2 .result) (c .before .before .before .before .before .before .before .before .before .before .before .before .stmt2 .ensures .0) (λ j. errorsOf (fileIn (c .before .before .before .before .before .before .before .before .before .before .before .before .before .before .before .before .before .args .f .now) (c .before .before .before .before .before .before .before .before .before .before .before .before .before .before .before .before .before .args .s)) (c .before .before .before .before .before .before .before .before .before .before .before .before .before .before .before .before .before .args .k) j) (scopeIn (c .before .before .before .before .before .before .before .before .before .before .before .before .before .before .before .before .before .args .f .now) (c .before .before .before .before .before .before .before .before .before .before .before .before .before .before .before .before .before .args .s) (c .before .before .before .before .before .before .before .before .before .before .before .before .before .before .before .before .before .args .m)) (c .before .before .before .before .before .before .before .before .before .before .if2 .left) (c .before .before .before .before .before .node2 .result) (c .before .before .before .before .node3 .result) (c .before .before .before .before .before .node2 .ensures .0) (c .before .before .before .before .node3 .ensures .0)) _ _ _ _ _ _ (c .before .before .before .before .before .before .before .before .builder .ensures) (c .before .before .order-errors .ensures)
+
+pub +builder+stmt-errors-spec : {M : Type 1} → statement M
++builder+stmt-errors-spec = close μ-builder μ-stmt-errors (λ t. builder-lts.spec (model-vars-reads.Asked, model-vars-reads.Learnt, model-reads.Asked, model-reads.Learnt, unknowns-errors-reads.Asked, unknowns-errors-reads.Learnt, stmt-errors-below t, stmt-errors.Post)
+    (builder-at t)
+    builder.Post
+    builder-Inv-loop
+    builder-μ-loop
+    (builder-returns t)
+    (builder-model-vars-requires t)
+    (builder-model-requires t)
+    (builder-model-requires-2 t)
+    (builder-unknowns-errors-requires t)
+    (builder-loop-holds t)
+    (builder-sub-stmt-errors t)
+    (builder-add-stmt-errors t)
+    (builder-stmt-errors-requires t)
+    (builder-add-i t)
+    (builder-loop-less t)
+    (builder-loop-again t)
+    (builder-same-length t)
+    (builder-returns-2 t))
+    λ t. stmt-errors-lts.spec (stmt-reads.Asked, stmt-reads.Learnt, own-errors-reads.Asked, own-errors-reads.Learnt, node-reads.Asked, node-reads.Learnt, missing-error-reads.Asked, missing-error-reads.Learnt, builder-below t, builder.Post, order-errors-reads.Asked, order-errors-reads.Learnt)
+    (stmt-errors-at t)
+    stmt-errors.Post
+    (stmt-errors-stmt-requires t)
+    (stmt-errors-own-errors-requires t)
+    (stmt-errors-same-length t)
+    (stmt-errors-returns t)
+    (stmt-errors-stmt-requires-2 t)
+    (stmt-errors-element-copy-out-c t)
+    (stmt-errors-cast-c t)
+    (stmt-errors-node-requires t)
+    (stmt-errors-missing-error-requires t)
+    (stmt-errors-same-length-2 t)
+    (stmt-errors-returns-2 t)
+    (stmt-errors-sub-builder t)
+    (stmt-errors-builder-requires t)
+    (stmt-errors-node-requires-2 t)
+    (stmt-errors-node-requires-3 t)
+    (stmt-errors-sub-total t)
+    (stmt-errors-order-errors-requires t)
+    (stmt-errors-same-length-3 t)
+    (stmt-errors-returns-3 t)

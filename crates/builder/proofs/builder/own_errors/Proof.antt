@@ -1,0 +1,50 @@
+use mathlib.Core.Path.{refl}
+use mathlib.Core.List.{[]}
+use native.Mathlib.Omega.{arith}
+use Rattle.builder.specs.Checking.{scopeIn}
+use Rattle.builder.proofs.Listings.{lists-then, room-first, room-then}
+use Rattle.builder.proofs.ModelErrors.{right-in, left-in, an-equation, rate-errors, equation-errors, right-first}
+use borrow.Author.Needs.{needs}
+use Rattle.builder.proofs.builder.own_errors.Statement.{statement}
+use Rattle.builder.proofs.builder.own_errors.Tie as tie
+
+stmt-requires : tie.Need-stmt-requires
+stmt-requires c κs = search needs
+
+check-expr-requires : tie.Need-check-expr-requires
+check-expr-requires c κs = (c .before .before .before .before .pre .0, right-in (c .before .before .before .before .pre .0 .scoped .opened) (c .before .before .before .before .args .q) (c .before .before .before .before .pre .1) (c .before .stmt .result) (c .before .stmt .ensures .0), room-first (right-first (c .before .before .before .before .pre .0 .scoped .opened) (c .before .before .before .before .args .q) (c .before .before .before .before .pre .1) _ refl (λ j. []) (scopeIn (c .before .before .before .before .args .f .now) (c .before .before .before .before .args .s) (c .before .before .before .before .args .m)) (c .before .before .before .before .pre .2) (c .before .stmt .result) (c .before .stmt .ensures .0) .1) (c .before .before .before .before .pre .3))
+
+stmt-requires-2 : tie.Need-stmt-requires-2
+stmt-requires-2 c κs = search needs
+
+same-length : tie.Need-same-length
+same-length c = search needs
+
+returns : tie.Need-returns
+returns c = rw (rate-errors (c .before .before .before .before .before .before .before .before .before .pre .0 .scoped .opened) (c .before .before .before .before .before .before .before .before .before .args .q) (c .before .before .before .before .before .before .before .before .before .pre .1) (c .before .stmt2 .result) (c .before .stmt2 .ensures .0) (λ j. []) (scopeIn (c .before .before .before .before .before .before .before .before .before .args .f .now) (c .before .before .before .before .before .before .before .before .before .args .s) (c .before .before .before .before .before .before .before .before .before .args .m)) (c .if1 .taken) (c .before .before .before .before .before .before .stmt .result) (c .before .before .before .before .before .before .stmt .ensures .0)) (c .before .before .before .before .check-expr .ensures)
+
+stmt-requires-3 : tie.Need-stmt-requires-3
+stmt-requires-3 c κs = (c .before .before .before .before .before .before .before .before .before .pre .0 .scoped .opened, (c .before .before .before .before .before .before .before .before .before .pre .1, omega arith))
+
+check-expr-requires-2 : tie.Need-check-expr-requires-2
+check-expr-requires-2 c κs = (c .before .before .before .before .before .before .before .before .before .before .before .pre .0, left-in (c .before .before .before .before .before .before .before .before .before .before .before .pre .0 .scoped .opened) (c .before .before .before .before .before .before .before .before .before .before .before .args .q) (c .before .before .before .before .before .before .before .before .before .before .before .pre .1) (c .before .before .before .stmt2 .result) (c .before .before .before .stmt2 .ensures .0) (an-equation (c .before .before .before .before .before .before .before .before .before .before .before .pre .0 .scoped .opened) (c .before .before .before .before .before .before .before .before .before .before .before .args .q) (c .before .before .before .before .before .before .before .before .before .before .before .pre .1) (c .before .before .before .stmt2 .result) (c .before .before .before .stmt2 .ensures .0) (omega (arith, c .before .before .before .before .before .before .before .before .before .before .before .pre .2, c .before .before .before .stmt2 .ensures .0)) (c .before .before .if1 .left)) (c .before .stmt3 .result) (c .before .stmt3 .ensures .0), room-then (equation-errors (c .before .before .before .before .before .before .before .before .before .before .before .pre .0 .scoped .opened) (c .before .before .before .before .before .before .before .before .before .before .before .args .q) (c .before .before .before .before .before .before .before .before .before .before .before .pre .1) (c .before .before .before .stmt2 .result) (c .before .before .before .stmt2 .ensures .0) (λ j. []) (scopeIn (c .before .before .before .before .before .before .before .before .before .before .before .args .f .now) (c .before .before .before .before .before .before .before .before .before .before .before .args .s) (c .before .before .before .before .before .before .before .before .before .before .before .args .m)) (an-equation (c .before .before .before .before .before .before .before .before .before .before .before .pre .0 .scoped .opened) (c .before .before .before .before .before .before .before .before .before .before .before .args .q) (c .before .before .before .before .before .before .before .before .before .before .before .pre .1) (c .before .before .before .stmt2 .result) (c .before .before .before .stmt2 .ensures .0) (omega (arith, c .before .before .before .before .before .before .before .before .before .before .before .pre .2, c .before .before .before .stmt2 .ensures .0)) (c .before .before .if1 .left)) (c .before .before .before .before .before .before .before .before .stmt .result) (c .before .stmt3 .result) (c .before .before .before .before .before .before .before .before .stmt .ensures .0) (c .before .stmt3 .ensures .0)) _ _ (c .before .before .before .before .before .before .before .before .before .before .before .pre .3) (c .before .before .before .before .before .before .check-expr .ensures))
+
+same-length-2 : tie.Need-same-length-2
+same-length-2 c = search needs
+
+returns-2 : tie.Need-returns-2
+returns-2 c = lists-then (equation-errors (c .before .before .before .before .before .before .before .before .before .before .before .before .before .before .pre .0 .scoped .opened) (c .before .before .before .before .before .before .before .before .before .before .before .before .before .before .args .q) (c .before .before .before .before .before .before .before .before .before .before .before .before .before .before .pre .1) (c .before .before .before .before .before .before .stmt2 .result) (c .before .before .before .before .before .before .stmt2 .ensures .0) (λ j. []) (scopeIn (c .before .before .before .before .before .before .before .before .before .before .before .before .before .before .args .f .now) (c .before .before .before .before .before .before .before .before .before .before .before .before .before .before .args .s) (c .before .before .before .before .before .before .before .before .before .before .before .before .before .before .args .m)) (an-equation (c .before .before .before .before .before .before .before .before .before .before .before .before .before .before .pre .0 .scoped .opened) (c .before .before .before .before .before .before .before .before .before .before .before .before .before .before .args .q) (c .before .before .before .before .before .before .before .before .before .before .before .before .before .before .pre .1) (c .before .before .before .before .before .before .stmt2 .result) (c .before .before .before .before .before .before .stmt2 .ensures .0) (omega (arith, c .before .before .before .before .before .before .before .before .before .before .before .before .before .before .pre .2, c .before .before .before .before .before .before .stmt2 .ensures .0)) (c .before .before .before .before .before .if1 .left)) (c .before .before .before .before .before .before .before .before .before .before .before .stmt .result) (c .before .before .before .before .stmt3 .result) (c .before .before .before .before .before .before .before .before .before .before .before .stmt .ensures .0) (c .before .before .before .before .stmt3 .ensures .0)) _ _ _ _ _ _ (c .before .before .before .before .before .before .before .before .before .check-expr .ensures) (c .before .before .check-expr2 .ensures)
+
+pub own-errors-spec : {M : Type 1} → statement M
+own-errors-spec =
+    tie.close
+    (tie.spec
+    stmt-requires
+    check-expr-requires
+    stmt-requires-2
+    same-length
+    returns
+    stmt-requires-3
+    check-expr-requires-2
+    same-length-2
+    returns-2)
