@@ -49,7 +49,6 @@ pub mod OpenUnknowns
 pub mod Rosters
 pub mod PutWords
 pub mod KeptDependents
-pub mod Bounding
 pub mod Flats
 pub mod LeftSides
 pub mod ListedAt
@@ -57,3 +56,14 @@ pub mod RoleErrors
 pub mod Allocations
 pub mod ModelErrors
 pub mod ScopeTables
+pub mod Recording
+pub mod FatedRecords
+pub mod BoundLaws
+pub mod FateCases
+pub mod FateLaws
+pub mod FateLoops
+pub mod FateRecords
+pub mod FateSections
+pub mod PutRecords
+pub mod VarAnswers
+pub mod VarLaws

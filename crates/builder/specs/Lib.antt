@@ -20,6 +20,10 @@ pub mod Descent
 pub mod Overlay
 pub mod Places
 pub mod Allocating
+pub mod Unfated
+pub mod Bounding
+pub mod Fating
+pub mod VarRecords
 pub mod Computes
 pub mod Examples
 pub mod OwnExamples

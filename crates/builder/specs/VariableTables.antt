@@ -9,13 +9,11 @@ use Rattle.functions.specs.Lists.{any, all, each, member, plusOne, reaches, fla
 use Rattle.ast.specs.Tree.{Unknown}
 use Rattle.ast.specs.Words.{words}
 use Rattle.ast.specs.Numbers.{numberOf}
-use Rattle.ast.specs.declared.numbers as numbers
-use Rattle.ast.specs.declared.numbers.Domain.the-variants.{None, Span, Named}
 use Rattle.ast.specs.Records.{unknownOf}
 use Rattle.ast.specs.Opens.{contentsIn, fileIn}
 use Rattle.ast.specs.declared.sections.Sections.{Sections}
 use Rattle.builder.specs.Variables as vars
-use Rattle.builder.specs.Variables.{variableNames, keptDeps, Bounds, fromZero, unbounded, domainBounds}
+use Rattle.builder.specs.Variables.{variableNames, keptDeps}
 use Rattle.builder.specs.Flatten.{modelAt}
 use Rattle.builder.specs.declared.variables.Roster.{Roster}
 
@@ -94,32 +92,3 @@ keptBy table ds = each (λ d. oneBelow (getD table d 0)) ds
 -- where each variable's kept dependents begin, and, last, where they end
 pub record StartsOf (vs : List ℕ) (us : List Unknown) (starts : List ℕ) : Type 0 where
   pub start : (v : ℕ) → v ≤ length vs → getD starts v 0 ≡ length (each (keptDeps vs us) (take v vs))
-
--- ---- bounds
-
--- from 0 to infinity, or unbounded
-unfoldable pub fromZeroIf : Bool → Bounds
-fromZeroIf z = cond z fromZero unbounded
-
--- a bounds pair in the code's terms
-unfoldable pub boundsValue : Bounds → numbers.Bounds.Bounds
-boundsValue b = record { lower = numberOf (b .lower); upper = numberOf (b .upper) }
-
--- the bounds of a domain: its own, or by whether its name is NonNegative, or by whether its unknown is t
-unfoldable pub boundsGiven : numbers.Domain.Domain → Bool → Bool → numbers.Bounds.Bounds
-boundsGiven None time nonneg = boundsValue (fromZeroIf time)
-boundsGiven (Span l u) time nonneg = record { lower = l; upper = u }
-boundsGiven (Named d) time nonneg = boundsValue (fromZeroIf nonneg)
-
--- the unknown, plus 1, of those from number i on, that declares a name (plus 1) last, or o
-unfoldable pub lastDeclared : ℕ → ℕ → ℕ → List Unknown → ℕ
-lastDeclared v i o [] = o
-lastDeclared v i o (u ∷ us) = lastDeclared v (suc i) (cond (eqb (suc (u .name)) v) (suc i) o) us
-
--- the bounds that unknown u declares, and those that it declares plus 1, or others for 0
-unfoldable pub boundsIn : List ℕ → Sections → ℕ → Bounds
-boundsIn f s u = domainBounds (fileIn f s .names) (unknownIn f s u .name) (unknownIn f s u .domain)
-
-unfoldable pub declaredBounds : List ℕ → Sections → ℕ → Bounds → Bounds
-declaredBounds f s zero b = b
-declaredBounds f s (suc u) b = boundsIn f s u

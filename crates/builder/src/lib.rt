@@ -1,8 +1,10 @@
 // The continuous builder: from a tree file and a root name to an answer area.
 pub mod allocate;
+pub mod bounds;
 pub mod builder;
 pub mod check;
 pub mod errors;
+pub mod fated;
 pub mod flatten;
 pub mod models;
 pub mod names;
@@ -12,4 +14,6 @@ pub mod places;
 pub mod reached;
 pub mod scope;
 pub mod sizes;
+pub mod stmts;
 pub mod variables;
+pub mod vars;

@@ -96,12 +96,6 @@ pub fn is_reserved(class: u8) -> bool
     class <= LAST_RESERVED
 }
 
-pub fn is_non_negative(class: u8) -> bool
-    ensures { λ r. ⌜ r ≡ eqb class 6 ⌝ }
-{
-    class == NON_NEGATIVE
-}
-
 pub fn is_built_in(class: u8) -> bool
     ensures { λ r. ⌜ r ≡ (leb 8 class && ltb class 18) ⌝ }
 {

@@ -5,21 +5,16 @@ ghost use mathlib.Core.List.{[], _∷_};
 ghost use mathlib.Core.Option.{none};
 ghost use Prim.Native.Nat.{suc, _+_, _*_, _≤_, _<_};
 ghost use lib.Dec.{ltb, eqb};
-ghost use lib.ListN.{length, getD};
+ghost use lib.ListN.{length};
 ghost use Rattle.functions.specs.Lists.{any, all, each, plusOne, flag};
 ghost use Rattle.ast.specs.Bytes.{front, put};
-ghost use Rattle.ast.specs.Words.{wordOf, bytesOf};
-ghost use Rattle.ast.specs.Records.{firstUnknown};
-ghost use Rattle.ast.specs.Opens.{Open, contentsIn, fileIn};
+ghost use Rattle.ast.specs.Words.{bytesOf};
+ghost use Rattle.ast.specs.Opens.{Open, fileIn};
 ghost use Rattle.builder.specs.Variables.{keptDeps, lastTime};
-ghost use Rattle.builder.specs.Answer.{boundsWords};
 ghost use Rattle.builder.specs.Tables.{Classes};
-ghost use Rattle.builder.specs.VariableTables.{wordsFrom, DepsIn, leads, Round, TimeReached, firstZero, listed, declareOne, Numbers, Listing, unknownsIn, rosterIn, unknownIn, oneBelow, keptBy, StartsOf, fromZeroIf, boundsValue, boundsGiven, lastDeclared, boundsIn, declaredBounds};
-use super::names::is_non_negative;
+ghost use Rattle.builder.specs.VariableTables.{wordsFrom, DepsIn, leads, Round, TimeReached, firstZero, listed, declareOne, Numbers, Listing, unknownsIn, rosterIn, unknownIn, oneBelow, keptBy, StartsOf};
 use super::names::is_reserved;
 use super::names::is_time;
-use ast::numbers::Bounds;
-use ast::numbers::Domain;
 use ast::records::dep;
 use ast::records::model;
 use ast::records::unknown;
@@ -97,134 +92,6 @@ pub fn roster_of(f: &[u8], s: Sections, classes: &[u8; 256], m: usize) -> Roster
         i += 1;
     }
     r
-}
-
-// The unknown of model m, plus 1, that declares a name (plus 1) last, or 0.
-pub fn last_declared(f: &[u8], s: Sections, m: usize, name: usize) -> usize
-    requires { ⌜ Open (now f) s × (m < s .counts .models) ⌝ }
-    ensures { λ r. ⌜ (r ≡ lastDeclared name (firstUnknown (getD (contentsIn (now (f .entry)) s .models) m [])) 0 (unknownsIn (now (f .entry)) s m)) × (r ≤ s .counts .unknowns) ⌝ }
-{
-    let first = model(f, s, m, 1);
-    let mut i = model(f, s, m, 2);
-    while 0 < i {
-        if unknown(f, s, first + i - 1, 0) + 1 == name {
-            return first + i;
-        }
-        i -= 1;
-    }
-    0
-}
-
-// From 0 to infinity, or unbounded.
-fn bounds_from(zero: bool) -> Bounds
-    ensures { λ r. ⌜ r ≡ boundsValue (fromZeroIf zero) ⌝ }
-{
-    let upper = f64::from_bits(0x7ff0000000000000);
-    if zero {
-        return Bounds {
-            lower: 0.0,
-            upper: upper,
-        };
-    }
-    Bounds {
-        lower: f64::from_bits(0xfff0000000000000),
-        upper: upper,
-    }
-}
-
-// The bounds of an unknown by its domain.
-pub fn domain_bounds(domain: Domain, time: bool, nonneg: bool) -> Bounds
-    ensures { λ r. ⌜ r ≡ boundsGiven domain time nonneg ⌝ }
-{
-    match domain {
-        Domain::Span(lower, upper) => Bounds {
-            lower: lower,
-            upper: upper,
-        },
-        Domain::Named(_) => bounds_from(nonneg),
-        Domain::None => bounds_from(time),
-    }
-}
-
-// Writes four words.
-fn put_four(out: &mut [u8], place: usize, a: u32, b: u32, c: u32, d: u32)
-    requires { ⌜ place + 16 ≤ length (now out) ⌝ }
-    ensures { λ _. ⌜ now (out .exit) ≡ put (now (out .entry)) place (bytesOf (a ∷ b ∷ c ∷ d ∷ [])) ⌝ }
-{
-    put_word(out, place, a);
-    put_word(out, place + 4, b);
-    put_word(out, place + 8, c);
-    put_word(out, place + 12, d);
-}
-
-// Writes the bounds from 0 to infinity, or none.
-pub fn put_bounds(zero: bool, out: &mut [u8], place: usize)
-    requires { ⌜ place + 16 ≤ length (now out) ⌝ }
-    ensures { λ _. ⌜ now (out .exit) ≡ put (now (out .entry)) place (bytesOf (boundsWords (fromZeroIf zero))) ⌝ }
-{
-    let high: u32 = if zero { 0 } else { 0xfff00000 };
-    put_four(out, place, 0, high, 0, 0x7ff00000);
-}
-
-// Whether the bounds of unknown u, which has no range, begin at 0.
-fn begins_at_zero(f: &[u8], s: Sections, classes: &[u8; 256], u: usize) -> bool
-    requires { ⌜ Open (now f) s × (u < s .counts .unknowns) × Classes (fileIn (now f) s .names) (now classes) × (wordOf (getD (contentsIn (now f) s .unknowns) u []) 3 ≡ 1 → ⊥) ⌝ }
-    ensures { λ r. ⌜ fromZeroIf r ≡ boundsIn (now (f .entry)) s u ⌝ }
-{
-    if unknown(f, s, u, 3) == 2 {
-        return is_non_negative(classes[unknown(f, s, u, 4)]);
-    }
-    is_time(classes[unknown(f, s, u, 0)])
-}
-
-// Writes the four words of unknown u's range: its own bits.
-fn put_range(f: &[u8], s: Sections, u: usize, out: &mut [u8], place: usize)
-    requires { ⌜ Open (now f) s × (u < s .counts .unknowns) × (wordOf (getD (contentsIn (now f) s .unknowns) u []) 3 ≡ 1) × (place + 16 ≤ length (now out)) ⌝ }
-    ensures { λ _. ⌜ now (out .exit) ≡ put (now (out .entry)) place (bytesOf (boundsWords (boundsIn (now (f .entry)) s u))) ⌝ }
-{
-    let a = unknown(f, s, u, 4) as u32;
-    let b = unknown(f, s, u, 5) as u32;
-    let c = unknown(f, s, u, 6) as u32;
-    put_four(out, place, a, b, c, unknown(f, s, u, 7) as u32);
-}
-
-// Writes the four words of unknown u's bounds: a range's own bits, or those of the bounds that its domain has.
-fn put_unknown_bounds(
-    f: &[u8],
-    s: Sections,
-    classes: &[u8; 256],
-    u: usize,
-    out: &mut [u8],
-    place: usize,
-)
-    requires { ⌜ Open (now f) s × (u < s .counts .unknowns) × Classes (fileIn (now f) s .names) (now classes) × (place + 16 ≤ length (now out)) ⌝ }
-    ensures { λ _. ⌜ now (out .exit) ≡ put (now (out .entry)) place (bytesOf (boundsWords (boundsIn (now (f .entry)) s u))) ⌝ }
-{
-    if unknown(f, s, u, 3) == 1 {
-        put_range(f, s, u, out, place);
-        return;
-    }
-    put_bounds(begins_at_zero(f, s, classes, u), out, place);
-}
-
-// Writes the bounds of the variable or time that unknown u - 1 declares last, or where none does.
-pub fn put_declared_bounds(
-    f: &[u8],
-    s: Sections,
-    classes: &[u8; 256],
-    u: usize,
-    zero: bool,
-    out: &mut [u8],
-    place: usize,
-)
-    requires { ⌜ Open (now f) s × (u ≤ s .counts .unknowns) × Classes (fileIn (now f) s .names) (now classes) × (place + 16 ≤ length (now out)) ⌝ }
-    ensures { λ _. ⌜ now (out .exit) ≡ put (now (out .entry)) place (bytesOf (boundsWords (declaredBounds (now (f .entry)) s u (fromZeroIf zero)))) ⌝ }
-{
-    if u == 0 {
-        put_bounds(zero, out, place);
-        return;
-    }
-    put_unknown_bounds(f, s, classes, u - 1, out, place);
 }
 
 // Writes a kept dependent, plus 1, behind `done` ones and gives their new number.

@@ -1,0 +1,45 @@
+use mathlib.Core.Path.{sym, ap, _∙_}
+use Rattle.builder.specs.Bounding.{caseBounds}
+use borrow.Author.Needs.{needs}
+use Rattle.builder.proofs.bounds.domain_bounds.Statement.{statement}
+use Rattle.builder.proofs.bounds.domain_bounds.Tie as tie
+
+enum-known-domain : tie.Need-enum-known-domain
+enum-known-domain c = search needs
+
+enum-told : tie.Need-enum-told
+enum-told c = search needs
+
+bounds-from-requires : tie.Need-bounds-from-requires
+bounds-from-requires c κs = search needs
+
+enum-told-2 : tie.Need-enum-told-2
+enum-told-2 c = search needs
+
+bounds-from-requires-2 : tie.Need-bounds-from-requires-2
+bounds-from-requires-2 c κs = search needs
+
+returns : tie.Need-returns
+unfolding caseBounds
+returns c = sym (ap (λ d. caseBounds d (c .before .before .before .args .time) (c .before .before .before .args .positive)) (c .before .domain .given .1))
+
+returns-2 : tie.Need-returns-2
+unfolding caseBounds
+returns-2 c = c .bounds-from .ensures ∙ sym (ap (λ d. caseBounds d (c .before .before .before .args .time) (c .before .before .before .args .positive)) (c .before .enum-told .given .1))
+
+returns-3 : tie.Need-returns-3
+unfolding caseBounds
+returns-3 c = c .bounds-from2 .ensures ∙ sym (ap (λ d. caseBounds d (c .before .before .before .args .time) (c .before .before .before .args .positive)) (c .before .enum-told2 .given .1))
+
+pub domain-bounds-spec : {M : Type 1} → statement M
+domain-bounds-spec =
+    tie.close
+    (tie.spec
+    enum-known-domain
+    enum-told
+    bounds-from-requires
+    enum-told-2
+    bounds-from-requires-2
+    returns
+    returns-2
+    returns-3)

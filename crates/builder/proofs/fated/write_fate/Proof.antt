@@ -1,0 +1,105 @@
+use native.Mathlib.Omega.{arith}
+use mathlib.Core.Path.{sym, _∙_}
+use Prim.Native.Nat.{_+_}
+use lib.ListN.{take, drop, getD}
+use Rattle.builder.proofs.FateCases.{left-held, queue-more, left-over, queue-out, queue-same, is-initial, is-replaced, is-held}
+use borrow.Author.Needs.{needs}
+use Rattle.builder.proofs.fated.write_fate.Statement.{statement}
+use Rattle.builder.proofs.fated.write_fate.Tie as tie
+
+mul-role : tie.Need-mul-role
+mul-role c = search needs
+
+shared-slice-read-role : tie.Need-shared-slice-read-role
+shared-slice-read-role c = search needs
+
+mul-put-fate : tie.Need-mul-put-fate
+mul-put-fate c = search needs
+
+shared-slice-read-put-fate : tie.Need-shared-slice-read-put-fate
+shared-slice-read-put-fate c = search needs
+
+put-fate-requires : tie.Need-put-fate-requires
+put-fate-requires c κs = search needs
+
+add-result : tie.Need-add-result
+add-result c = search needs
+
+same-length : tie.Need-same-length
+same-length c = search needs
+
+returns : tie.Need-returns
+returns c = (rw (left-held (c .before .before .before .before .before .before .before .before .before .before .before .args .states .now) (c .before .before .before .before .before .before .before .before .before .before .before .args .queued) (c .before .before .before .before .before .before .before .before .before .before .before .args .paired) (getD (c .before .before .before .before .before .before .before .before .before .before .before .args .roles .now) (c .before .before .before .before .before .before .before .before .before .before .before .args .i) 0) (omega arith) (c .before .before .before .before .before .before .if1 .taken) (c .before .before .before .before .before .if2 .taken) (drop (c .before .before .before .before .before .before .before .before .before .before .before .args .i + 1) (take (c .before .before .before .before .before .before .before .before .before .before .before .args .z .stmts) (c .before .before .before .before .before .before .before .before .before .before .before .args .roles .now)))) (c .before .before .put-fate .ensures), omega arith, queue-more (c .before .before .before .before .before .before .before .before .before .before .before .args .states .now) (c .before .before .before .before .before .before .before .before .before .before .before .args .queued) (c .before .before .before .before .before .before .before .before .before .before .before .args .paired) (getD (c .before .before .before .before .before .before .before .before .before .before .before .args .roles .now) (c .before .before .before .before .before .before .before .before .before .before .before .args .i) 0) (omega arith) (c .before .before .before .before .before .before .if1 .taken))
+
+put-fate-requires-2 : tie.Need-put-fate-requires-2
+put-fate-requires-2 c κs = search needs
+
+same-length-2 : tie.Need-same-length-2
+same-length-2 c = search needs
+
+returns-2 : tie.Need-returns-2
+returns-2 c = (rw (left-over (c .before .before .before .before .before .before .before .before .before .before .args .states .now) (c .before .before .before .before .before .before .before .before .before .before .args .queued) (c .before .before .before .before .before .before .before .before .before .before .args .paired) (getD (c .before .before .before .before .before .before .before .before .before .before .args .roles .now) (c .before .before .before .before .before .before .before .before .before .before .args .i) 0) (omega arith) (c .before .before .before .before .before .if1 .taken) (c .before .before .before .before .if2 .left) (drop (c .before .before .before .before .before .before .before .before .before .before .args .i + 1) (take (c .before .before .before .before .before .before .before .before .before .before .args .z .stmts) (c .before .before .before .before .before .before .before .before .before .before .args .roles .now)))) (c .before .before .put-fate2 .ensures), omega arith, queue-out (c .before .before .before .before .before .before .before .before .before .before .args .states .now) (c .before .before .before .before .before .before .before .before .before .before .args .queued) (c .before .before .before .before .before .before .before .before .before .before .args .paired) (getD (c .before .before .before .before .before .before .before .before .before .before .args .roles .now) (c .before .before .before .before .before .before .before .before .before .before .args .i) 0) (omega arith) (c .before .before .before .before .before .if1 .taken) (c .before .before .before .before .if2 .left))
+
+sub-v : tie.Need-sub-v
+sub-v c = search needs
+
+put-fate-requires-3 : tie.Need-put-fate-requires-3
+put-fate-requires-3 c κs = search needs
+
+same-length-3 : tie.Need-same-length-3
+same-length-3 c = search needs
+
+returns-3 : tie.Need-returns-3
+returns-3 c = (rw (is-initial (drop (c .before .before .before .before .before .before .before .before .before .before .args .paired) (take (c .before .before .before .before .before .before .before .before .before .before .args .queued) (c .before .before .before .before .before .before .before .before .before .before .args .states .now))) (getD (c .before .before .before .before .before .before .before .before .before .before .args .roles .now) (c .before .before .before .before .before .before .before .before .before .before .args .i) 0) (c .before .before .before .before .before .if1 .left) (c .before .before .before .before .if3 .taken) (drop (c .before .before .before .before .before .before .before .before .before .before .args .i + 1) (take (c .before .before .before .before .before .before .before .before .before .before .args .z .stmts) (c .before .before .before .before .before .before .before .before .before .before .args .roles .now)))) (c .before .before .put-fate3 .ensures), omega arith, queue-same (drop (c .before .before .before .before .before .before .before .before .before .before .args .paired) (take (c .before .before .before .before .before .before .before .before .before .before .args .queued) (c .before .before .before .before .before .before .before .before .before .before .args .states .now))) (getD (c .before .before .before .before .before .before .before .before .before .before .args .roles .now) (c .before .before .before .before .before .before .before .before .before .before .args .i) 0) (c .before .before .before .before .before .if1 .left))
+
+add-has-role : tie.Need-add-has-role
+add-has-role c = search needs
+
+has-role-requires : tie.Need-has-role-requires
+has-role-requires c κs = search needs
+
+put-fate-requires-4 : tie.Need-put-fate-requires-4
+put-fate-requires-4 c κs = search needs
+
+same-length-4 : tie.Need-same-length-4
+same-length-4 c = search needs
+
+returns-4 : tie.Need-returns-4
+returns-4 c = (rw (is-replaced (drop (c .before .before .before .before .before .before .before .before .before .before .before .before .args .paired) (take (c .before .before .before .before .before .before .before .before .before .before .before .before .args .queued) (c .before .before .before .before .before .before .before .before .before .before .before .before .args .states .now))) (getD (c .before .before .before .before .before .before .before .before .before .before .before .before .args .roles .now) (c .before .before .before .before .before .before .before .before .before .before .before .before .args .i) 0) (c .before .before .before .before .before .before .before .if1 .left) (c .before .before .before .before .before .before .if3 .left) (drop (c .before .before .before .before .before .before .before .before .before .before .before .before .args .i + 1) (take (c .before .before .before .before .before .before .before .before .before .before .before .before .args .z .stmts) (c .before .before .before .before .before .before .before .before .before .before .before .before .args .roles .now))) (sym (c .before .before .before .before .before .has-role .ensures) ∙ c .before .before .before .before .if4 .taken)) (c .before .before .put-fate4 .ensures), omega arith, queue-same (drop (c .before .before .before .before .before .before .before .before .before .before .before .before .args .paired) (take (c .before .before .before .before .before .before .before .before .before .before .before .before .args .queued) (c .before .before .before .before .before .before .before .before .before .before .before .before .args .states .now))) (getD (c .before .before .before .before .before .before .before .before .before .before .before .before .args .roles .now) (c .before .before .before .before .before .before .before .before .before .before .before .before .args .i) 0) (c .before .before .before .before .before .before .before .if1 .left))
+
+put-fate-requires-5 : tie.Need-put-fate-requires-5
+put-fate-requires-5 c κs = search needs
+
+same-length-5 : tie.Need-same-length-5
+same-length-5 c = search needs
+
+returns-5 : tie.Need-returns-5
+returns-5 c = (rw (is-held (drop (c .before .before .before .before .before .before .before .before .before .before .before .before .args .paired) (take (c .before .before .before .before .before .before .before .before .before .before .before .before .args .queued) (c .before .before .before .before .before .before .before .before .before .before .before .before .args .states .now))) (getD (c .before .before .before .before .before .before .before .before .before .before .before .before .args .roles .now) (c .before .before .before .before .before .before .before .before .before .before .before .before .args .i) 0) (c .before .before .before .before .before .before .before .if1 .left) (c .before .before .before .before .before .before .if3 .left) (drop (c .before .before .before .before .before .before .before .before .before .before .before .before .args .i + 1) (take (c .before .before .before .before .before .before .before .before .before .before .before .before .args .z .stmts) (c .before .before .before .before .before .before .before .before .before .before .before .before .args .roles .now))) (sym (c .before .before .before .before .before .has-role .ensures) ∙ c .before .before .before .before .if4 .left)) (c .before .before .put-fate5 .ensures), omega arith, queue-same (drop (c .before .before .before .before .before .before .before .before .before .before .before .before .args .paired) (take (c .before .before .before .before .before .before .before .before .before .before .before .before .args .queued) (c .before .before .before .before .before .before .before .before .before .before .before .before .args .states .now))) (getD (c .before .before .before .before .before .before .before .before .before .before .before .before .args .roles .now) (c .before .before .before .before .before .before .before .before .before .before .before .before .args .i) 0) (c .before .before .before .before .before .before .before .if1 .left))
+
+pub write-fate-spec : {M : Type 1} → statement M
+write-fate-spec =
+    tie.close
+    (tie.spec
+    mul-role
+    shared-slice-read-role
+    mul-put-fate
+    shared-slice-read-put-fate
+    put-fate-requires
+    add-result
+    same-length
+    returns
+    put-fate-requires-2
+    same-length-2
+    returns-2
+    sub-v
+    put-fate-requires-3
+    same-length-3
+    returns-3
+    add-has-role
+    has-role-requires
+    put-fate-requires-4
+    same-length-4
+    returns-4
+    put-fate-requires-5
+    same-length-5
+    returns-5)

@@ -1,0 +1,52 @@
+use Rattle.builder.specs.Places.{stmtsAt, varsAt, depsAt}
+use native.Mathlib.Omega.{arith}
+use mathlib.Core.Path.{_≡_, refl, sym, _∙_}
+use Prim.Native.Nat.{_+_, _*_, _-_, _≤_}
+use lib.ListN.{length, take}
+use Rattle.builder.proofs.FateRecords.{rest, rest-all, rest-none, rest-more}
+use Rattle.builder.proofs.fated.write_fates.Statement.{statement}
+use Rattle.builder.proofs.fated.write_fates.Tie as tie
+
+abbrev Inv-loop : tie.InvT-loop
+Inv-loop area₀ z roles states queued paired₀ i₀ area paired i =
+    (i ≤ z .stmts) × (paired ≤ queued) × (length area ≡ length area₀) × (rest (z .stmts) (stmtsAt z) (take queued states) roles area i paired ≡ rest (z .stmts) (stmtsAt z) (take queued states) roles area₀ 0 0)
+
+abbrev μ-loop : tie.MeasureT-loop
+μ-loop area₀ z roles states queued paired₀ i₀ area paired i = z .stmts - i
+
+loop-holds : tie.Need-loop-holds Inv-loop μ-loop
+loop-holds c = (omega arith, omega arith, refl, refl)
+
+write-fate-requires : tie.Need-write-fate-requires Inv-loop μ-loop
+write-fate-requires c κs = (omega arith, omega arith, omega arith, omega arith, omega arith, omega arith)
+
+add-i : tie.Need-add-i Inv-loop μ-loop
+add-i c = omega arith
+
+loop-less : tie.Need-loop-less Inv-loop μ-loop
+loop-less c = omega arith
+
+loop-again : tie.Need-loop-again Inv-loop μ-loop
+unfolding stmtsAt varsAt depsAt
+loop-again c = let l : stmtsAt (c .before .before .before .before .before .before .before .before .before .before .args .z) + 32 * c .before .before .before .before .before .before .before .before .before .before .args .z .stmts ≤ length (c .before .before .before .before .before .before .loop .area) = omega (arith, c .before .before .before .before .before .before .loop .inv .2) in
+    (omega arith, c .before .before .write-fate .ensures .1, c .before .before .write-fate .kept .0 ∙ c .before .before .before .before .before .before .loop .inv .2, sym (rest-more (c .before .before .before .before .before .before .before .before .before .before .args .z .stmts) (stmtsAt (c .before .before .before .before .before .before .before .before .before .before .args .z)) (take (c .before .before .before .before .before .before .before .before .before .before .args .queued) (c .before .before .before .before .before .before .before .before .before .before .args .states .now)) (c .before .before .before .before .before .before .before .before .before .before .args .roles .now) (c .before .before .before .before .before .before .loop .area) _ (c .before .before .before .before .before .before .loop .i) (c .before .before .before .before .before .before .loop .paired) _ (omega arith) (omega arith) l (c .before .before .write-fate .ensures .0) (c .before .before .write-fate .ensures .2)) ∙ c .before .before .before .before .before .before .loop .inv .3)
+
+same-length : tie.Need-same-length Inv-loop μ-loop
+same-length c = c .before .before .loop .inv .2
+
+returns : tie.Need-returns Inv-loop μ-loop
+returns c = sym (rest-none (c .before .before .before .before .before .before .args .z .stmts) (stmtsAt (c .before .before .before .before .before .before .args .z)) (take (c .before .before .before .before .before .before .args .queued) (c .before .before .before .before .before .before .args .states .now)) (c .before .before .before .before .before .before .args .roles .now) (c .before .before .loop .area) (c .before .before .loop .i) (c .before .before .loop .paired) (omega arith)) ∙ c .before .before .loop .inv .3 ∙ rest-all (c .before .before .before .before .before .before .args .z .stmts) (stmtsAt (c .before .before .before .before .before .before .args .z)) (take (c .before .before .before .before .before .before .args .queued) (c .before .before .before .before .before .before .args .states .now)) (c .before .before .before .before .before .before .args .roles .now) (c .before .before .before .before .before .before .args .area .now)
+
+pub write-fates-spec : {M : Type 1} → statement M
+write-fates-spec =
+    tie.close
+    (tie.spec
+    Inv-loop
+    μ-loop
+    loop-holds
+    write-fate-requires
+    add-i
+    loop-less
+    loop-again
+    same-length
+    returns)

@@ -1,0 +1,26 @@
+use native.Mathlib.Omega.{arith}
+use mathlib.Core.Path.{refl, _∙_}
+use mathlib.Core.List.{[], _∷_}
+use Rattle.builder.specs.Bounding.{boundsFrom}
+use Rattle.builder.specs.VarRecords.{headWords}
+use Rattle.builder.proofs.PutRecords.{put-more}
+use borrow.Author.Needs.{needs}
+use Rattle.builder.proofs.vars.write_header.Statement.{statement}
+use Rattle.builder.proofs.vars.write_header.Tie as tie
+
+put-counts-requires : tie.Need-put-counts-requires
+put-counts-requires c κs = search needs
+
+put-last-bounds-requires : tie.Need-put-last-bounds-requires
+put-last-bounds-requires c κs = search needs
+
+same-length : tie.Need-same-length
+same-length c = search needs
+
+returns : tie.Need-returns
+unfolding headWords boundsFrom
+returns c = c .before .before .put-last-bounds .ensures ∙ put-more (c .before .before .before .before .before .before .before .before .before .before .before .args .area .now) _ (c .before .before .before .before .before .before .before .before .before .before .before .args .z .nodes ∷ c .before .before .before .before .before .before .before .before .before .before .before .args .z .stmts ∷ c .before .before .before .before .before .before .before .before .before .before .before .args .z .vars ∷ c .before .before .before .before .before .before .before .before .before .before .before .args .z .deps ∷ c .before .before .before .before .before .before .before .before .before .before .before .args .errors ∷ c .before .before .before .before .before .before .before .before .before .before .before .args .instances ∷ []) 0 24 refl (c .before .before .before .before .before .before .put-counts .ensures) _ (omega arith)
+
+pub write-header-spec : {M : Type 1} → statement M
+write-header-spec =
+    tie.close (tie.spec put-counts-requires put-last-bounds-requires same-length returns)

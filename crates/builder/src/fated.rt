@@ -1,0 +1,121 @@
+// The fates of the flattened statements, in words 6 and 7 of their records in the area.
+ghost use mathlib.Core.Path.{_≡_};
+ghost use mathlib.Core.List.{[]};
+ghost use Prim.Native.Nat.{_+_, _*_, _^_, _≤_, _<_};
+ghost use lib.ListN.{length, take, drop, getD};
+ghost use Rattle.functions.specs.Lists.{place, plusOne, times};
+ghost use Rattle.ast.specs.Words.{section, wordOf, bytesOf};
+ghost use Rattle.ast.specs.Bytes.{put};
+ghost use Rattle.ast.specs.Encode.{encode};
+ghost use Rattle.builder.specs.Places.{Small, stmtsAt, varsAt};
+ghost use Rattle.builder.specs.Fating.{fateIn, queueIn, fatesIn, withFate, fated, isFated};
+use super::pairing::has_role;
+use super::places::Sizes;
+use super::places::stmts_at;
+use ast::sections::record_word;
+use ast::words::put_word;
+
+// Word k of statement i.
+pub fn stmt_of(area: &[u8], z: Sizes, i: usize, k: usize) -> usize
+    requires { ⌜ Small z × (varsAt z ≤ length (now area)) × (i < z .stmts) × (k < 8) ⌝ }
+    ensures { λ r. ⌜ (r ≡ wordOf (getD (section 8 (z .stmts) (stmtsAt z) (now (area .entry))) i []) k) × (r < 2 ^ 32) ⌝ }
+{
+    record_word(area, stmts_at(z), 8, z.stmts, i, k) as usize
+}
+
+// Writes the fate of statement i and its variable.
+fn put_fate(area: &mut [u8], z: Sizes, i: usize, fate: u32, v: u32)
+    requires { ⌜ Small z × (varsAt z ≤ length (now area)) × (i < z .stmts) ⌝ }
+    ensures { λ _. ⌜ now (area .exit) ≡ put (now (area .entry)) (stmtsAt z + 32 * i) (bytesOf (withFate (getD (section 8 (z .stmts) (stmtsAt z) (now (area .entry))) i []) (fate, v))) ⌝ }
+{
+    let at = stmts_at(z) + 32 * i;
+    put_word(area, at + 24, fate);
+    put_word(area, at + 28, v);
+}
+
+// Writes the fate of statement i, and gives how many of the queued states are paired.
+fn write_fate(
+    area: &mut [u8],
+    z: Sizes,
+    roles: &[u32],
+    states: &[u32],
+    queued: usize,
+    i: usize,
+    paired: usize,
+) -> usize
+    requires { ⌜ Small z × (varsAt z ≤ length (now area)) × (i < z .stmts) × (z .stmts ≤ length (now roles)) × (queued ≤ length (now states)) × (paired ≤ queued) ⌝ }
+    ensures { λ r. ⌜ (now (area .exit) ≡ put (now (area .entry)) (stmtsAt z + 32 * i) (bytesOf (withFate (getD (section 8 (z .stmts) (stmtsAt z) (now (area .entry))) i []) (fateIn (drop paired (take queued (now (states .entry)))) (getD (now (roles .entry)) i 0) (drop (i + 1) (take (z .stmts) (now (roles .entry)))))))) × (r ≤ queued) × (drop r (take queued (now (states .entry))) ≡ queueIn (drop paired (take queued (now (states .entry)))) (getD (now (roles .entry)) i 0)) ⌝ }
+{
+    let role = roles[i];
+    if role == 0 {
+        if paired < queued {
+            put_fate(area, z, i, 2, states[paired]);
+            return paired + 1;
+        }
+        put_fate(area, z, i, 4, 0);
+        return paired;
+    }
+    let v = (role - 1) / 2;
+    if role % 2 == 1 {
+        put_fate(area, z, i, 1, v);
+        return paired;
+    }
+    if has_role(roles, i + 1, z.stmts, role) {
+        put_fate(area, z, i, 3, v);
+        return paired;
+    }
+    put_fate(area, z, i, 2, v);
+    paired
+}
+
+// Writes the fates of all statements: `states` holds the queued states first.
+pub fn write_fates(area: &mut [u8], z: Sizes, roles: &[u32], states: &[u32], queued: usize)
+    requires { ⌜ Small z × (varsAt z ≤ length (now area)) × (z .stmts ≤ length (now roles)) × (queued ≤ length (now states)) ⌝ }
+    ensures { λ _. ⌜ now (area .exit) ≡ put (now (area .entry)) (stmtsAt z) (encode (fated (section 8 (z .stmts) (stmtsAt z) (now (area .entry))) (fatesIn (take queued (now (states .entry))) (take (z .stmts) (now (roles .entry)))))) ⌝ }
+{
+    let mut paired = 0;
+    let mut i = 0;
+    while i < z.stmts {
+        paired = write_fate(area, z, roles, states, queued, i, paired);
+        i += 1;
+    }
+}
+
+// Whether statement i has a fate of variable v.
+fn is_fated(area: &[u8], z: Sizes, i: usize, fate: usize, v: usize) -> bool
+    requires { ⌜ Small z × (varsAt z ≤ length (now area)) × (i < z .stmts) ⌝ }
+    ensures { λ r. ⌜ r ≡ isFated fate v (getD (section 8 (z .stmts) (stmtsAt z) (now (area .entry))) i []) ⌝ }
+{
+    (stmt_of(area, z, i, 6) == fate) & (stmt_of(area, z, i, 7) == v)
+}
+
+// The number, plus 1, of the first statement with a fate of variable v, or 0.
+pub fn first_fate(area: &[u8], z: Sizes, fate: usize, v: usize) -> usize
+    requires { ⌜ Small z × (varsAt z ≤ length (now area)) ⌝ }
+    ensures { λ r. ⌜ (r ≡ plusOne (place (isFated fate v) (section 8 (z .stmts) (stmtsAt z) (now (area .entry))))) × (r ≤ z .stmts) ⌝ }
+{
+    let mut i = 0;
+    while i < z.stmts {
+        if is_fated(area, z, i, fate, v) {
+            return i + 1;
+        }
+        i += 1;
+    }
+    0
+}
+
+// How many initial conditions variable v has.
+pub fn conditions(area: &[u8], z: Sizes, v: usize) -> u32
+    requires { ⌜ Small z × (varsAt z ≤ length (now area)) ⌝ }
+    ensures { λ r. ⌜ (r ≡ times (isFated 1 v) (section 8 (z .stmts) (stmtsAt z) (now (area .entry)))) × (r ≤ z .stmts) ⌝ }
+{
+    let mut total: u32 = 0;
+    let mut i = 0;
+    while i < z.stmts {
+        if is_fated(area, z, i, 1, v) {
+            total += 1;
+        }
+        i += 1;
+    }
+    total
+}

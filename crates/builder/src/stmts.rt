@@ -1,0 +1,161 @@
+// The records of flattened statements: their own words and their trees' numbers; fates come later.
+ghost use mathlib.Core.Path.{_≡_};
+ghost use mathlib.Core.List.{List, [], _∷_};
+ghost use Prim.Native.Nat.{ℕ, _+_, _*_, _≤_, _<_};
+ghost use lib.ListN.{length, getD};
+ghost use Rattle.ast.specs.Tree.{Flat};
+ghost use Rattle.ast.specs.Words.{wordOf, bytesOf};
+ghost use Rattle.ast.specs.Bytes.{front, put};
+ghost use Rattle.ast.specs.Opens.{Open, contentsIn, fileIn};
+ghost use Rattle.builder.specs.Flatten.{flatten};
+ghost use Rattle.builder.specs.Tables.{Callees};
+ghost use Rattle.builder.specs.Descent.{flatAt, broughtAt, RowsIn, RowsKept};
+ghost use Rattle.builder.specs.Unfated.{RecordsFit, Recorded};
+use super::flatten::find_replacements;
+use ast::records::model;
+use ast::records::stmt;
+use ast::sections::Sections;
+use ast::subst::measure_expr;
+use ast::words::put_word;
+
+// How many statements are written, and how many nodes their trees have.
+pub struct Done {
+    pub stmts: usize,
+    pub nodes: usize,
+}
+
+// Writes a statement's record, without its fate.
+fn put_record(out: &mut [u8], kind: u32, name: u32, left: u32, right: u32, from: u32, to: u32)
+    requires { ⌜ 32 ≤ length (now out) ⌝ }
+    ensures { λ _. ⌜ now (out .exit) ≡ front (now (out .entry)) (bytesOf (kind ∷ name ∷ left ∷ right ∷ from ∷ to ∷ 0 ∷ 0 ∷ [])) ⌝ }
+{
+    put_word(out, 0, kind);
+    put_word(out, 4, name);
+    put_word(out, 8, left);
+    put_word(out, 12, right);
+    put_word(out, 16, from);
+    put_word(out, 20, to);
+    put_word(out, 24, 0);
+    put_word(out, 28, 0);
+}
+
+// The same behind `count` records.
+fn record_behind(
+    out: &mut [u8],
+    count: usize,
+    kind: u32,
+    name: u32,
+    left: u32,
+    right: u32,
+    from: u32,
+    to: u32,
+)
+    requires { ⌜ (count < 256) × (32 * count + 32 ≤ length (now out)) ⌝ }
+    ensures { λ _. ⌜ now (out .exit) ≡ put (now (out .entry)) (32 * count) (bytesOf (kind ∷ name ∷ left ∷ right ∷ from ∷ to ∷ 0 ∷ 0 ∷ [])) ⌝ }
+{
+    let start = 32 * count;
+    put_record(&mut out[start..], kind, name, left, right, from, to);
+}
+
+// Writes the record of statement q, its trees behind `done.nodes` nodes.
+fn write_record(
+    f: &[u8],
+    s: Sections,
+    rows: &[u32],
+    level: usize,
+    q: usize,
+    out: &mut [u8],
+    done: Done,
+) -> Done
+    requires { ⌜ Open (now f) s × ((q < s .counts .stmts) × (wordOf (getD (contentsIn (now f) s .stmts) q []) 0 ≡ 3 → ⊥)) × ((level ≤ 32) × (256 * level ≤ length (now rows)) × RowsIn (now f) s (now rows)) × ((sub : ℕ → List Flat) × RecordsFit (done .stmts) (done .nodes) (length (now out)) (broughtAt (now f) s (now rows) level sub q)) ⌝ }
+    ensures { λ r. ⌜ ((sub : ℕ → List Flat) → Recorded (done .stmts) (done .nodes) (now (out .entry)) (r .stmts) (r .nodes) (now (out .exit)) (broughtAt (now (f .entry)) s (now (rows .entry)) level sub q)) ⌝ }
+{
+    let at = s.starts.nodes;
+    let n = s.counts.nodes;
+    let stmts = done.stmts;
+    let nodes = done.nodes;
+    let from = stmt(f, s, q, 4) as u32;
+    let to = stmt(f, s, q, 5) as u32;
+    let i = stmt(f, s, q, 3);
+    if stmt(f, s, q, 0) == 2 {
+        let name = stmt(f, s, q, 1) as u32;
+        let right = nodes + measure_expr(f, at, n, rows, level, i, 1024);
+        record_behind(out, stmts, 2, name, 0, (right - 1) as u32, from, to);
+        return Done {
+            stmts: stmts + 1,
+            nodes: right,
+        };
+    }
+    let j = stmt(f, s, q, 2);
+    let left = nodes + measure_expr(f, at, n, rows, level, j, 1024);
+    let right = left + measure_expr(f, at, n, rows, level, i, 1024);
+    record_behind(
+        out,
+        stmts,
+        1,
+        0,
+        (left - 1) as u32,
+        (right - 1) as u32,
+        from,
+        to,
+    );
+    Done {
+        stmts: stmts + 1,
+        nodes: right,
+    }
+}
+
+// Writes the records of model m's flattened statements, whose trees are read at a level, behind those done.
+pub fn write_stmts(
+    f: &[u8],
+    s: Sections,
+    calls: &[u8; 256],
+    rows: &mut [u32],
+    k: usize,
+    m: usize,
+    level: usize,
+    out: &mut [u8],
+    done: Done,
+) -> Done
+    requires { ⌜ Open (now f) s × Callees (now f) s (now calls) × (m < s .counts .models) × ((level + k ≤ 32) × (256 * (level + k) ≤ length (now rows)) × RowsIn (now f) s (now rows)) × RecordsFit (done .stmts) (done .nodes) (length (now out)) (flatAt (now f) s (now rows) level k m) ⌝ }
+    ensures { λ r. ⌜ Recorded (done .stmts) (done .nodes) (now (out .entry)) (r .stmts) (r .nodes) (now (out .exit)) (flatAt (now (f .entry)) s (now (rows .entry)) level k m) × RowsKept (now (f .entry)) s level (now (rows .entry)) (now (rows .exit)) ⌝ }
+{
+    if k == 0 {
+        return done;
+    }
+    let first = model(f, s, m, 3);
+    let count = model(f, s, m, 4);
+    let mut total = done;
+    let mut i = 0;
+    while i < count {
+        total = write_stmt(f, s, calls, rows, k - 1, first + i, level, out, total);
+        i += 1;
+    }
+    total
+}
+
+// Writes the records of what statement q brings in.
+fn write_stmt(
+    f: &[u8],
+    s: Sections,
+    calls: &[u8; 256],
+    rows: &mut [u32],
+    k: usize,
+    q: usize,
+    level: usize,
+    out: &mut [u8],
+    done: Done,
+) -> Done
+    requires { ⌜ Open (now f) s × Callees (now f) s (now calls) × (q < s .counts .stmts) × ((level + k < 32) × (256 * (level + k + 1) ≤ length (now rows)) × RowsIn (now f) s (now rows)) × RecordsFit (done .stmts) (done .nodes) (length (now out)) (broughtAt (now f) s (now rows) level (λ j. flatten (fileIn (now f) s) k j) q) ⌝ }
+    ensures { λ r. ⌜ Recorded (done .stmts) (done .nodes) (now (out .entry)) (r .stmts) (r .nodes) (now (out .exit)) (broughtAt (now (f .entry)) s (now (rows .entry)) level (λ j. flatten (fileIn (now (f .entry)) s) k j) q) × RowsKept (now (f .entry)) s level (now (rows .entry)) (now (rows .exit)) ⌝ }
+{
+    if stmt(f, s, q, 0) != 3 {
+        return write_record(f, s, rows, level, q, out, done);
+    }
+    let c = calls[q] as usize;
+    if (c == 0) | (k == 0) {
+        return done;
+    }
+    find_replacements(f, s, c - 1, stmt(f, s, q, 3), rows, level);
+    write_stmts(f, s, calls, rows, k, c - 1, level + 1, out, done)
+}
