@@ -67,3 +67,5 @@ pub mod FateSections
 pub mod PutRecords
 pub mod VarAnswers
 pub mod VarLaws
+pub mod StartingLaws
+pub mod StartingTies

@@ -24,6 +24,7 @@ pub mod Unfated
 pub mod Bounding
 pub mod Fating
 pub mod VarRecords
+pub mod Starting
 pub mod Computes
 pub mod Examples
 pub mod OwnExamples

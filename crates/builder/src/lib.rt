@@ -14,6 +14,7 @@ pub mod places;
 pub mod reached;
 pub mod scope;
 pub mod sizes;
+pub mod starting;
 pub mod stmts;
 pub mod variables;
 pub mod vars;

@@ -1,0 +1,43 @@
+-- Errors 16 and 17 over the records of an area: `rs` are the statements' records with their fates, `ns` the nodes, `model` is the root's span.
+use Prim.Native.Nat.{ℕ, zero, suc, _+_, _-_, _≤_, _<_}
+use mathlib.Core.Bool.{cond}
+use mathlib.Core.List.{List, [], _∷_, _++_}
+use lib.Dec.{eqb}
+use lib.ListN.{length, getD}
+use Rattle.functions.specs.Lists.{place, plusOne}
+use Rattle.ast.specs.Tree.{Span}
+use Rattle.ast.specs.Words.{wordOf}
+use Rattle.ast.specs.Nodes.{spanAt}
+use Rattle.builder.specs.Numbers.{noInitialCondition, algebraicInitialCondition}
+use Rattle.builder.specs.Variables.{Error, error}
+use Rattle.builder.specs.Places.{Small, errorsAt}
+use Rattle.builder.specs.Allocating.{stmtIn}
+use Rattle.builder.specs.Fating.{isFated}
+use Rattle.builder.specs.declared.places.Sizes.{Sizes}
+
+-- the span of the right side of statement i
+unfoldable pub rightSpanIn : List (List ℕ) → List (List ℕ) → ℕ → Span
+rightSpanIn ns rs i = spanAt ns (wordOf (getD rs i []) 3)
+
+module _ (model : Span) (ns rs : List (List ℕ)) where
+  -- of a variable by its name plus 1, the statement it holds plus 1 or 0, and its first initial condition plus 1 or 0
+  unfoldable pub heldErrorsIn : ℕ → ℕ → ℕ → List Error
+  heldErrorsIn name held first =
+      cond (eqb held 0) []
+      (cond (eqb (wordOf (getD rs (held - 1) []) 0) 2) (cond (eqb first 0) (error noInitialCondition model name ∷ []) [])
+      (cond (eqb first 0) [] (error algebraicInitialCondition (rightSpanIn ns rs (first - 1)) name ∷ [])))
+
+  -- of variable v
+  unfoldable pub stateErrorsIn : ℕ → ℕ → List Error
+  stateErrorsIn name v = heldErrorsIn name (plusOne (place (isFated 2 v) rs)) (plusOne (place (isFated 1 v) rs))
+
+  -- of the first n variables
+  unfoldable pub startingIn : List ℕ → ℕ → List Error
+  startingIn names zero = []
+  startingIn names (suc n) = startingIn names n ++ stateErrorsIn (getD names n 0) n
+
+-- An area with room for errors, where each statement's right side is a node.
+pub record Righted (b : List ℕ) (z : Sizes) : Type 0 where
+  pub small : Small z
+  pub long : errorsAt z + 4096 ≤ length b
+  pub right : (i : ℕ) → i < z .stmts → wordOf (stmtIn b z i) 3 < z .nodes

@@ -1,0 +1,125 @@
+// The errors 14 to 17 of an answer: on the counts of statements and states, and on the states' initial conditions.
+ghost use mathlib.Core.List.{[], _∷_};
+ghost use Prim.Native.Nat.{_+_, _^_, _≤_, _<_};
+ghost use lib.ListN.{length};
+ghost use Rattle.ast.specs.Opens.{Open, fileIn};
+ghost use Rattle.builder.specs.Numbers.{algebraicInitialCondition};
+ghost use Rattle.builder.specs.Variables.{error};
+ghost use Rattle.builder.specs.Flatten.{modelAt};
+ghost use Rattle.builder.specs.Allocate.{countErrors};
+ghost use Rattle.builder.specs.Places.{Small, errorsAt};
+ghost use Rattle.builder.specs.Allocating.{nodesIn, stmtsIn, ListsAt};
+ghost use Rattle.builder.specs.Starting.{Righted, rightSpanIn, stateErrorsIn, startingIn};
+use super::allocate::list_error;
+use super::fated::first_fate;
+use super::fated::stmt_of;
+use super::places::Sizes;
+use ast::records::model;
+use ast::sections::Sections;
+use ast::sections::record_word;
+
+// Lists an error with the span of model m.
+fn model_error(
+    f: &[u8],
+    s: Sections,
+    m: usize,
+    area: &mut [u8],
+    z: Sizes,
+    kind: u32,
+    name: u32,
+    count: usize,
+) -> usize
+    requires { ⌜ Open (now f) s × (m < s .counts .models) × Small z × (errorsAt z + 4096 ≤ length (now area)) × (count < 2 ^ 40) ⌝ }
+    ensures { λ r. ⌜ ListsAt (errorsAt z) (now (area .entry)) count (error kind (modelAt (fileIn (now (f .entry)) s) m .span) name ∷ []) r (now (area .exit)) ⌝ }
+{
+    let from = model(f, s, m, 5) as u32;
+    let to = model(f, s, m, 6) as u32;
+    list_error(area, z, count, kind, from, to, name)
+}
+
+// Errors 14 and 15: other than as many statements left as states lacking an equation.
+pub fn count_errors(
+    f: &[u8],
+    s: Sections,
+    m: usize,
+    area: &mut [u8],
+    z: Sizes,
+    left: usize,
+    states: usize,
+    count: usize,
+) -> usize
+    requires { ⌜ Open (now f) s × (m < s .counts .models) × Small z × (errorsAt z + 4096 ≤ length (now area)) × (count < 2 ^ 40) ⌝ }
+    ensures { λ r. ⌜ ListsAt (errorsAt z) (now (area .entry)) count (countErrors (modelAt (fileIn (now (f .entry)) s) m .span) left states) r (now (area .exit)) ⌝ }
+{
+    if left == states {
+        return count;
+    }
+    if left < states {
+        return model_error(f, s, m, area, z, 14, 0, count);
+    }
+    model_error(f, s, m, area, z, 15, 0, count)
+}
+
+// Error 17, at the right side of statement i.
+fn condition_error(area: &mut [u8], z: Sizes, i: usize, name: u32, count: usize) -> usize
+    requires { ⌜ Righted (now area) z × (i < z .stmts) × (count < 2 ^ 40) ⌝ }
+    ensures { λ r. ⌜ ListsAt (errorsAt z) (now (area .entry)) count (error algebraicInitialCondition (rightSpanIn (nodesIn (now (area .entry)) z) (stmtsIn (now (area .entry)) z) i) name ∷ []) r (now (area .exit)) ⌝ }
+{
+    let right = stmt_of(area, z, i, 3);
+    let from = record_word(area, 40, 8, z.nodes, right, 4);
+    let to = record_word(area, 40, 8, z.nodes, right, 5);
+    list_error(area, z, count, 17, from, to, name)
+}
+
+// Errors 16 and 17 of variable v.
+fn state_errors(
+    f: &[u8],
+    s: Sections,
+    m: usize,
+    area: &mut [u8],
+    z: Sizes,
+    v: usize,
+    name: u32,
+    count: usize,
+) -> usize
+    requires { ⌜ Open (now f) s × (m < s .counts .models) × Righted (now area) z × (count < 2 ^ 40) ⌝ }
+    ensures { λ r. ⌜ ListsAt (errorsAt z) (now (area .entry)) count (stateErrorsIn (modelAt (fileIn (now (f .entry)) s) m .span) (nodesIn (now (area .entry)) z) (stmtsIn (now (area .entry)) z) name v) r (now (area .exit)) ⌝ }
+{
+    let held = first_fate(area, z, 2, v);
+    if held == 0 {
+        return count;
+    }
+    let first = first_fate(area, z, 1, v);
+    if stmt_of(area, z, held - 1, 0) == 2 {
+        if first == 0 {
+            return model_error(f, s, m, area, z, 16, name, count);
+        }
+        return count;
+    }
+    if first == 0 {
+        return count;
+    }
+    condition_error(area, z, first - 1, name, count)
+}
+
+// Errors 16 and 17 of all variables, by their names plus 1.
+pub fn starting_errors(
+    f: &[u8],
+    s: Sections,
+    m: usize,
+    names: &[u32],
+    area: &mut [u8],
+    z: Sizes,
+    count: usize,
+) -> usize
+    requires { ⌜ Open (now f) s × (m < s .counts .models) × (z .vars ≤ length (now names)) × Righted (now area) z × (count + z .vars < 2 ^ 40) ⌝ }
+    ensures { λ r. ⌜ ListsAt (errorsAt z) (now (area .entry)) count (startingIn (modelAt (fileIn (now (f .entry)) s) m .span) (nodesIn (now (area .entry)) z) (stmtsIn (now (area .entry)) z) (now (names .entry)) (z .vars)) r (now (area .exit)) ⌝ }
+{
+    let mut listed = count;
+    let mut v = 0;
+    while v < z.vars {
+        listed = state_errors(f, s, m, area, z, v, names[v], listed);
+        v += 1;
+    }
+    listed
+}
