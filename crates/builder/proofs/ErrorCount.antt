@@ -155,7 +155,7 @@ module _ (f : File) (most : ℕ) (sub : ℕ → List Error) (n : ℕ → ℕ) (h
       (omega (arith, length-stmt c q, length-stmts c qs))
 
 module _ (f : File) (most : ℕ) (h : (m : ℕ) → 2 * length (modelAt f m .unknowns) + 2 * sumOf stmtSize (modelAt f m .stmts) ≤ most) where
-  length-errors : (k m : ℕ) → length (errorsOf f k m) ≤ most * instances f k m
+  pub length-errors : (k m : ℕ) → length (errorsOf f k m) ≤ most * instances f k m
   unfolding errorsOf instances submodels
   length-errors zero m = omega arith
   length-errors (suc k) m =
@@ -198,14 +198,14 @@ module _ (names limit : ℕ) (ns : List (List ℕ)) (ok : nodesFit names ns limi
     unfolding stmtOf
     size-stmt = size-by _ _ refl refl
 
-  stmts-total : (first : ℕ) (rs : List (List ℕ)) → stmtsFit names limit ns first rs ≡ true → first + sumOf stmtSize (map (stmtOf ns) rs) ≡ limit
+  pub stmts-total : (first : ℕ) (rs : List (List ℕ)) → stmtsFit names limit ns first rs ≡ true → first + sumOf stmtSize (map (stmtOf ns) rs) ≡ limit
   unfolding stmtsFit sumOf
   stmts-total first [] h = omega (arith, eqb-true first limit h)
   stmts-total first (r ∷ rs) h =
       let (p, q) = and-both (stmtFits names limit ns first r) _ h in
       omega (arith, size-stmt first r p, stmts-total (rightTop r + 1) rs q)
 
-few-nodes : (s : Contents) (m : ℕ) → sumOf stmtSize (modelAt (fileOf s) m .stmts) ≤ sumOf stmtSize (map (stmtOf (s .nodes)) (s .stmts))
+pub few-nodes : (s : Contents) (m : ℕ) → sumOf stmtSize (modelAt (fileOf s) m .stmts) ≤ sumOf stmtSize (map (stmtOf (s .nodes)) (s .stmts))
 unfolding fileOf modelAt noModel modelOf sumOf
 few-nodes s m =
     let qs = map (stmtOf (s .nodes)) (s .stmts) in

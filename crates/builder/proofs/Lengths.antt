@@ -42,7 +42,7 @@ unfolding flatNodes
 flat-wide (equation l r s) = wide-eights (nodes l ++ nodes r) (eights-append (nodes l) (nodes r) (eights l) (eights r))
 flat-wide (rate n r s) = wide-eights (nodes r) (eights r)
 
-length-flat-nodes : (q : Flat) → length (flatNodes q) ≡ flatSize q
+pub length-flat-nodes : (q : Flat) → length (flatNodes q) ≡ flatSize q
 unfolding flatNodes flatSize
 length-flat-nodes (equation l r s) = simp (length-append, length-nodes) refl
 length-flat-nodes (rate n r s) = length-nodes r

@@ -29,7 +29,7 @@ drop-take (suc a) (suc k) [] h = sym (take-none (suc k - suc a))
 drop-take (suc a) (suc k) (x ∷ l) h = let e : suc k - suc a ≡ k - a = omega arith in rw e (drop-take a k l (omega arith))
 
 -- m bytes from a place on, of a list cut behind them
-part-take : {A : Type 0} (at m k : ℕ) (d : List A) → at + m ≤ k → take m (drop at d) ≡ take m (drop at (take k d))
+pub part-take : {A : Type 0} (at m k : ℕ) (d : List A) → at + m ≤ k → take m (drop at d) ≡ take m (drop at (take k d))
 part-take at m k d h = sym (ap (take m) (drop-take at k d (omega arith)) ∙ take-take m (k - at) (drop at d) (omega arith))
 
 words-front : (m : ℕ) (xs : List ℕ) → 4 * m ≤ length xs → words (take (4 * m) xs) ≡ take m (words xs)

@@ -55,7 +55,7 @@ any-model P us qs (r ∷ rs) n h zero = h r
 any-model P us qs (r ∷ rs) n h (suc m) = any-model P us qs rs n h m
 
 module _ (s : Contents) where
-  few-unknowns : (m : ℕ) → length (modelAt (fileOf s) m .unknowns) ≤ length (s .unknowns)
+  pub few-unknowns : (m : ℕ) → length (modelAt (fileOf s) m .unknowns) ≤ length (s .unknowns)
   unfolding fileOf modelAt noModel modelOf
   few-unknowns m =
       any-model (λ (x : Model). length (x .unknowns) ≤ length (s .unknowns)) (map (unknownOf (s .deps)) (s .unknowns)) (map (stmtOf (s .nodes)) (s .stmts)) (s .models) (omega arith)

@@ -25,6 +25,7 @@ pub mod Bounding
 pub mod Fating
 pub mod VarRecords
 pub mod Starting
+pub mod Root
 pub mod Computes
 pub mod Examples
 pub mod OwnExamples

@@ -1,11 +1,17 @@
 // The continuous builder: from a tree file and a root name to an answer area.
+pub mod all_errors;
 pub mod allocate;
+pub mod allocation;
 pub mod bounds;
+pub mod build;
 pub mod builder;
 pub mod check;
 pub mod errors;
 pub mod fated;
+pub mod filling;
 pub mod flatten;
+pub mod laying;
+pub mod measure;
 pub mod models;
 pub mod names;
 pub mod output;
@@ -16,5 +22,6 @@ pub mod scope;
 pub mod sizes;
 pub mod starting;
 pub mod stmts;
+pub mod tables;
 pub mod variables;
 pub mod vars;

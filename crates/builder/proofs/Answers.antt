@@ -1,0 +1,132 @@
+-- What a build answers, step by step as the code takes them: the file opened, the root found, the model measured, its answer handed over.
+use mathlib.Core.Path.{_≡_, refl, sym, ap}
+use mathlib.Core.List.{List}
+use mathlib.Core.Bool.{Bool, true, false, cond}
+use mathlib.Core.Option.{Option, none, some}
+use Prim.Native.Nat.{ℕ, _-_, _≤_}
+use native.Mathlib.Omega.{arith}
+use lib.Dec.{eqb}
+use lib.ListN.{length, take, getD}
+use Rattle.functions.specs.Lists.{sumOf, plusOne}
+use Rattle.functions.proofs.Lists.{clash}
+use Rattle.ast.specs.Tree.{File, flatSize}
+use Rattle.ast.specs.File as file
+use Rattle.ast.specs.Rows.{RowsFit}
+use Rattle.ast.specs.declared.sections.Counts.{Counts}
+use Rattle.ast.specs.declared.open.Opened.the-variants as opens-as
+use Rattle.ast.specs.Opens.{outcome, opens}
+use Rattle.builder.specs.Flatten.{instances, cyclic, selfListed, overfull}
+use Rattle.builder.specs.Answer.{Answer}
+use Rattle.builder.specs.Build.{Result, refusal, accepted, tooBig, anyShort, allocated, answerOfModel, rootOf, answerOfRoot, answerInFile, answer, fitted, written, build}
+use Rattle.builder.specs.Root.{flatsOf, scopeAt, answerAt, forbiddenOf, sizeOf, measureOf, given, usedIn, bytesIn, fittedIn}
+use Rattle.builder.specs.declared.measure.Measured as measured
+use Rattle.builder.specs.declared.measure.Measured.the-variants.{Refused, Sized}
+use Rattle.builder.specs.declared.filling.Answered as answered
+use Rattle.builder.specs.declared.filling.Answered.the-variants as is
+
+-- ---- a model measured: refusals 6 to 9, or its sizes
+
+abbrev number : Bool → Bool → Bool → ℕ
+number cycle listed beyond = cond cycle 6 (cond listed 7 (cond beyond 8 0))
+
+abbrev measuredBy : Bool → Bool → Bool → Bool → ℕ → ℕ → ℕ → measured.Measured
+measuredBy cycle listed beyond big i q n = cond (eqb (number cycle listed beyond) 0) (cond big (Refused 9) (Sized i q n)) (Refused (number cycle listed beyond))
+
+abbrev answeredBy : Bool → Bool → Bool → Bool → Result Answer → Result Answer
+answeredBy cycle listed beyond big r = cond cycle (refusal 6) (cond listed (refusal 7) (cond beyond (refusal 8) (cond big (refusal 9) r)))
+
+refused-by : (cycle listed beyond big : Bool) (i q n k : ℕ) (r : Result Answer) → measuredBy cycle listed beyond big i q n ≡ Refused k → answeredBy cycle listed beyond big r ≡ refusal k
+refused-by true l b g i q n k r e = cc
+refused-by false true b g i q n k r e = cc
+refused-by false false true g i q n k r e = cc
+refused-by false false false true i q n k r e = cc
+refused-by false false false false i q n k r e = clash (cc)
+
+sized-by : (cycle listed beyond big : Bool) (i q n i′ q′ n′ : ℕ) (r : Result Answer) → measuredBy cycle listed beyond big i q n ≡ Sized i′ q′ n′
+    → (i′ ≡ i) × (q′ ≡ q) × (n′ ≡ n) × (big ≡ false) × (answeredBy cycle listed beyond big r ≡ r)
+sized-by true l b g i q n i′ q′ n′ r e = clash (cc)
+sized-by false true b g i q n i′ q′ n′ r e = clash (cc)
+sized-by false false true g i q n i′ q′ n′ r e = clash (cc)
+sized-by false false false true i q n i′ q′ n′ r e = clash (cc)
+sized-by false false false false i q n i′ q′ n′ r e = (cc, cc, cc, refl, refl)
+
+module _ (f : File) (m : ℕ) where
+  -- refused
+  pub measured-refused : (k : ℕ) → Refused k ≡ measureOf f m → answerOfModel f m ≡ refusal k
+  unfolding measureOf forbiddenOf sizeOf answerOfModel allocated
+  measured-refused k e = refused-by (cyclic f m) (selfListed f m) (overfull f m) (tooBig f m (flatsOf f m)) _ _ _ k _ (sym e)
+
+  -- sized
+  pub measured-sized : (i q n : ℕ) → Sized i q n ≡ measureOf f m
+      → (i ≡ instances f (length (f .models)) m) × (q ≡ length (flatsOf f m)) × (n ≡ sumOf flatSize (flatsOf f m)) × (tooBig f m (flatsOf f m) ≡ false)
+      × (answerOfModel f m ≡ cond (anyShort (scopeAt f m) (flatsOf f m)) (refusal 10) (accepted (answerAt f m)))
+  unfolding measureOf forbiddenOf sizeOf answerOfModel allocated
+  measured-sized i q n e = sized-by (cyclic f m) (selfListed f m) (overfull f m) (tooBig f m (flatsOf f m)) _ _ _ i q n _ (sym e)
+
+-- ---- an answer: a refusal, or the bytes used of an area
+
+pub given-refused : (k : ℕ) (b : List ℕ) (r : Result Answer) → r ≡ refusal k → given (is.Refused k) b ≡ bytesIn r
+unfolding given bytesIn
+given-refused k b r e = sym (ap bytesIn e)
+
+pub used-refused : (k : ℕ) → usedIn (is.Refused k) ≤ 55384
+unfolding usedIn
+used-refused k = omega arith
+
+-- handed over
+pub hands-refused : (room : ℕ) (a : answered.Answered) (k : ℕ) (b : List ℕ) → a ≡ is.Refused k → fittedIn room (given a b) ≡ refusal k
+unfolding given fittedIn
+hands-refused room a k b e = ap (λ (x : answered.Answered). fittedIn room (given x b)) e
+
+pub hands-used : (room : ℕ) (a : answered.Answered) (n : ℕ) (b : List ℕ) → a ≡ is.Used n → fittedIn room (given a b) ≡ fitted room (take n b)
+unfolding given fittedIn
+hands-used room a n b e = ap (λ (x : answered.Answered). fittedIn room (given x b)) e
+
+pub used-is : (a : answered.Answered) (n : ℕ) → a ≡ is.Used n → usedIn a ≡ n
+unfolding usedIn
+used-is a n e = ap usedIn e
+
+-- ---- a build
+
+-- no replacements
+pub none-fit : (ns : List (List ℕ)) (n : ℕ) (rows : List ℕ) → ((j : ℕ) → getD rows j 0 ≡ 0) → RowsFit ns n rows
+none-fit ns n rows z j h = absurd (omega (arith, z j, h))
+
+-- a number that is some place plus 1
+pub place-of : (o : Option ℕ) (k : ℕ) → k ≡ plusOne o → (k ≡ 0 → ⊥) → o ≡ some (k - 1)
+unfolding plusOne
+place-of none k e n = absurd (n e)
+place-of (some i) k e n = let h : i ≡ k - 1 = omega (arith, e) in ap some h
+
+pub place-none : (o : Option ℕ) (k : ℕ) → k ≡ plusOne o → k ≡ 0 → o ≡ none
+unfolding plusOne
+place-none none k e z = refl
+place-none (some i) k e z = absurd (omega (arith, e, z))
+
+-- what is written of an answer
+pub writes : (room : ℕ) (r : Result Answer) → written room r ≡ fittedIn room (bytesIn r)
+unfolding written fittedIn bytesIn
+writes room (refusal n) = refl
+writes room (accepted a) = refl
+
+outcome-refused : (o : file.Opened) (c : Counts) (n : ℕ) → opens-as.Refused n ≡ outcome o c → o ≡ file.refused n
+unfolding outcome
+outcome-refused (file.refused k) c n e = cc
+outcome-refused (file.opened t) c n e = clash (cc)
+
+module _ (f root : List ℕ) (room : ℕ) where
+  -- of a file that is not opened
+  pub built-refused : (n : ℕ) → opens-as.Refused n ≡ opens f → build f root room ≡ refusal n
+  unfolding opens build answer answerInFile written
+  built-refused n e = rw (outcome-refused _ _ n e) refl
+
+  module _ (t : File) (is-open : file.openFile f ≡ file.opened t) where
+    -- of a file in which no model has the root name
+    pub built-none : rootOf t root ≡ none → build f root room ≡ refusal 5
+    unfolding build answer answerInFile answerOfRoot written
+    built-none e = rw (is-open, e) refl
+
+    -- of a model found
+    pub built-at : (m : ℕ) → rootOf t root ≡ some m → build f root room ≡ fittedIn room (bytesIn (answerOfModel t m))
+    unfolding build answer answerInFile answerOfRoot
+    built-at m e = rw (is-open, e) (writes room (answerOfModel t m))

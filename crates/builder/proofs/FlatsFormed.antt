@@ -1,0 +1,131 @@
+-- The statements of an open file, and the flattened statements of each model, have well-formed trees.
+use mathlib.Core.Path.{_≡_, refl}
+use Prim.Native.Nat.{ℕ, zero, suc, _+_, _-_}
+use native.Mathlib.Omega.{arith}
+use mathlib.Core.Bool.{Bool, true, false, cond}
+use mathlib.Core.List.{List, [], _∷_, map}
+use mathlib.Core.Option.{Option, none, some}
+use lib.Dec.{eqb}
+use lib.ListN.{drop}
+use borrow.Author.Tests.{eqb-true, ltb-true}
+use Rattle.functions.proofs.Lists.{and-both}
+use Rattle.ast.specs.Tree.{Args, empty, snoc, Flat, equation, rate, Stmt, own, submodel, Unknown, Model, File, count}
+use Rattle.ast.specs.Subst.{Replacements, substFlat}
+use Rattle.ast.specs.Nodes.{nodeAt, opAt, sizeAt, treeAt, nodesFit}
+use Rattle.ast.specs.Records.{unknownOf, kindOfStmt, nameOfStmt, leftTop, rightTop, spanOfStmt, topFits, stmtFits, stmtsFit, submodelOf, stmtOf, firstStmt, stmtCount, modelOf}
+use Rattle.ast.specs.File.{Contents, contentsOf, fileOf}
+use Rattle.ast.specs.Opens.{Open, contentsIn, fileIn}
+use Rattle.ast.specs.declared.sections.Sections.{Sections}
+use Rattle.ast.proofs.Fitting.{node-ok}
+use Rattle.ast.proofs.Formed.{WellFormed, WellFormedArgs, FormedIf, tree-formed, args-formed, subst-formed}
+use Rattle.ast.proofs.Files.{Parts, parts, top-is, equation-tops, rate-top, submodel-top}
+use Rattle.builder.specs.Flatten.{noModel, modelNamed, modelAt, replacements, replacedName, subFlats, stmtFlats, flatten}
+use Rattle.builder.proofs.Arguments.{replaced-last}
+use Rattle.builder.proofs.Everywhere.{All, all-take, all-drop, all-getD, all-map, all-each}
+use Rattle.builder.proofs.SoundFile.{stmt-third}
+use Rattle.builder.proofs.Allocations.{FlatFormed}
+
+abbrev StmtFormed : ℕ → Stmt → Type 0
+StmtFormed names (own q) = FlatFormed names q
+StmtFormed names (submodel n a c s) = WellFormedArgs names a
+
+-- ---- one statement's record
+
+module _ (names limit : ℕ) (ns : List (List ℕ)) (ok : nodesFit names ns limit ≡ true) where
+  top-formed : (first top : ℕ) → topFits limit ns first top ≡ true → WellFormed names (treeAt ns top)
+  top-formed first top h = let (l, x, _) = top-is names limit ns first top h in tree-formed names ns limit ok top l x
+
+  module _ (first : ℕ) (r : List ℕ) (h : stmtFits names limit ns first r ≡ true) where
+    submodel-formed : kindOfStmt r ≡ 3 → StmtFormed names (submodelOf ns (rightTop r) (nodeAt ns (rightTop r)) (spanOfStmt r))
+    unfolding submodelOf
+    submodel-formed k =
+        let (t, five) = submodel-top names limit ns first r h k in
+        let i = rightTop r in
+        let (l, _, _) = top-is names limit ns first i t in
+        args-formed names ns limit ok i (opAt ns i) (sizeAt ns i - 1) (omega arith) (node-ok names ns limit ok i l .call five)
+
+    by-stmt : (b d : Bool) → eqb (kindOfStmt r) 1 ≡ b → eqb (kindOfStmt r) 2 ≡ d
+        → StmtFormed names (cond b (own (equation (treeAt ns (leftTop r)) (treeAt ns (rightTop r)) (spanOfStmt r)))
+        (cond d (own (rate (nameOfStmt r) (treeAt ns (rightTop r)) (spanOfStmt r))) (submodelOf ns (rightTop r) (nodeAt ns (rightTop r)) (spanOfStmt r))))
+    by-stmt true d e₁ e₂ =
+        let (t, u) = equation-tops names limit ns first r h (eqb-true _ _ e₁) in
+        (top-formed first (leftTop r) t, top-formed (leftTop r + 1) (rightTop r) u)
+    by-stmt false true e₁ e₂ =
+        let (n, t) = rate-top names limit ns first r h (eqb-true _ _ e₂) in
+        (ltb-true _ _ n, top-formed first (rightTop r) t)
+    by-stmt false false e₁ e₂ = submodel-formed (stmt-third names limit ns first r h e₁ e₂)
+
+    stmt-formed : StmtFormed names (stmtOf ns r)
+    unfolding stmtOf
+    stmt-formed = by-stmt _ _ refl refl
+
+  stmts-formed : (first : ℕ) (rs : List (List ℕ)) → stmtsFit names limit ns first rs ≡ true → All (StmtFormed names) (map (stmtOf ns) rs)
+  unfolding stmtsFit
+  stmts-formed first [] h = tt
+  stmts-formed first (r ∷ rs) h =
+      let (p, q) = and-both (stmtFits names limit ns first r) _ h in
+      (stmt-formed first r p, stmts-formed (rightTop r + 1) rs q)
+
+-- ---- models
+
+module _ (names : ℕ) where
+  abbrev ModelFormed : Model → Type 0
+  ModelFormed m = All (StmtFormed names) (m .stmts)
+
+  none-formed : ModelFormed noModel
+  unfolding noModel
+  none-formed = tt
+
+  models-formed : (us : List Unknown) (qs : List Stmt) → All (StmtFormed names) qs → (rs : List (List ℕ)) → All ModelFormed (map (modelOf us qs) rs)
+  unfolding modelOf
+  models-formed us qs h [] = tt
+  models-formed us qs h (r ∷ rs) =
+      (all-take (StmtFormed names) (stmtCount r) (drop (firstStmt r) qs) (all-drop (StmtFormed names) (firstStmt r) qs h), models-formed us qs h rs)
+
+contents-formed : (s : Contents) → Parts s → (m : ℕ) → All (StmtFormed (s .counts .names)) (modelAt (fileOf s) m .stmts)
+unfolding fileOf modelAt
+contents-formed s p m =
+    let names = s .counts .names in
+    let us = map (unknownOf (s .deps)) (s .unknowns) in
+    let qs = map (stmtOf (s .nodes)) (s .stmts) in
+    all-getD (ModelFormed names) (map (modelOf us qs) (s .models)) m noModel (none-formed names)
+    (models-formed names us qs (stmts-formed names (s .counts .nodes) (s .nodes) (p .nodes) 0 (s .stmts) (p .stmts)) (s .models))
+
+-- ---- flattened statements
+
+module _ (names : ℕ) where
+  flat-kept : (by : Replacements) → ((n : ℕ) → FormedIf names (by n)) → (q : Flat) → FlatFormed names q → FlatFormed names (substFlat by q)
+  unfolding substFlat
+  flat-kept by h (equation l r s) x = (subst-formed names by h l (x .0), subst-formed names by h r (x .1))
+  flat-kept by h (rate n r s) x = (x .0, subst-formed names by h r (x .1))
+
+  replacement-formed : (us : List Unknown) (a : Args) → WellFormedArgs names a → (n : ℕ) → FormedIf names (replacements us a n)
+  unfolding replacements
+  replacement-formed us empty x n = tt
+  replacement-formed us (snoc a k e s) x n = rw replaced-last (go (eqb (suc n) (replacedName us (count a) k)) (replacement-formed us a (x .0) n))
+    where
+      go : (b : Bool) → FormedIf names (replacements us a n) → FormedIf names (cond b (some e) (replacements us a n))
+      go true y = x .1
+      go false y = y
+
+  module _ (f : File) (h : (m : ℕ) → All (StmtFormed names) (modelAt f m .stmts)) where
+    sub-formed : (sub : ℕ → List Flat) → ((m : ℕ) → All (FlatFormed names) (sub m)) → (a : Args) → WellFormedArgs names a → (o : Option ℕ) → All (FlatFormed names) (subFlats f sub a o)
+    unfolding subFlats
+    sub-formed sub k a x none = tt
+    sub-formed sub k a x (some m) =
+        all-map (FlatFormed names) (FlatFormed names) _ (flat-kept (replacements (modelAt f m .unknowns) a) (replacement-formed (modelAt f m .unknowns) a x)) (sub m) (k m)
+
+    flats-formed : (sub : ℕ → List Flat) → ((m : ℕ) → All (FlatFormed names) (sub m)) → (q : Stmt) → StmtFormed names q → All (FlatFormed names) (stmtFlats f sub q)
+    unfolding stmtFlats
+    flats-formed sub k (own q) x = (x, tt)
+    flats-formed sub k (submodel n a c s) x = sub-formed sub k a x (modelNamed f n)
+
+    flatten-formed : (k m : ℕ) → All (FlatFormed names) (flatten f k m)
+    unfolding flatten
+    flatten-formed zero m = tt
+    flatten-formed (suc k) m = all-each (StmtFormed names) (FlatFormed names) _ (flats-formed (λ j. flatten f k j) (λ j. flatten-formed k j)) (modelAt f m .stmts) (h m)
+
+-- of an open file
+pub formed : (f : List ℕ) (s : Sections) → Open f s → (k m : ℕ) → All (FlatFormed (s .counts .names)) (flatten (fileIn f s) k m)
+unfolding contentsOf
+formed f s o = flatten-formed (s .counts .names) (fileIn f s) (contents-formed (contentsIn f s) (parts (contentsIn f s) (o .fits)))

@@ -1,0 +1,126 @@
+-- A root model's flattened statements laid into an answer: read at level 0 they are as they stand; and time's lower bound, read back from the header.
+use mathlib.Core.Path.{_≡_, refl, sym, ap, _∙_}
+use mathlib.Core.Bool.{true}
+use mathlib.Core.List.{List, [], _∷_, _++_}
+use Prim.Native.Nat.{ℕ, _+_, _-_, _*_, _≤_}
+use native.Mathlib.Omega.{arith}
+use lib.ListN.{length, take, drop, getD, length-drop}
+use lib.Seq.{length-take-le}
+use Rattle.functions.specs.Lists.{each, sumOf}
+use Rattle.ast.specs.Tree.{Flat, flatSize}
+use Rattle.ast.specs.Words.{section, wordOf, floatFrom, low, high, bytesOf}
+use Rattle.ast.specs.Bytes.{put}
+use Rattle.ast.specs.Encode.{flatNodes, encode}
+use Rattle.ast.specs.Rows.{levelsOf}
+use Rattle.ast.specs.Opens.{Open, fileIn}
+use Rattle.ast.specs.declared.sections.Sections.{Sections}
+use Rattle.ast.proofs.Encodes.{encode-one}
+use Rattle.ast.proofs.Fronts.{lent-put, put-zero}
+use Rattle.builder.specs.Variables.{Bounds, fromZero, lastBounds}
+use Rattle.builder.specs.Flatten.{modelAt, flatten}
+use Rattle.builder.specs.Answer.{boundsWords}
+use Rattle.builder.specs.Descent.{flatAt, RowsIn, RowsKept}
+use Rattle.builder.specs.Unfated.{unfated, RecordsFit, Recorded}
+use Rattle.builder.specs.Bounding.{boundsFrom}
+use Rattle.builder.specs.Root.{flatsOf}
+use Rattle.builder.proofs.Flattening.{map-none}
+use Rattle.builder.proofs.Open.{models-long}
+use Rattle.builder.proofs.Putting.{length-put, length-flats}
+use Rattle.builder.proofs.Recording.{fits-same}
+use Rattle.builder.proofs.Sections.{section-back}
+
+-- ---- a lent rest
+
+lent-long : (d : List ℕ) (n : ℕ) → length (take (length d - n) (drop n d)) ≡ length d - n
+lent-long d n = let l : length (drop n d) ≡ length d - n = length-drop n d in length-take-le (length d - n) (drop n d) (omega (arith, l))
+
+-- a put at its start
+pub lent-start : (d e ys : List ℕ) (n : ℕ) → n ≤ length d → ys ≡ put (take (length d - n) (drop n d)) 0 e
+    → take n d ++ (ys ++ drop (length d - n) (drop n d)) ≡ put d n e
+lent-start d e ys n h g = lent-put d e ys n h (g ∙ put-zero (take (length d - n) (drop n d)) e)
+
+-- ---- the flattened statements of model m
+
+module _ (f : List ℕ) (s : Sections) (rows : List ℕ) (m : ℕ) where
+  pub flats-root : flatAt f s rows 0 (s .counts .models) m ≡ flatsOf (fileIn f s) m
+  unfolding levelsOf
+  flats-root = map-none (flatten (fileIn f s) (s .counts .models) m) ∙ ap (λ (k : ℕ). flatten (fileIn f s) k m) (sym (models-long f s))
+
+  -- there is a row for each model
+  pub rows-room : Open f s → length rows ≡ 8192 → (0 + s .counts .models ≤ 32) × (256 * (0 + s .counts .models) ≤ length rows)
+  rows-room o l = (omega (arith, o .laid .within .models), omega (arith, o .laid .within .models, l))
+
+  -- there is room for the nodes
+  pub nodes-room : (d : List ℕ) → sumOf flatSize (flatsOf (fileIn f s) m) ≤ 1024 → length d ≡ 55384
+      → (0 + sumOf flatSize (flatAt f s rows 0 (s .counts .models) m) ≤ 1024)
+      × (32 * (0 + sumOf flatSize (flatAt f s rows 0 (s .counts .models) m)) ≤ length (take (length d - 40) (drop 40 d)))
+  nodes-room d h l =
+      let e : sumOf flatSize (flatAt f s rows 0 (s .counts .models) m) ≡ sumOf flatSize (flatsOf (fileIn f s) m) = ap (sumOf flatSize) flats-root in
+      (omega (arith, e, h), omega (arith, e, h, l, lent-long d 40))
+
+  -- the nodes are laid
+  pub nodes-laid : (d ys rows′ : List ℕ) (r : ℕ) → length d ≡ 55384 → length rows ≡ 8192
+      → (r ≡ 0 + sumOf flatSize (flatAt f s rows 0 (s .counts .models) m))
+      × (ys ≡ put (take (length d - 40) (drop 40 d)) (32 * 0) (encode (each flatNodes (flatAt f s rows 0 (s .counts .models) m))))
+      × RowsKept f s 0 rows rows′
+      → (take 40 d ++ (ys ++ drop (length d - 40) (drop 40 d)) ≡ put d 40 (encode (each flatNodes (flatsOf (fileIn f s) m))))
+      × (length rows′ ≡ 8192) × RowsIn f s rows′
+  nodes-laid d ys rows′ r l h g =
+      (lent-start d (encode (each flatNodes (flatsOf (fileIn f s) m))) ys 40 (omega (arith, l)) (g .1 ∙ ap (λ (qs : List Flat). put (take (length d - 40) (drop 40 d)) 0 (encode (each flatNodes qs))) flats-root), g .2 .0 ∙ h, g .2 .2)
+
+  -- there is room for the records
+  pub stmts-room : (d : List ℕ) (at : ℕ) → sumOf flatSize (flatsOf (fileIn f s) m) ≤ 1024 → length (flatsOf (fileIn f s) m) ≤ 256 → at + 8192 ≤ length d
+      → RecordsFit 0 0 (length (take (length d - at) (drop at d))) (flatAt f s rows 0 (s .counts .models) m)
+  stmts-room d at h n l =
+      fits-same 0 0 (length (take (length d - at) (drop at d))) (flatAt f s rows 0 (s .counts .models) m) (flatsOf (fileIn f s) m) flats-root (omega (arith, n), omega (arith, h), omega (arith, n, l, lent-long d at))
+
+  -- the records are laid
+  pub stmts-laid : (d ys : List ℕ) (at a b : ℕ) → at + 8192 ≤ length d
+      → Recorded 0 0 (take (length d - at) (drop at d)) a b ys (flatAt f s rows 0 (s .counts .models) m)
+      → take at d ++ (ys ++ drop (length d - at) (drop at d)) ≡ put d at (encode (unfated 0 (flatsOf (fileIn f s) m)))
+  stmts-laid d ys at a b l g =
+      lent-start d (encode (unfated 0 (flatsOf (fileIn f s) m))) ys at (omega (arith, l)) (g .2 ∙ ap (λ (qs : List Flat). put (take (length d - at) (drop at d)) 0 (encode (unfated 0 qs))) flats-root)
+
+-- room for the records behind the nodes
+pub room-behind : (d d′ : List ℕ) (qs : List Flat) (n : ℕ) → d′ ≡ put d 40 (encode (each flatNodes qs)) → sumOf flatSize qs ≤ 1024 → n ≡ sumOf flatSize qs → length d ≡ 55384
+    → 40 + 32 * n + 8192 ≤ length d′
+room-behind d d′ qs n e h g l =
+    let z : length (encode (each flatNodes qs)) ≡ 32 * sumOf flatSize qs = length-flats qs in
+    let p : length d′ ≡ length d = ap length e ∙ length-put d (encode (each flatNodes qs)) 40 (omega (arith, z, h, l)) in
+    omega (arith, p, h, g, l)
+
+-- ---- time's lower bound
+
+halves : (x : ℕ) → low x + 4294967296 * high x ≡ x
+unfolding low high
+halves x = omega arith
+
+lower-first : (b : Bounds) → floatFrom (boundsWords b) 0 ≡ b .lower
+unfolding floatFrom wordOf boundsWords
+lower-first b = halves (b .lower)
+
+bounds-four : (b : Bounds) → length (boundsWords b) ≡ 4
+unfolding boundsWords
+bounds-four b = refl
+
+-- the words of bounds that are put, as a record
+bounds-back : (d d′ : List ℕ) (at : ℕ) (b : Bounds) → at ≤ length d → d′ ≡ put d at (bytesOf (boundsWords b)) → section 4 1 at d′ ≡ boundsWords b ∷ []
+unfolding put
+bounds-back d d′ at b h e =
+    let rest = drop (at + length (bytesOf (boundsWords b))) d in
+    ap (section 4 1 at) e
+    ∙ ap (λ (x : List ℕ). section 4 1 at (take at d ++ (x ++ rest))) (sym (encode-one (boundsWords b)))
+    ∙ section-back 4 1 at (take at d) (boundsWords b ∷ []) rest (bounds-four b, tt) refl (length-take-le at d h)
+
+-- the lower one is read
+pub lower-read : (d d′ : List ℕ) (at r : ℕ) (b : Bounds) → at ≤ length d → d′ ≡ put d at (bytesOf (boundsWords b)) → r ≡ floatFrom (getD (section 4 1 at d′) 0 []) 0 → r ≡ b .lower
+lower-read d d′ at r b h e g = g ∙ ap (λ (rs : List (List ℕ)). floatFrom (getD rs 0 []) 0) (bounds-back d d′ at b h e) ∙ lower-first b
+
+module _ (f : List ℕ) (s : Sections) (m name : ℕ) where
+  pub time-read : (d d′ : List ℕ) (r : ℕ) → 40 ≤ length d
+      → d′ ≡ put d 24 (bytesOf (boundsWords (lastBounds (fileIn f s .names) name (boundsFrom true) (modelAt (fileIn f s) m .unknowns))))
+      → r ≡ floatFrom (getD (section 4 1 24 d′) 0 []) 0
+      → (r ≡ lastBounds (fileIn f s .names) name fromZero (modelAt (fileIn f s) m .unknowns) .lower)
+      × (d′ ≡ put d 24 (bytesOf (boundsWords (lastBounds (fileIn f s .names) name fromZero (modelAt (fileIn f s) m .unknowns)))))
+  unfolding boundsFrom
+  time-read d d′ r h e g = (lower-read d d′ 24 r (lastBounds (fileIn f s .names) name fromZero (modelAt (fileIn f s) m .unknowns)) (omega (arith, h)) e g, e)

@@ -1,0 +1,115 @@
+-- How a root model is measured, in the code's terms: the refusals 6 to 8 in their order, and the counts that stop just above their mosts.
+use mathlib.Core.Path.{_≡_, refl, sym, ap, _∙_}
+use mathlib.Core.Bool.{Bool, true, false, cond, _||_}
+use mathlib.Core.List.{List, map}
+use Prim.Native.Nat.{ℕ, _+_, _*_, _≤_, _<_}
+use native.Mathlib.Omega.{arith}
+use borrow.Author.Tests.{lt-ltb, le-ltb, eq-eqb, ne-eqb}
+use lib.Dec.{ltb}
+use lib.ListN.{length}
+use Rattle.functions.specs.Lists.{sumOf}
+use Rattle.ast.specs.Tree.{File, Flat, flatSize}
+use Rattle.ast.specs.Levels.{throughFlat}
+use Rattle.ast.specs.Rows.{levelsOf, atMost}
+use Rattle.builder.specs.Numbers.{modelCycle, selfListedUnknown, argumentBeyond, overMost}
+use Rattle.builder.specs.Flatten.{flatten, instances, cyclic, selfListed, overfull}
+use Rattle.builder.specs.Build.{tooBig}
+use Rattle.builder.specs.Root.{forbiddenOf, sizeOf, measureOf}
+use Rattle.builder.specs.declared.measure.Measured.{Measured}
+use Rattle.builder.specs.declared.measure.Measured.the-variants.{Refused, Sized}
+use Rattle.builder.proofs.Flattening.{map-none}
+
+-- ---- refusals 6 to 8, in their order
+
+module _ (f : File) (m : ℕ) where
+  pub forbids-cycle : cyclic f m ≡ true → modelCycle ≡ forbiddenOf f m
+  unfolding forbiddenOf
+  forbids-cycle a = rw a refl
+
+  pub forbids-self-listed : cyclic f m ≡ false → selfListed f m ≡ true → selfListedUnknown ≡ forbiddenOf f m
+  unfolding forbiddenOf
+  forbids-self-listed a b = rw (a, b) refl
+
+  pub forbids-beyond : cyclic f m ≡ false → selfListed f m ≡ false → overfull f m ≡ true → argumentBeyond ≡ forbiddenOf f m
+  unfolding forbiddenOf
+  forbids-beyond a b d = rw (a, b, d) refl
+
+  pub forbids-none : cyclic f m ≡ false → selfListed f m ≡ false → overfull f m ≡ false → 0 ≡ forbiddenOf f m
+  unfolding forbiddenOf
+  forbids-none a b d = rw (a, b, d) refl
+
+  -- ---- one of them, or the sizes
+
+  pub measured-forbidden : (n : ℕ) → n ≡ forbiddenOf f m → (n ≡ 0 → ⊥) → Refused n ≡ measureOf f m
+  unfolding measureOf
+  measured-forbidden n e h = rw (← e, ne-eqb n 0 h) refl
+
+  pub measured-size : (n : ℕ) (r : Measured) → n ≡ forbiddenOf f m → n ≡ 0 → r ≡ sizeOf f m → r ≡ measureOf f m
+  unfolding measureOf
+  measured-size n r e h g = rw (← e, eq-eqb n 0 h) g
+
+-- ---- counts that stop just above their mosts
+
+-- beyond the most
+at-most-over : (most i x : ℕ) → i ≡ atMost (most + 1) x → most < i → most < x
+unfolding atMost
+at-most-over most i x e h = omega arith
+
+-- within it the count is whole
+at-most-whole : (most i x : ℕ) → i ≡ atMost (most + 1) x → i ≤ most → i ≡ x
+unfolding atMost
+at-most-whole most i x e h = omega arith
+
+or-last : (a : Bool) → (a || true) ≡ true
+or-last true = refl
+or-last false = refl
+
+-- by three numbers: instances, statements and nodes
+abbrev sizing : ℕ → ℕ → ℕ → Measured
+sizing i q n = cond (ltb 1024 i || ltb 1024 n || ltb 256 q) (Refused overMost) (Sized i q n)
+
+over-first : (i q n : ℕ) → 1024 < i → Refused overMost ≡ sizing i q n
+over-first i q n h = rw (lt-ltb 1024 i h) refl
+
+over-second : (i q n : ℕ) → 256 < q → Refused overMost ≡ sizing i q n
+over-second i q n h = rw (lt-ltb 256 q h, or-last (ltb 1024 i || ltb 1024 n)) refl
+
+over-third : (i q n : ℕ) → 1024 < n → Refused overMost ≡ sizing i q n
+over-third i q n h = rw (lt-ltb 1024 n h, or-last (ltb 1024 i)) refl
+
+over-none : (i q n : ℕ) → i ≤ 1024 → q ≤ 256 → n ≤ 1024 → Sized i q n ≡ sizing i q n
+over-none i q n hi hq hn = rw (le-ltb 1024 i hi, le-ltb 256 q hq, le-ltb 1024 n hn) refl
+
+module _ (f : File) (m k : ℕ) (ek : length (f .models) ≡ k) where
+  -- at the depth that the code gives
+  size-at : sizing (instances f k m) (length (flatten f k m)) (sumOf flatSize (flatten f k m)) ≡ sizeOf f m
+  unfolding sizeOf tooBig
+  size-at = ap (λ (d : ℕ). sizing (instances f d m) (length (flatten f d m)) (sumOf flatSize (flatten f d m))) (sym ek)
+
+  module _ (i : ℕ) (ei : i ≡ atMost 1025 (instances f k m)) where
+    pub over-instances : 1024 < i → Refused overMost ≡ sizeOf f m
+    over-instances h = over-first (instances f k m) (length (flatten f k m)) (sumOf flatSize (flatten f k m)) (at-most-over 1024 i _ ei h) ∙ size-at
+
+    module _ (q : ℕ) (eq : q ≡ atMost 257 (length (flatten f k m))) where
+      pub over-stmts : 256 < q → Refused overMost ≡ sizeOf f m
+      over-stmts h = over-second (instances f k m) (length (flatten f k m)) (sumOf flatSize (flatten f k m)) (at-most-over 256 q _ eq h) ∙ size-at
+
+      -- the nodes are read at level 0, where nothing is replaced
+      module _ (ns : List (List ℕ)) (rows : List ℕ) (n : ℕ) (en : n ≡ atMost 1025 (sumOf flatSize (map (throughFlat (levelsOf ns rows 0)) (flatten f k m)))) where
+        plain : n ≡ atMost 1025 (sumOf flatSize (flatten f k m))
+        unfolding levelsOf
+        plain = en ∙ ap (λ (qs : List Flat). atMost 1025 (sumOf flatSize qs)) (map-none (flatten f k m))
+
+        pub over-nodes : 1024 < n → Refused overMost ≡ sizeOf f m
+        over-nodes h = over-third (instances f k m) (length (flatten f k m)) (sumOf flatSize (flatten f k m)) (at-most-over 1024 n _ plain h) ∙ size-at
+
+        pub sized : i ≤ 1024 → q ≤ 256 → n ≤ 1024 → Sized i q n ≡ sizeOf f m
+        sized hi hq hn =
+            let ai : i ≡ instances f k m = at-most-whole 1024 i _ ei hi in
+            let aq : q ≡ length (flatten f k m) = at-most-whole 256 q _ eq hq in
+            let an : n ≡ sumOf flatSize (flatten f k m) = at-most-whole 1024 n _ plain hn in
+            over-none i q n hi hq hn ∙ ap (λ (x : ℕ). sizing x q n) ai ∙ ap (λ (x : ℕ). sizing (instances f k m) x n) aq ∙ ap (λ (x : ℕ). sizing (instances f k m) (length (flatten f k m)) x) an ∙ size-at
+
+-- rows for all levels
+pub rows-room : (k l : ℕ) → k ≤ 32 → l ≡ 8192 → 256 * (0 + k) ≤ l
+rows-room k l h e = omega arith

@@ -1,0 +1,132 @@
+-- The area of a root model's answer as it is written: fates into the statements' records, the variables, the errors, and last the header.
+use mathlib.Core.Path.{_≡_, refl, sym, ap, _∙_}
+use mathlib.Core.List.{List, [], _∷_, _++_, map, append-assoc}
+use Prim.Native.Nat.{ℕ, _+_, _*_, min, _≤_, _<_}
+use native.Mathlib.Omega.{arith}
+use lib.ListN.{length, take, length-append}
+use Rattle.functions.specs.Lists.{each}
+use Rattle.ast.specs.Tree.{File}
+use Rattle.ast.specs.Words.{bytesOf, wordOf}
+use Rattle.ast.specs.Bytes.{put}
+use Rattle.ast.specs.Encode.{flatNodes, encode}
+use Rattle.ast.proofs.Encodes.{length-bytes}
+use Rattle.builder.specs.Flatten.{scopeOf}
+use Rattle.builder.specs.Answer.{Answer, flatRecords, variableRecords, errorWords, header, nodeCount, depsOf, areaOf, areaBytes, answerBytes}
+use Rattle.builder.specs.Area.{listedIn}
+use Rattle.builder.specs.Build.{answerFrom}
+use Rattle.builder.specs.Places.{stmtsAt, varsAt, depsAt, errorsAt}
+use Rattle.builder.specs.Allocating.{listedAt, ListsAt}
+use Rattle.builder.specs.declared.places.Sizes.{Sizes}
+use Rattle.builder.specs.Root.{flatsOf, scopeAt, fatesAt, answerAt, SizesOf, part, Laid, Unfated, Fated, Varied}
+use Rattle.builder.proofs.Lengths.{Bytes, bytes}
+use Rattle.builder.proofs.PutRecords.{length-put}
+use Rattle.builder.proofs.ListedAt.{length-listedAt}
+use Rattle.builder.proofs.AreaParts.{part-put, part-before, part-behind, part-listed, part-errors, six-parts}
+use Rattle.builder.proofs.FlatsBack.{fates-count}
+
+module _ (f : File) (m : ℕ) (z : Sizes) (k : SizesOf f m z) where
+  -- ---- lengths of the sections
+
+  answer-fates : length (answerAt f m .fates) ≡ length (answerAt f m .stmts)
+  unfolding answerFrom
+  answer-fates = fates-count f m
+
+  lengths : Bytes (answerAt f m) answer-fates
+  lengths = bytes (answerAt f m) answer-fates
+
+  nodes-long : length (encode (each flatNodes (flatsOf f m))) ≡ 32 * z .nodes
+  unfolding answerFrom nodeCount
+  nodes-long = omega (arith, lengths .nodes, k .nodes)
+
+  stmts-long : length (encode (flatRecords 0 (flatsOf f m) (fatesAt f m))) ≡ 32 * z .stmts
+  unfolding answerFrom
+  stmts-long = omega (arith, lengths .stmts, k .stmts)
+
+  vars-long : length (encode (variableRecords (answerAt f m) 0 0 (scopeAt f m .vars))) ≡ 48 * z .vars
+  unfolding answerFrom
+  vars-long = omega (arith, lengths .vars, k .vars)
+
+  deps-long : length (bytesOf (each (λ x. x .deps) (scopeAt f m .vars))) ≡ 4 * z .deps
+  deps-long = omega (arith, length-bytes (each (λ x. x .deps) (scopeAt f m .vars)), k .deps)
+
+  pub room : errorsAt z + 4096 ≤ 55384
+  unfolding errorsAt depsAt varsAt stmtsAt
+  room = omega (arith, k .small .nodes, k .small .stmts, k .small .vars, k .small .deps)
+
+  -- ---- fates
+
+  pub fates-written : (b b′ : List ℕ) → Unfated f m z b → b′ ≡ put b (stmtsAt z) (encode (flatRecords 0 (flatsOf f m) (fatesAt f m))) → Fated f m z b′
+  unfolding errorsAt depsAt varsAt stmtsAt
+  fates-written b b′ u e =
+      let l = stmts-long in
+      record {
+        long = ap length e ∙ length-put b (encode (flatRecords 0 (flatsOf f m) (fatesAt f m))) (stmtsAt z) (omega (arith, room, u .long, l)) ∙ u .long;
+        nodes = ap (part 40 (32 * z .nodes)) e ∙ part-before 40 (32 * z .nodes) (stmtsAt z) b _ (omega arith) (omega (arith, room, u .long)) ∙ u .nodes;
+        stmts = ap (part (stmtsAt z) (32 * z .stmts)) e ∙ part-put (stmtsAt z) (32 * z .stmts) b _ (omega (arith, room, u .long)) l;
+        deps = ap (part (depsAt z) (4 * z .deps)) e ∙ part-behind (depsAt z) (4 * z .deps) (stmtsAt z) b _ (omega (arith, l)) (omega (arith, room, u .long)) ∙ u .deps;
+      }
+
+  -- ---- variables
+
+  pub vars-written : (b b′ : List ℕ) → Fated f m z b → b′ ≡ put b (varsAt z) (encode (variableRecords (answerAt f m) 0 0 (scopeAt f m .vars))) → Varied f m z b′
+  unfolding errorsAt depsAt varsAt stmtsAt
+  vars-written b b′ u e =
+      let l = vars-long in (
+        record {
+          long = ap length e ∙ length-put b (encode (variableRecords (answerAt f m) 0 0 (scopeAt f m .vars))) (varsAt z) (omega (arith, room, u .long, l)) ∙ u .long;
+          nodes = ap (part 40 (32 * z .nodes)) e ∙ part-before 40 (32 * z .nodes) (varsAt z) b _ (omega arith) (omega (arith, room, u .long)) ∙ u .nodes;
+          stmts = ap (part (stmtsAt z) (32 * z .stmts)) e ∙ part-before (stmtsAt z) (32 * z .stmts) (varsAt z) b _ (omega arith) (omega (arith, room, u .long)) ∙ u .stmts;
+          deps = ap (part (depsAt z) (4 * z .deps)) e ∙ part-behind (depsAt z) (4 * z .deps) (varsAt z) b _ (omega (arith, l)) (omega (arith, room, u .long)) ∙ u .deps;
+        },
+        ap (part (varsAt z) (48 * z .vars)) e ∙ part-put (varsAt z) (48 * z .vars) b _ (omega (arith, room, u .long)) l,
+      )
+
+  -- ---- errors and header
+
+  module _ (b b₁ b₂ : List ℕ) (r : ℕ) (u : Varied f m z b) (e₁ : ListsAt (errorsAt z) b 0 (answerAt f m .errors) r b₁) (e₂ : b₂ ≡ put b₁ 0 (bytesOf (header (answerAt f m)))) where
+    abbrev es : List ℕ
+    es = encode (map errorWords (take 256 (answerAt f m .errors)))
+
+    count : r ≡ length (answerAt f m .errors)
+    count = omega (arith, e₁ .0)
+
+    errors-long : length es ≡ 16 * min r 256
+    unfolding header wordOf
+    errors-long = omega (arith, lengths .errors, count)
+
+    fits : errorsAt z + 4096 ≤ length b
+    fits = omega (arith, room, u .0 .long)
+
+    pub long₁ : length b₁ ≡ 55384
+    long₁ = ap length (e₁ .1) ∙ length-listedAt (errorsAt z) b 0 (answerAt f m .errors) fits ∙ u .0 .long
+
+    -- a part between the header and the errors
+    inner : (at n : ℕ) → 40 ≤ at → at + n ≤ errorsAt z → part at n b₂ ≡ part at n b
+    inner at n h g =
+        ap (part at n) e₂
+        ∙ part-behind at n 0 b₁ (bytesOf (header (answerAt f m))) (omega (arith, lengths .header)) (omega arith)
+        ∙ ap (part at n) (e₁ .1)
+        ∙ part-listed at n (errorsAt z) b 0 (answerAt f m .errors) g (omega (arith, fits))
+
+    last : part (errorsAt z) (16 * min r 256) b₂ ≡ es
+    unfolding errorsAt depsAt varsAt stmtsAt
+    last =
+        ap (part (errorsAt z) (16 * min r 256)) e₂
+        ∙ part-behind (errorsAt z) (16 * min r 256) 0 b₁ (bytesOf (header (answerAt f m))) (omega (arith, lengths .header)) (omega arith)
+        ∙ ap (part (errorsAt z) (16 * min r 256)) (e₁ .1)
+        ∙ part-errors (errorsAt z) (16 * min r 256) b (answerAt f m .errors) (omega (arith, fits)) errors-long
+
+    -- The bytes used are the answer's.
+    pub answer-written : (n : ℕ) → n ≡ errorsAt z + 16 * min r 256 → (take n b₂ ≡ answerBytes (answerAt f m)) × (n ≤ 55384)
+    unfolding answerBytes areaBytes areaOf answerFrom depsOf errorsAt depsAt varsAt stmtsAt
+    answer-written n e =
+        let h : part 0 40 b₂ ≡ bytesOf (header (answerAt f m)) = ap (part 0 40) e₂ ∙ part-put 0 40 b₁ (bytesOf (header (answerAt f m))) (omega arith) (lengths .header) in
+        let p = inner 40 (32 * z .nodes) (omega arith) (omega arith) ∙ u .0 .nodes in
+        let q = inner (stmtsAt z) (32 * z .stmts) (omega arith) (omega arith) ∙ u .0 .stmts in
+        let v = inner (varsAt z) (48 * z .vars) (omega arith) (omega arith) ∙ u .1 in
+        let d = inner (depsAt z) (4 * z .deps) (omega arith) (omega arith) ∙ u .0 .deps in (
+          ap (λ (x : ℕ). take x b₂) e
+              ∙ six-parts b₂ _ _ _ _ _ _ 40 (32 * z .nodes) (32 * z .stmts) (48 * z .vars) (4 * z .deps) (16 * min r 256) h p q v d last
+              ∙ simp append-assoc refl,
+          omega (arith, e, room),
+        )

@@ -1,0 +1,38 @@
+use native.Mathlib.Omega.{arith}
+use Rattle.builder.proofs.ErrorParts.{built-room, built-listed}
+use borrow.Author.Needs.{needs}
+use Rattle.builder.proofs.all_errors.models_errors.Statement.{statement}
+use Rattle.builder.proofs.all_errors.models_errors.Tie as tie
+
+errors-at-requires : tie.Need-errors-at-requires
+errors-at-requires c κs = search needs
+
+sub-builder : tie.Need-sub-builder
+sub-builder c = search needs
+
+part-builder-start : tie.Need-part-builder-start
+part-builder-start c = search needs
+
+part-builder-end : tie.Need-part-builder-end
+part-builder-end c = search needs
+
+builder-requires : tie.Need-builder-requires
+builder-requires c κs = (c .before .before .before .before .pre .0, c .before .before .before .before .pre .1, c .before .before .before .before .pre .0 .opened .laid .within .models, built-room _ _ (c .before .before .before .before .pre .0 .opened) (c .before .before .before .before .args .own .now) (c .before .errors-at .result) (c .before .before .before .before .args .m) (omega (arith, c .before .errors-at .ensures, c .before .before .before .before .pre .3)) (c .before .before .before .before .pre .4))
+
+same-length : tie.Need-same-length
+same-length c = search needs
+
+returns : tie.Need-returns
+returns c = rw (← c .before .before .before .before .errors-at .ensures) (built-listed _ _ (c .before .before .before .before .before .before .before .pre .0 .opened) (c .before .before .before .before .before .before .before .args .own .now) _ (c .before .before .before .before .errors-at .result) (c .before .before .before .before .before .before .before .args .m) _ (omega (arith, c .before .before .before .before .errors-at .ensures, c .before .before .before .before .before .before .before .pre .3)) (c .before .before .builder .ensures))
+
+pub models-errors-spec : {M : Type 1} → statement M
+models-errors-spec =
+    tie.close
+    (tie.spec
+    errors-at-requires
+    sub-builder
+    part-builder-start
+    part-builder-end
+    builder-requires
+    same-length
+    returns)

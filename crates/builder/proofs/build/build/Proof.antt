@@ -1,0 +1,49 @@
+use mathlib.Core.Path.{sym, ap, _∙_}
+use lib.ListN.{length}
+use Rattle.builder.specs.Build.{told, resultArea}
+use Rattle.ast.proofs.Passed.{is-opened}
+use Rattle.builder.proofs.Answers.{built-refused}
+use borrow.Author.Needs.{needs}
+use Rattle.builder.proofs.build.build.Statement.{statement}
+use Rattle.builder.proofs.build.build.Tie as tie
+
+open-requires : tie.Need-open-requires
+open-requires c κs = search needs
+
+enum-known-number : tie.Need-enum-known-number
+enum-known-number c = search needs
+
+refuse-requires : tie.Need-refuse-requires
+refuse-requires c κs = search needs
+
+enum-known-s : tie.Need-enum-known-s
+enum-known-s c = search needs
+
+build-opened-requires : tie.Need-build-opened-requires
+build-opened-requires c κs = is-opened _ _ (sym (c .before .before .before .before .open .ensures) ∙ c .before .before .s .given .1)
+
+same-length : tie.Need-same-length
+same-length c = search needs
+
+returns : tie.Need-returns
+returns c = let e = built-refused _ (c .before .before .before .before .before .before .before .before .before .before .before .args .root .now) (length (c .before .before .before .before .before .before .before .before .before .before .before .args .area .now)) _ (sym (c .before .before .before .before .before .number .given .1) ∙ c .before .before .before .before .before .before .before .open .ensures) in (c .before .before .refuse .ensures .0 ∙ sym (ap told e), c .before .before .refuse .ensures .1 ∙ sym (ap (resultArea (length (c .before .before .before .before .before .before .before .before .before .before .before .args .area .now))) e))
+
+same-length-2 : tie.Need-same-length-2
+same-length-2 c = search needs
+
+returns-2 : tie.Need-returns-2
+returns-2 c = search needs
+
+pub build-spec : {M : Type 1} → statement M
+build-spec =
+    tie.close
+    (tie.spec
+    open-requires
+    enum-known-number
+    refuse-requires
+    enum-known-s
+    build-opened-requires
+    same-length
+    returns
+    same-length-2
+    returns-2)

@@ -1,0 +1,34 @@
+use native.Mathlib.Omega.{arith}
+use Rattle.ast.proofs.Fronts.{lent-put}
+use borrow.Author.Needs.{needs}
+use Rattle.builder.proofs.laying.lay_deps.Statement.{statement}
+use Rattle.builder.proofs.laying.lay_deps.Tie as tie
+
+sub-variable-tables : tie.Need-sub-variable-tables
+sub-variable-tables c = search needs
+
+part-variable-tables-start : tie.Need-part-variable-tables-start
+part-variable-tables-start c = search needs
+
+part-variable-tables-end : tie.Need-part-variable-tables-end
+part-variable-tables-end c = search needs
+
+variable-tables-requires : tie.Need-variable-tables-requires
+variable-tables-requires c κs = search needs
+
+same-length : tie.Need-same-length
+same-length c = search needs
+
+returns : tie.Need-returns
+returns c = (c .before .before .variable-tables .ensures .0, lent-put (c .before .before .before .before .before .before .args .own .now) _ _ (c .before .before .before .before .before .before .args .at) (omega (arith, c .before .before .before .before .before .before .pre .3)) (c .before .before .variable-tables .ensures .1))
+
+pub lay-deps-spec : {M : Type 1} → statement M
+lay-deps-spec =
+    tie.close
+    (tie.spec
+    sub-variable-tables
+    part-variable-tables-start
+    part-variable-tables-end
+    variable-tables-requires
+    same-length
+    returns)

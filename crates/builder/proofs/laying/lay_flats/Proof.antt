@@ -1,0 +1,46 @@
+use mathlib.Core.Path.{ap, _∙_}
+use mathlib.Core.List.{List}
+use Prim.Native.Nat.{ℕ, _+_, _*_}
+use Rattle.ast.specs.Bytes.{put}
+use Rattle.ast.specs.Encode.{encode}
+use Rattle.ast.specs.Opens.{fileIn}
+use Rattle.builder.specs.Unfated.{unfated}
+use Rattle.builder.specs.Root.{flatsOf}
+use Rattle.builder.proofs.FlatsLaid.{room-behind}
+use borrow.Author.Needs.{needs}
+use Rattle.builder.proofs.laying.lay_flats.Statement.{statement}
+use Rattle.builder.proofs.laying.lay_flats.Tie as tie
+
+lay-nodes-requires : tie.Need-lay-nodes-requires
+lay-nodes-requires c κs = search needs
+
+mul-lay-stmts : tie.Need-mul-lay-stmts
+mul-lay-stmts c = search needs
+
+add-lay-stmts : tie.Need-add-lay-stmts
+add-lay-stmts c = search needs
+
+lay-stmts-requires : tie.Need-lay-stmts-requires
+lay-stmts-requires c κs = let p = c .before .before .before .before .before .before .before .before .before .before .before .before .pre in let q = c .before .before .before .before .before .before .lay-nodes .ensures in
+    (p .0, p .1, p .2, (q .1, q .2), (p .4 .0, p .4 .1, room-behind (c .before .before .before .before .before .before .before .before .before .before .before .before .args .own .now) _ (flatsOf (fileIn (c .before .before .before .before .before .before .before .before .before .before .before .before .args .f .now) (c .before .before .before .before .before .before .before .before .before .before .before .before .args .s)) (c .before .before .before .before .before .before .before .before .before .before .before .before .args .m)) (c .before .before .before .before .before .before .before .before .before .before .before .before .args .n) (q .0) (p .4 .0) (p .4 .2) (p .4 .3)))
+
+same-length : tie.Need-same-length
+same-length c = search needs
+
+same-length-2 : tie.Need-same-length-2
+same-length-2 c = search needs
+
+returns : tie.Need-returns
+returns c = c .before .before .before .before .lay-stmts .ensures ∙ ap (λ (d : List ℕ). put d (40 + 32 * c .before .before .before .before .before .before .before .before .before .before .before .before .before .before .before .before .before .args .n) (encode (unfated 0 (flatsOf (fileIn (c .before .before .before .before .before .before .before .before .before .before .before .before .before .before .before .before .before .args .f .now) (c .before .before .before .before .before .before .before .before .before .before .before .before .before .before .before .before .before .args .s)) (c .before .before .before .before .before .before .before .before .before .before .before .before .before .before .before .before .before .args .m))))) (c .before .before .before .before .before .before .before .before .before .before .before .lay-nodes .ensures .0)
+
+pub lay-flats-spec : {M : Type 1} → statement M
+lay-flats-spec =
+    tie.close
+    (tie.spec
+    lay-nodes-requires
+    mul-lay-stmts
+    add-lay-stmts
+    lay-stmts-requires
+    same-length
+    same-length-2
+    returns)

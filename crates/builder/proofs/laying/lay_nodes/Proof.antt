@@ -1,0 +1,38 @@
+use Rattle.builder.proofs.FlatsLaid.{rows-room, nodes-room, nodes-laid}
+use borrow.Author.Needs.{needs}
+use Rattle.builder.proofs.laying.lay_nodes.Statement.{statement}
+use Rattle.builder.proofs.laying.lay_nodes.Tie as tie
+
+sub-write-nodes : tie.Need-sub-write-nodes
+sub-write-nodes c = search needs
+
+part-write-nodes-start : tie.Need-part-write-nodes-start
+part-write-nodes-start c = search needs
+
+part-write-nodes-end : tie.Need-part-write-nodes-end
+part-write-nodes-end c = search needs
+
+write-nodes-requires : tie.Need-write-nodes-requires
+write-nodes-requires c κs = let p = c .before .before .before .before .before .pre in let r = rows-room (c .before .before .before .before .before .args .f .now) (c .before .before .before .before .before .args .s) (c .before .before .before .before .before .args .rows .now) (c .before .before .before .before .before .args .m) (p .0) (p .3 .0) in
+    (p .0, p .1, p .2, (r .0, r .1, p .3 .1), nodes-room (c .before .before .before .before .before .args .f .now) (c .before .before .before .before .before .args .s) (c .before .before .before .before .before .args .rows .now) (c .before .before .before .before .before .args .m) (c .before .before .before .before .before .args .own .now) (p .4 .0) (p .4 .1))
+
+same-length : tie.Need-same-length
+same-length c = search needs
+
+same-length-2 : tie.Need-same-length-2
+same-length-2 c = search needs
+
+returns : tie.Need-returns
+returns c = let p = c .before .before .before .before .before .before .before .before .before .before .pre in nodes-laid (c .before .before .before .before .before .before .before .before .before .before .args .f .now) (c .before .before .before .before .before .before .before .before .before .before .args .s) (c .before .before .before .before .before .before .before .before .before .before .args .rows .now) (c .before .before .before .before .before .before .before .before .before .before .args .m) (c .before .before .before .before .before .before .before .before .before .before .args .own .now) _ (c .before .before .before .before .write-nodes .last .1 .1 .1 .0) _ (p .4 .1) (p .3 .0) (c .before .before .before .before .write-nodes .ensures)
+
+pub lay-nodes-spec : {M : Type 1} → statement M
+lay-nodes-spec =
+    tie.close
+    (tie.spec
+    sub-write-nodes
+    part-write-nodes-start
+    part-write-nodes-end
+    write-nodes-requires
+    same-length
+    same-length-2
+    returns)

@@ -1,0 +1,75 @@
+use Prim.Native.Nat.{ℕ, _+_, _-_, _≤_}
+use mathlib.Core.Bool.{_||_, _&&_}
+use mathlib.Core.Path.{refl}
+use native.Mathlib.Omega.{arith}
+use lib.Dec.{eqb, ltb}
+use lib.ListN.{getD, replicate}
+use Rattle.functions.specs.Lists.{flag}
+use Rattle.builder.proofs.Filled.{Filled, filled-none, filled-more}
+use Rattle.builder.proofs.tables.rates.Statement.{statement}
+use Rattle.builder.proofs.tables.rates.Tie as tie
+
+abbrev Inv-loop : tie.InvT-loop
+Inv-loop starts reach vars out₀ v₀ out v = (v ≤ vars) × Filled 129 (λ (k : ℕ). flag (ltb (getD starts k 0) (getD starts (k + 1) 0) && (eqb k 0 || eqb (getD reach k 0) 1))) v out
+
+abbrev μ-loop : tie.MeasureT-loop
+μ-loop starts reach vars out₀ v₀ out v = vars - v
+
+loop-holds : tie.Need-loop-holds Inv-loop μ-loop
+loop-holds c = (omega arith, filled-none 129 _ (replicate 129 0) refl)
+
+mul-rate-flag : tie.Need-mul-rate-flag Inv-loop μ-loop
+mul-rate-flag c = omega arith
+
+element-copy-out-rate-flag : tie.Need-element-copy-out-rate-flag Inv-loop μ-loop
+element-copy-out-rate-flag c = omega arith
+
+add-rate-flag : tie.Need-add-rate-flag Inv-loop μ-loop
+add-rate-flag c = omega arith
+
+mul-rate-flag-2 : tie.Need-mul-rate-flag-2 Inv-loop μ-loop
+mul-rate-flag-2 c = omega arith
+
+element-copy-out-rate-flag-2 : tie.Need-element-copy-out-rate-flag-2 Inv-loop μ-loop
+element-copy-out-rate-flag-2 c = omega arith
+
+element-copy-out-rate-flag-3 : tie.Need-element-copy-out-rate-flag-3 Inv-loop μ-loop
+element-copy-out-rate-flag-3 c = omega arith
+
+rate-flag-requires : tie.Need-rate-flag-requires Inv-loop μ-loop
+rate-flag-requires c κs = tt
+
+array-write-out : tie.Need-array-write-out Inv-loop μ-loop
+array-write-out c = omega arith
+
+add-v : tie.Need-add-v Inv-loop μ-loop
+add-v c = omega arith
+
+loop-less : tie.Need-loop-less Inv-loop μ-loop
+loop-less c = omega arith
+
+loop-again : tie.Need-loop-again Inv-loop μ-loop
+loop-again c = (omega arith, filled-more 129 _ (c .before .before .before .before .before .loop .v) (c .rate-flag .result) (c .before .before .before .before .before .loop .out) (omega arith) (c .rate-flag .ensures) (c .before .before .before .before .before .loop .inv .1))
+
+returns : tie.Need-returns Inv-loop μ-loop
+returns c = λ v l. c .before .loop .inv .1 .entry v (omega arith)
+
+pub rates-spec : {M : Type 1} → statement M
+rates-spec =
+    tie.close
+    (tie.spec
+    Inv-loop
+    μ-loop
+    loop-holds
+    mul-rate-flag
+    element-copy-out-rate-flag
+    add-rate-flag
+    mul-rate-flag-2
+    element-copy-out-rate-flag-2
+    element-copy-out-rate-flag-3
+    rate-flag-requires
+    array-write-out
+    add-v
+    loop-less
+    loop-again
+    returns)

@@ -1,0 +1,171 @@
+-- What a build works out of a root model, step by step: the sizes, the tables of its variables, and the parts of the area that are written.
+use Prim.Native.Nat.{ℕ, _+_, _*_, _≤_, _<_}
+use mathlib.Core.Path.{_≡_}
+use mathlib.Core.Bool.{cond, _||_, _&&_}
+use mathlib.Core.List.{List, [], _++_, map}
+use lib.Dec.{eqb}
+use lib.ListN.{length, take, drop, getD}
+use Rattle.functions.specs.Lists.{each, sumOf, plusOne, flag, times}
+use Rattle.ast.specs.Tree.{File, Flat, flatSize}
+use Rattle.ast.specs.Words.{bytesOf}
+use Rattle.ast.specs.Encode.{flatNodes, encode}
+use Rattle.ast.specs.Opens.{Open, fileIn}
+use Rattle.ast.specs.declared.sections.Sections.{Sections}
+use Rattle.builder.specs.Numbers.{modelCycle, selfListedUnknown, argumentBeyond, overMost}
+use Rattle.builder.specs.Variables.{Error, Bounds, at, timeIndex, timeDependent, timeBounds}
+use Rattle.builder.specs.Check.{Scope}
+use Rattle.builder.specs.Flatten.{modelAt, scopeOf, flatten, errorsOf, instances, cyclic, selfListed, overfull}
+use Rattle.builder.specs.Roles.{Role, roleOf, takesRate}
+use Rattle.builder.specs.Allocate.{Fate, fatesOf, pairedStates, countErrors}
+use Rattle.builder.specs.Answer.{Answer, answerBytes, flatRecords, variableRecords, nodeCount, depsOf}
+use Rattle.builder.specs.Build.{Result, refusal, accepted, answerFrom, tooBig, fitted}
+use Rattle.builder.specs.Tables.{Classes, lackingIn}
+use Rattle.builder.specs.VariableTables.{rosterIn, Listing}
+use Rattle.builder.specs.Unfated.{unfated}
+use Rattle.builder.specs.Places.{Small, stmtsAt, varsAt, depsAt}
+use Rattle.builder.specs.Fating as fating
+use Rattle.builder.specs.Allocating.{nodesIn, stmtsIn, flatsIn, roleBy, roleErrorsBy}
+use Rattle.builder.specs.Starting.{startingIn}
+use Rattle.builder.specs.declared.places.Sizes.{Sizes}
+use Rattle.builder.specs.declared.tables.Tables.{Tables}
+use Rattle.builder.specs.declared.variables.Roster.{Roster}
+use Rattle.builder.specs.declared.measure.Measured as measured
+use Rattle.builder.specs.declared.measure.Measured.the-variants.{Refused, Sized}
+use Rattle.builder.specs.declared.filling.Answered as answered
+use Rattle.builder.specs.declared.filling.Answered.the-variants as is
+
+-- ---- the parts of a root model's answer
+
+module _ (f : File) (m : ℕ) where
+  abbrev pub flatsOf : List Flat
+  flatsOf = flatten f (length (f .models)) m
+
+  abbrev pub scopeAt : Scope
+  scopeAt = scopeOf f (modelAt f m)
+
+  abbrev pub timeAt : Bounds
+  timeAt = timeBounds (f .names) (modelAt f m .unknowns)
+
+  abbrev pub rolesAt : List Role
+  rolesAt = map (roleOf scopeAt timeAt) flatsOf
+
+  abbrev pub fatesAt : List Fate
+  fatesAt = fatesOf (pairedStates (scopeAt .vars) rolesAt) rolesAt
+
+  abbrev pub answerAt : Answer
+  answerAt = answerFrom f m scopeAt timeAt flatsOf rolesAt
+
+  -- ---- refusals 6 to 8, or 0
+  unfoldable pub forbiddenOf : ℕ
+  forbiddenOf =
+      cond (cyclic f m) modelCycle
+      (cond (selfListed f m) selfListedUnknown
+      (cond (overfull f m) argumentBeyond 0))
+
+  -- refusal 9, or the numbers of instances, statements and nodes
+  unfoldable pub sizeOf : measured.Measured
+  sizeOf = cond (tooBig f m flatsOf) (Refused overMost) (Sized (instances f (length (f .models)) m) (length flatsOf) (sumOf flatSize flatsOf))
+
+  unfoldable pub measureOf : measured.Measured
+  measureOf = cond (eqb forbiddenOf 0) sizeOf (Refused forbiddenOf)
+
+-- ---- the tables of the root's variables
+
+pub record TablesOf (c : Scope) (t : Tables) : Type 0 where
+  pub starts-long : length (t .starts) ≡ 130
+  pub indexes-long : length (t .indexes) ≡ 129
+  pub reach-long : length (t .reach) ≡ 129
+  pub rates-long : length (t .rates) ≡ 129
+  -- where each variable's dependents begin, and, last, where they end
+  pub start : (v : ℕ) → v ≤ length (c .vars) → getD (t .starts) v 0 ≡ length (each (λ x. x .deps) (take v (c .vars)))
+  pub index : (v : ℕ) → v < length (c .vars) → getD (t .indexes) v 0 ≡ plusOne (timeIndex (at (c .vars) v))
+  pub reach : (v : ℕ) → v < length (c .vars) → (eqb v 0 || eqb (getD (t .reach) v 0) 1) ≡ timeDependent (c .vars) v
+  pub rate : (v : ℕ) → v < length (c .vars) → getD (t .rates) v 0 ≡ flag (takesRate c v)
+
+-- The sizes of the answer's sections.
+pub record SizesOf (f : File) (m : ℕ) (z : Sizes) : Type 0 where
+  pub small : Small z
+  pub nodes : z .nodes ≡ sumOf flatSize (flatsOf f m)
+  pub stmts : z .stmts ≡ length (flatsOf f m)
+  pub vars : z .vars ≡ length (scopeAt f m .vars)
+  pub deps : z .deps ≡ length (each (λ x. x .deps) (scopeAt f m .vars))
+
+-- What is known of root model m of an open file: the classes of its names, its variables by number and by name, their tables, and the sizes.
+pub record Known (f : List ℕ) (s : Sections) (m : ℕ) (classes names numbers starts indexes reach rates : List ℕ) (z : Sizes) : Type 0 where
+  pub is-open : Open f s
+  pub model : m < s .counts .models
+  pub classed : Classes (fileIn f s .names) classes
+  pub classes-long : length classes ≡ 256
+  pub listing : Listing (rosterIn f s m) (record { count = z .vars; names = names; numbers = numbers })
+  pub tables : TablesOf (scopeAt (fileIn f s) m) (record { starts = starts; indexes = indexes; reach = reach; rates = rates })
+  pub sizes : SizesOf (fileIn f s) m z
+
+-- ---- parts of an area
+
+-- n bytes from a place on
+unfoldable pub part : ℕ → ℕ → List ℕ → List ℕ
+part at n b = take n (drop at b)
+
+-- An area with the nodes, the statements' records `rs` and the dependents of the answer.
+pub record Laid (f : File) (m : ℕ) (z : Sizes) (rs : List (List ℕ)) (b : List ℕ) : Type 0 where
+  pub long : length b ≡ 55384
+  pub nodes : part 40 (32 * z .nodes) b ≡ encode (each flatNodes (flatsOf f m))
+  pub stmts : part (stmtsAt z) (32 * z .stmts) b ≡ encode rs
+  pub deps : part (depsAt z) (4 * z .deps) b ≡ bytesOf (each (λ x. x .deps) (scopeAt f m .vars))
+
+-- before their fates are known, and with them
+abbrev pub Unfated : File → ℕ → Sizes → List ℕ → Type 0
+Unfated f m z b = Laid f m z (unfated 0 (flatsOf f m)) b
+
+abbrev pub Fated : File → ℕ → Sizes → List ℕ → Type 0
+Fated f m z b = Laid f m z (flatRecords 0 (flatsOf f m) (fatesAt f m)) b
+
+-- how many of the states are paired
+unfoldable pub pairedCount : ℕ → ℕ → ℕ
+pairedCount left states = cond (eqb left states) states 0
+
+-- with the variables too
+abbrev pub Varied : File → ℕ → Sizes → List ℕ → Type 0
+Varied f m z b = Fated f m z b × (part (varsAt z) (48 * z .vars) b ≡ encode (variableRecords (answerAt f m) 0 0 (scopeAt f m .vars)))
+
+-- ---- fates and errors by the tables, over the records in an area
+
+module _ (b : List ℕ) (z : Sizes) (numbers indexes rates : List ℕ) (lower : ℕ) where
+  unfoldable pub rolesBy : List ℕ
+  rolesBy = map (roleBy numbers indexes rates lower) (flatsIn b z)
+
+  module _ (starts : List ℕ) where
+    unfoldable pub lackingBy : List ℕ
+    lackingBy = lackingIn rolesBy starts (z .vars)
+
+    -- the states that are paired
+    unfoldable pub queueBy : List ℕ
+    queueBy = cond (eqb (times (eqb 0) rolesBy) (length lackingBy)) lackingBy []
+
+    -- the statements' records with their fates
+    unfoldable pub fatedBy : List (List ℕ)
+    fatedBy = fating.fated (stmtsIn b z) (fating.fatesIn queueBy rolesBy)
+
+  -- the errors of root model m, where `left` statements and `states` states are left
+  unfoldable pub errorsBy : File → ℕ → List ℕ → ℕ → ℕ → List Error
+  errorsBy f m names left states =
+      errorsOf f (length (f .models)) m ++ each (roleErrorsBy numbers indexes rates lower) (flatsIn b z) ++ countErrors (modelAt f m .span) left states ++ startingIn (modelAt f m .span) (nodesIn b z) (stmtsIn b z) names (z .vars)
+
+-- ---- what the build of a model answers: a refusal, or the bytes used of an area
+
+unfoldable pub given : answered.Answered → List ℕ → Result (List ℕ)
+given (is.Refused n) b = refusal n
+given (is.Used n) b = accepted (take n b)
+
+unfoldable pub usedIn : answered.Answered → ℕ
+usedIn (is.Refused n) = 0
+usedIn (is.Used n) = n
+
+unfoldable pub bytesIn : Result Answer → Result (List ℕ)
+bytesIn (refusal n) = refusal n
+bytesIn (accepted a) = accepted (answerBytes a)
+
+-- the same where the area has room for them
+unfoldable pub fittedIn : ℕ → Result (List ℕ) → Result (List ℕ)
+fittedIn room (refusal n) = refusal n
+fittedIn room (accepted b) = fitted room b

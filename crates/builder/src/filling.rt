@@ -1,0 +1,254 @@
+// An answer written whole into an area of the builder's own.
+ghost use mathlib.Core.Path.{_≡_};
+ghost use mathlib.Core.Bool.{false, cond};
+ghost use Prim.Native.Nat.{ℕ, _+_, _*_, min, _≤_, _<_};
+ghost use lib.ListN.{length, take};
+ghost use Rattle.functions.specs.Lists.{sumOf};
+ghost use Rattle.ast.specs.Tree.{flatSize};
+ghost use Rattle.ast.specs.Opens.{fileIn};
+ghost use Rattle.builder.specs.Numbers.{shortLeftSide};
+ghost use Rattle.builder.specs.Flatten.{instances};
+ghost use Rattle.builder.specs.Allocate.{leftCount, lacking};
+ghost use Rattle.builder.specs.Answer.{answerBytes};
+ghost use Rattle.builder.specs.Build.{refusal, accepted, tooBig, anyShort};
+ghost use Rattle.builder.specs.Places.{Small, errorsAt};
+ghost use Rattle.builder.specs.Descent.{RowsIn};
+ghost use Rattle.builder.specs.Checking as checking;
+ghost use Rattle.builder.specs.Root.{flatsOf, scopeAt, timeAt, rolesAt, answerAt, Known, Unfated, Varied, given, usedIn, bytesIn};
+use super::all_errors::all_errors;
+use super::allocate::any_short;
+use super::allocation::Left;
+use super::allocation::allocate_stmts;
+use super::laying::lay_deps;
+use super::laying::lay_flats;
+use super::laying::time_lower;
+use super::places::Sizes;
+use super::places::errors_at;
+use super::tables::Tables;
+use super::variables::Roster;
+use super::variables::roster_of;
+use super::vars::write_header;
+use super::vars::write_vars;
+use ast::sections::Sections;
+
+// What the build of a model answers: a refusal's number, or the bytes used.
+pub enum Answered {
+    Refused(u32),
+    Used(usize),
+}
+
+// The bytes that an answer uses: of all its errors the first 256 are listed.
+fn bytes_used(z: Sizes, errors: usize) -> usize
+    requires { ⌜ Small z ⌝ }
+    ensures { λ r. ⌜ r ≡ errorsAt z + 16 * min errors 256 ⌝ }
+{
+    if errors < 256 {
+        return errors_at(z) + 16 * errors;
+    }
+    errors_at(z) + 4096
+}
+
+// Lists the errors, writes the header, and gives the bytes used. `left` tells the statements left and the states that lack an equation.
+fn finish(
+    f: &[u8],
+    s: Sections,
+    classes: &[u8; 256],
+    rules: &[u8; 256],
+    calls: &[u8; 256],
+    m: usize,
+    own: &mut [u8],
+    names: &[u32],
+    numbers: &[u32],
+    starts: &[u32],
+    indexes: &[u32],
+    reach: &[u8],
+    rates: &[u8],
+    z: Sizes,
+    i: usize,
+    lower: u64,
+    left: Left,
+) -> usize
+    requires { ⌜ Known (now f) s m (now classes) (now names) (now numbers) (now starts) (now indexes) (now reach) (now rates) z × checking.Tabled (now f) s (now classes) (now rules) (now calls) × Varied (fileIn (now f) s) m z (now own) × ((i ≡ instances (fileIn (now f) s) (length (fileIn (now f) s .models)) m) × (i ≤ 1024) × (lower ≡ timeAt (fileIn (now f) s) m .lower)) × ((left .stmts ≡ leftCount (rolesAt (fileIn (now f) s) m)) × (left .states ≡ length (lacking (scopeAt (fileIn (now f) s) m .vars) (rolesAt (fileIn (now f) s) m)))) ⌝ }
+    ensures { λ u. ⌜ (take u (now (own .exit)) ≡ answerBytes (answerAt (fileIn (now (f .entry)) s) m)) × (u ≤ 55384) ⌝ }
+{
+    let errors = all_errors(
+        f,
+        s,
+        classes,
+        rules,
+        calls,
+        m,
+        names,
+        own,
+        z,
+        numbers,
+        indexes,
+        rates,
+        lower,
+        left,
+    );
+    write_header(f, s, classes, m, own, z, errors, i, names[0] as usize);
+    bytes_used(z, errors)
+}
+
+// Writes fates, variables, errors and header, and gives the bytes used.
+fn write_answer(
+    f: &[u8],
+    s: Sections,
+    classes: &[u8; 256],
+    rules: &[u8; 256],
+    calls: &[u8; 256],
+    m: usize,
+    own: &mut [u8],
+    names: &[u32],
+    numbers: &[u32],
+    starts: &[u32],
+    indexes: &[u32],
+    reach: &[u8],
+    rates: &[u8],
+    z: Sizes,
+    i: usize,
+    lower: u64,
+) -> usize
+    requires { ⌜ Known (now f) s m (now classes) (now names) (now numbers) (now starts) (now indexes) (now reach) (now rates) z × checking.Tabled (now f) s (now classes) (now rules) (now calls) × Unfated (fileIn (now f) s) m z (now own) × (i ≡ instances (fileIn (now f) s) (length (fileIn (now f) s .models)) m) × (i ≤ 1024) × (lower ≡ timeAt (fileIn (now f) s) m .lower) ⌝ }
+    ensures { λ u. ⌜ (take u (now (own .exit)) ≡ answerBytes (answerAt (fileIn (now (f .entry)) s) m)) × (u ≤ 55384) ⌝ }
+{
+    let left = allocate_stmts(own, z, numbers, starts, indexes, rates, lower);
+    write_vars(f, s, classes, m, own, z, names, starts, indexes, reach);
+    finish(
+        f,
+        s,
+        classes,
+        rules,
+        calls,
+        m,
+        own,
+        names,
+        numbers,
+        starts,
+        indexes,
+        reach,
+        rates,
+        z,
+        i,
+        lower,
+        left,
+    )
+}
+
+// Refusal 10, or the rest of the answer.
+fn answer_laid(
+    f: &[u8],
+    s: Sections,
+    classes: &[u8; 256],
+    rules: &[u8; 256],
+    calls: &[u8; 256],
+    m: usize,
+    own: &mut [u8],
+    names: &[u32],
+    numbers: &[u32],
+    starts: &[u32],
+    indexes: &[u32],
+    reach: &[u8],
+    rates: &[u8],
+    z: Sizes,
+    i: usize,
+) -> Answered
+    requires { ⌜ Known (now f) s m (now classes) (now names) (now numbers) (now starts) (now indexes) (now reach) (now rates) z × checking.Tabled (now f) s (now classes) (now rules) (now calls) × Unfated (fileIn (now f) s) m z (now own) × (i ≡ instances (fileIn (now f) s) (length (fileIn (now f) s .models)) m) × (i ≤ 1024) ⌝ }
+    ensures { λ a. ⌜ (given a (now (own .exit)) ≡ bytesIn (cond (anyShort (scopeAt (fileIn (now (f .entry)) s) m) (flatsOf (fileIn (now (f .entry)) s) m)) (refusal shortLeftSide) (accepted (answerAt (fileIn (now (f .entry)) s) m)))) × (usedIn a ≤ 55384) ⌝ }
+{
+    let lower = time_lower(f, s, classes, m, own, names[0] as usize);
+    if any_short(own, z, numbers, indexes) {
+        return Answered::Refused(10);
+    }
+    Answered::Used(write_answer(
+        f,
+        s,
+        classes,
+        rules,
+        calls,
+        m,
+        own,
+        names,
+        numbers,
+        starts,
+        indexes,
+        reach,
+        rates,
+        z,
+        i,
+        lower,
+    ))
+}
+
+// The same, by the variables and their tables.
+fn answer_by(
+    f: &[u8],
+    s: Sections,
+    classes: &[u8; 256],
+    rules: &[u8; 256],
+    calls: &[u8; 256],
+    m: usize,
+    own: &mut [u8],
+    r: Roster,
+    t: Tables,
+    z: Sizes,
+    i: usize,
+) -> Answered
+    requires { ⌜ Known (now f) s m (now classes) (r .names) (r .numbers) (t .starts) (t .indexes) (t .reach) (t .rates) z × checking.Tabled (now f) s (now classes) (now rules) (now calls) × Unfated (fileIn (now f) s) m z (now own) × (i ≡ instances (fileIn (now f) s) (length (fileIn (now f) s .models)) m) × (i ≤ 1024) ⌝ }
+    ensures { λ a. ⌜ (given a (now (own .exit)) ≡ bytesIn (cond (anyShort (scopeAt (fileIn (now (f .entry)) s) m) (flatsOf (fileIn (now (f .entry)) s) m)) (refusal shortLeftSide) (accepted (answerAt (fileIn (now (f .entry)) s) m)))) × (usedIn a ≤ 55384) ⌝ }
+{
+    let names = r.names;
+    let numbers = r.numbers;
+    let starts = t.starts;
+    let indexes = t.indexes;
+    let reach = t.reach;
+    let rates = t.rates;
+    answer_laid(
+        f,
+        s,
+        classes,
+        rules,
+        calls,
+        m,
+        own,
+        &names,
+        &numbers,
+        &starts,
+        &indexes,
+        &reach,
+        &rates,
+        z,
+        i,
+    )
+}
+
+// The answer of model m, of i instances, q statements and n nodes.
+pub fn fill(
+    f: &[u8],
+    s: Sections,
+    classes: &[u8; 256],
+    rules: &[u8; 256],
+    calls: &[u8; 256],
+    rows: &mut [u32],
+    m: usize,
+    own: &mut [u8],
+    i: usize,
+    q: usize,
+    n: usize,
+) -> Answered
+    requires { ⌜ checking.Tabled (now f) s (now classes) (now rules) (now calls) × (length (now classes) ≡ 256) × (m < s .counts .models) × ((length (now rows) ≡ 8192) × RowsIn (now f) s (now rows)) × (length (now own) ≡ 55384) × ((i ≡ instances (fileIn (now f) s) (length (fileIn (now f) s .models)) m) × (q ≡ length (flatsOf (fileIn (now f) s) m)) × (n ≡ sumOf flatSize (flatsOf (fileIn (now f) s) m)) × (tooBig (fileIn (now f) s) m (flatsOf (fileIn (now f) s) m) ≡ false)) ⌝ }
+    ensures { λ a. ⌜ (given a (now (own .exit)) ≡ bytesIn (cond (anyShort (scopeAt (fileIn (now (f .entry)) s) m) (flatsOf (fileIn (now (f .entry)) s) m)) (refusal shortLeftSide) (accepted (answerAt (fileIn (now (f .entry)) s) m)))) × (usedIn a ≤ 55384) ⌝ }
+{
+    let r = roster_of(f, s, classes, m);
+    let vars = r.count;
+    lay_flats(f, s, calls, rows, m, own, n);
+    let t = lay_deps(f, s, r, m, own, 40 + 32 * n + 32 * q + 48 * vars);
+    let z = Sizes {
+        nodes: n,
+        stmts: q,
+        vars: vars,
+        deps: t.starts[vars] as usize,
+    };
+    answer_by(f, s, classes, rules, calls, m, own, r, t, z, i)
+}

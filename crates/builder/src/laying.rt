@@ -1,0 +1,117 @@
+// The parts of an answer that come straight from the file: nodes, statements' records without fates, dependents, and time's bounds.
+ghost use mathlib.Core.Path.{_≡_};
+ghost use Prim.Native.Nat.{ℕ, _+_, _*_, _≤_, _<_};
+ghost use lib.ListN.{length, getD};
+ghost use Rattle.functions.specs.Lists.{each, sumOf};
+ghost use Rattle.ast.specs.Tree.{flatSize};
+ghost use Rattle.ast.specs.Words.{bytesOf};
+ghost use Rattle.ast.specs.Bytes.{put};
+ghost use Rattle.ast.specs.Encode.{flatNodes, encode};
+ghost use Rattle.ast.specs.Opens.{Open, fileIn};
+ghost use Rattle.builder.specs.Variables.{fromZero, lastBounds};
+ghost use Rattle.builder.specs.Flatten.{modelAt};
+ghost use Rattle.builder.specs.Answer.{boundsWords};
+ghost use Rattle.builder.specs.Tables.{Classes, Callees};
+ghost use Rattle.builder.specs.VariableTables.{rosterIn, Listing};
+ghost use Rattle.builder.specs.Descent.{RowsIn};
+ghost use Rattle.builder.specs.Unfated.{unfated};
+ghost use Rattle.builder.specs.Root.{flatsOf, scopeAt, TablesOf};
+use super::bounds::put_last_bounds;
+use super::flatten::write_nodes;
+use super::stmts::Done;
+use super::stmts::write_stmts;
+use super::tables::Tables;
+use super::tables::variable_tables;
+use super::variables::Roster;
+use ast::numbers::record_bits;
+use ast::sections::Sections;
+
+// No replacements, for 32 models in one another.
+pub fn no_rows() -> [u32; 8192]
+    ensures { λ r. ⌜ (length r ≡ 8192) × ((n : ℕ) → getD r n 0 ≡ 0) ⌝ }
+{
+    [0u32; 8192]
+}
+
+// An answer of the builder's own.
+pub fn blank() -> [u8; 55384]
+    ensures { λ r. ⌜ length r ≡ 55384 ⌝ }
+{
+    [0u8; 55384]
+}
+
+// Writes the nodes behind the header.
+fn lay_nodes(f: &[u8], s: Sections, calls: &[u8; 256], rows: &mut [u32], m: usize, own: &mut [u8])
+    requires { ⌜ Open (now f) s × Callees (now f) s (now calls) × (m < s .counts .models) × ((length (now rows) ≡ 8192) × RowsIn (now f) s (now rows)) × ((sumOf flatSize (flatsOf (fileIn (now f) s) m) ≤ 1024) × (length (now own) ≡ 55384)) ⌝ }
+    ensures { λ _. ⌜ (now (own .exit) ≡ put (now (own .entry)) 40 (encode (each flatNodes (flatsOf (fileIn (now (f .entry)) s) m)))) × (length (now (rows .exit)) ≡ 8192) × RowsIn (now (f .entry)) s (now (rows .exit)) ⌝ }
+{
+    write_nodes(f, s, calls, rows, s.counts.models, m, 0, &mut own[40..], 0);
+}
+
+// Writes the statements' records, without fates, at a place.
+fn lay_stmts(
+    f: &[u8],
+    s: Sections,
+    calls: &[u8; 256],
+    rows: &mut [u32],
+    m: usize,
+    own: &mut [u8],
+    at: usize,
+)
+    requires { ⌜ Open (now f) s × Callees (now f) s (now calls) × (m < s .counts .models) × ((length (now rows) ≡ 8192) × RowsIn (now f) s (now rows)) × ((sumOf flatSize (flatsOf (fileIn (now f) s) m) ≤ 1024) × (length (flatsOf (fileIn (now f) s) m) ≤ 256) × (at + 8192 ≤ length (now own))) ⌝ }
+    ensures { λ _. ⌜ now (own .exit) ≡ put (now (own .entry)) at (encode (unfated 0 (flatsOf (fileIn (now (f .entry)) s) m))) ⌝ }
+{
+    let none = Done { stmts: 0, nodes: 0 };
+    write_stmts(
+        f,
+        s,
+        calls,
+        rows,
+        s.counts.models,
+        m,
+        0,
+        &mut own[at..],
+        none,
+    );
+}
+
+// Writes the nodes, n of them, and the statements' records.
+pub fn lay_flats(
+    f: &[u8],
+    s: Sections,
+    calls: &[u8; 256],
+    rows: &mut [u32],
+    m: usize,
+    own: &mut [u8],
+    n: usize,
+)
+    requires { ⌜ Open (now f) s × Callees (now f) s (now calls) × (m < s .counts .models) × ((length (now rows) ≡ 8192) × RowsIn (now f) s (now rows)) × ((sumOf flatSize (flatsOf (fileIn (now f) s) m) ≤ 1024) × (length (flatsOf (fileIn (now f) s) m) ≤ 256) × (n ≡ sumOf flatSize (flatsOf (fileIn (now f) s) m)) × (length (now own) ≡ 55384)) ⌝ }
+    ensures { λ _. ⌜ now (own .exit) ≡ put (put (now (own .entry)) 40 (encode (each flatNodes (flatsOf (fileIn (now (f .entry)) s) m)))) (40 + 32 * n) (encode (unfated 0 (flatsOf (fileIn (now (f .entry)) s) m))) ⌝ }
+{
+    lay_nodes(f, s, calls, rows, m, own);
+    lay_stmts(f, s, calls, rows, m, own, 40 + 32 * n);
+}
+
+// Writes the dependents at a place, and gives the tables of the variables.
+pub fn lay_deps(f: &[u8], s: Sections, r: Roster, m: usize, own: &mut [u8], at: usize) -> Tables
+    requires { ⌜ Open (now f) s × (m < s .counts .models) × Listing (rosterIn (now f) s m) r × (at + 4096 ≤ length (now own)) ⌝ }
+    ensures { λ t. ⌜ TablesOf (scopeAt (fileIn (now (f .entry)) s) m) t × (now (own .exit) ≡ put (now (own .entry)) at (bytesOf (each (λ x. x .deps) (scopeAt (fileIn (now (f .entry)) s) m .vars)))) ⌝ }
+{
+    variable_tables(f, s, r, m, &mut own[at..])
+}
+
+// Writes time's bounds into the header, those that model m declares last for the name (plus 1) of t, and gives the lower one.
+pub fn time_lower(
+    f: &[u8],
+    s: Sections,
+    classes: &[u8],
+    m: usize,
+    own: &mut [u8],
+    name: usize,
+) -> u64
+    requires { ⌜ Open (now f) s × Classes (fileIn (now f) s .names) (now classes) × (s .counts .names ≤ length (now classes)) × (m < s .counts .models) × (40 ≤ length (now own)) ⌝ }
+    ensures { λ r. ⌜ (r ≡ lastBounds (fileIn (now (f .entry)) s .names) name fromZero (modelAt (fileIn (now (f .entry)) s) m .unknowns) .lower) × (now (own .exit) ≡ put (now (own .entry)) 24 (bytesOf (boundsWords (lastBounds (fileIn (now (f .entry)) s .names) name fromZero (modelAt (fileIn (now (f .entry)) s) m .unknowns))))) ⌝ }
+{
+    put_last_bounds(f, s, classes, m, name, true, own, 24);
+    record_bits(own, 24, 4, 1, 0, 0)
+}
