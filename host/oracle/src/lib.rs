@@ -7,6 +7,7 @@ mod assemble;
 mod check;
 mod compare;
 pub mod deep;
+mod failure;
 mod flatten;
 mod judge;
 mod measure;
@@ -17,6 +18,7 @@ pub mod tally;
 mod variables;
 
 pub use compare::{report_ordered, report_unmodified, same_up_to_order, Run};
+pub use failure::Failure;
 pub use judge::{answer, answer_by_reaching, judge, Answer, Judged};
 pub use measure::Sizes;
 pub use plan::{prospect, Plan, Prospect};

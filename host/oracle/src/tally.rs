@@ -6,6 +6,7 @@ use crate::measure::Sizes;
 use crate::plan::{prospect, Prospect};
 use report::{Outcome, Panic};
 use std::collections::BTreeMap;
+use std::fmt;
 use treefile::File;
 
 /// More than any answer needs.
@@ -18,8 +19,23 @@ pub struct Tally {
 }
 
 impl Tally {
-    fn add(&mut self, subject: &'static str, value: impl ToString) {
+    /// Counts a value once more.
+    pub fn add(&mut self, subject: &'static str, value: impl ToString) {
         *self.counts.entry((subject, value.to_string())).or_default() += 1;
+    }
+
+    /// Adds the counts of another series.
+    pub fn join(&mut self, other: Tally) {
+        for (key, count) in other.counts {
+            *self.counts.entry(key).or_default() += count;
+        }
+    }
+
+    /// How many cases were run.
+    pub fn cases(&self) -> u64 {
+        let labels = self.counts.iter();
+        let labels = labels.filter(|((subject, _), _)| *subject == "label");
+        labels.map(|(_, count)| count).sum()
     }
 
     /// How often a value came up.
@@ -30,8 +46,8 @@ impl Tally {
             .unwrap_or(0)
     }
 
-    /// Runs one case and adds what came up; an error is a failed cross-check or a difference of the two variants.
-    pub fn run(&mut self, bytes: &[u8], root: &[u8], label: &str) -> Result<(), String> {
+    /// Judges one case and adds what came up; an error is a failed cross-check or a difference of the two variants.
+    pub fn run(&mut self, bytes: &[u8], root: &[u8], label: &str) -> Result<Judged, String> {
         let judged = judge(bytes, root, ROOM)?;
         self.add("label", label);
         self.add_answer(&judged);
@@ -41,7 +57,7 @@ impl Tally {
         if let (Answer::Area(area), true) = (&judged.answer, bytes.len().is_multiple_of(8)) {
             self.rooms(bytes, root, area)?;
         }
-        Ok(())
+        Ok(judged)
     }
 
     fn add_answer(&mut self, judged: &Judged) {
@@ -113,5 +129,31 @@ impl Tally {
         (just && short)
             .then_some(())
             .ok_or("the room is misjudged".to_string())
+    }
+}
+
+/// The counts, naming what never came up.
+impl fmt::Display for Tally {
+    fn fmt(&self, out: &mut fmt::Formatter) -> fmt::Result {
+        for (subject, values) in [("error", 1..=17), ("refusal", 1..=10), ("fate", 1..=4)] {
+            let counts: Vec<String> = values
+                .map(|v: u32| format!("{v}: {}", self.count(subject, v)))
+                .collect();
+            writeln!(out, "{subject:10} {}", counts.join("  "))?;
+        }
+        for panic in ["set_dependents", "find_replacements", "allocate_stmt"] {
+            writeln!(
+                out,
+                "{:10} {panic}: {}",
+                "panic",
+                self.count("panic", panic)
+            )?;
+        }
+        for ((subject, value), count) in &self.counts {
+            if !["error", "refusal", "fate", "panic"].contains(subject) {
+                writeln!(out, "{subject:10} {value}: {count}")?;
+            }
+        }
+        Ok(())
     }
 }

@@ -2,7 +2,6 @@
 //! comes up several times, and damaged files.
 
 use crate::pack::Case;
-use oracle::Answer;
 use std::collections::BTreeMap;
 use treefile::examples;
 
@@ -114,11 +113,8 @@ fn calls(times: usize, levels: usize, first: &str, last: &str) -> String {
 fn shown(file: Vec<u8>, root: Vec<u8>) -> Shown {
     let judged = oracle::judge(&file, &root, ROOM)
         .unwrap_or_else(|error| panic!("cross-check failed: {error}"));
-    let (number, area) = match judged.answer {
-        Answer::Refused(number) => (number, Vec::new()),
-        Answer::Area(area) => (0, area),
-        Answer::Unknown(reason) => panic!("{reason}"),
-    };
+    let case = Case::of(file, root, judged.answer).unwrap_or_else(|reason| panic!("{reason}"));
+    let number = case.number;
     let mut shows: Vec<u32> = (number > 0).then_some(number).into_iter().collect();
     if let Some(area) = judged.area {
         shows.extend(area.errors.iter().map(|error| 100 + error.kind));
@@ -126,15 +122,7 @@ fn shown(file: Vec<u8>, root: Vec<u8>) -> Shown {
     }
     shows.sort();
     shows.dedup();
-    Shown {
-        case: Case {
-            file,
-            root,
-            number,
-            area,
-        },
-        shows,
-    }
+    Shown { case, shows }
 }
 
 /// Generated cases: first those that show something still wanted, then small ones.

@@ -2,6 +2,8 @@
 //! name's length, the number (0 where it is accepted, else the refusal) and the bytes used of the answer area; then the
 //! file, the root name and the used part of the area.
 
+use oracle::Answer;
+
 /// A recorded case.
 #[derive(Clone, Debug, PartialEq, Eq)]
 pub struct Case {
@@ -11,6 +13,23 @@ pub struct Case {
     pub number: u32,
     /// The used part of the answer area.
     pub area: Vec<u8>,
+}
+
+impl Case {
+    /// A file and a root name with their answer, or why there is none.
+    pub fn of(file: Vec<u8>, root: Vec<u8>, answer: Answer) -> Result<Case, String> {
+        let (number, area) = match answer {
+            Answer::Refused(number) => (number, Vec::new()),
+            Answer::Area(area) => (0, area),
+            Answer::Unknown(reason) => return Err(reason),
+        };
+        Ok(Case {
+            file,
+            root,
+            number,
+            area,
+        })
+    }
 }
 
 /// The bytes of a pack.

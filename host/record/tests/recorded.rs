@@ -2,11 +2,12 @@
 
 use record::{builds, layout, read, write, Case};
 
-/// The layout cases are the input of the program that opens them.
+/// Recorded cases are the input of the program that runs them.
 fn stored(name: &str) -> Vec<u8> {
     let place = match name {
-        "layout.cases" => "../crates/layout_cases/stdin".to_string(),
-        _ => format!("recorded/{name}"),
+        "builds.cases" => "../crates/replay/stdin",
+        "layout.cases" => "../crates/layout_cases/stdin",
+        _ => "recorded/README.md",
     };
     let path = format!("{}/../{place}", env!("CARGO_MANIFEST_DIR"));
     std::fs::read(&path).unwrap_or_else(|error| panic!("{path}: {error}"))
@@ -30,7 +31,7 @@ fn recorded_builds_are_up_to_date() {
 
 #[test]
 fn the_readme_says_how_many() {
-    let readme = String::from_utf8(stored("README.md")).unwrap();
+    let readme = String::from_utf8(stored("the readme")).unwrap();
     for name in ["builds.cases", "layout.cases"] {
         let bytes = stored(name);
         let line = format!("| {name} | {} | {} |", read(&bytes).len(), bytes.len());

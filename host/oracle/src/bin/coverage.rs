@@ -2,15 +2,9 @@
 //! cross-check fails or the two variants of the original differ.
 
 use oracle::tally::Tally;
+use oracle::Failure;
 use std::process::ExitCode;
 use std::time::Instant;
-
-/// A case that failed.
-struct Failure {
-    bytes: Vec<u8>,
-    root: Vec<u8>,
-    reason: String,
-}
 
 fn main() -> ExitCode {
     let arguments: Vec<u64> = std::env::args()
@@ -27,17 +21,17 @@ fn main() -> ExitCode {
     }
     let start = Instant::now();
     let (tally, failures) = oracle::deep::call(|| run(seed, count));
-    print(&tally);
+    print!("{tally}");
     println!(
         "{} cases, {} failures, {:.1} s",
-        total(&tally),
+        tally.cases(),
         failures.len(),
         start.elapsed().as_secs_f64()
     );
     match failures.iter().min_by_key(|failure| failure.bytes.len()) {
         None => ExitCode::SUCCESS,
         Some(smallest) => {
-            show(smallest);
+            print!("FAILED: {smallest}");
             ExitCode::FAILURE
         }
     }
@@ -57,49 +51,4 @@ fn run(seed: u64, count: u64) -> (Tally, Vec<Failure>) {
         }
     }
     (tally, failures)
-}
-
-fn total(tally: &Tally) -> u64 {
-    tally
-        .counts
-        .iter()
-        .filter(|((subject, _), _)| *subject == "label")
-        .map(|(_, n)| n)
-        .sum()
-}
-
-/// Prints the counts, naming what never came up.
-fn print(tally: &Tally) {
-    let numbers = [("error", 1..=17), ("refusal", 1..=10), ("fate", 1..=4)];
-    for (subject, values) in numbers {
-        let counts: Vec<String> = values
-            .map(|v: u32| format!("{v}: {}", tally.count(subject, v)))
-            .collect();
-        println!("{subject:10} {}", counts.join("  "));
-    }
-    for panic in ["set_dependents", "find_replacements", "allocate_stmt"] {
-        println!("{:10} {panic}: {}", "panic", tally.count("panic", panic));
-    }
-    for ((subject, value), count) in &tally.counts {
-        if ["build", "label", "variants"].contains(subject) {
-            println!("{subject:10} {value}: {count}");
-        }
-    }
-}
-
-fn show(failure: &Failure) {
-    println!("FAILED: {}", failure.reason);
-    println!("root {:?}", String::from_utf8_lossy(&failure.root));
-    if let Ok(file) = treefile::File::open(&failure.bytes) {
-        println!(
-            "{}",
-            treefile::text::print(&treefile::source::Source::of_file(&file))
-        );
-    }
-    let hex: String = failure
-        .bytes
-        .iter()
-        .map(|byte| format!("{byte:02x}"))
-        .collect();
-    println!("{hex}");
 }

@@ -1,0 +1,75 @@
+//! A spoiled answer is noticed: by the ordered variant in every byte, by the unmodified one in what can be compared.
+
+use crate::read::read;
+use crate::{areas, unmodified};
+use record::Case;
+use treefile::examples::{P2, P3, P8};
+use treefile::File;
+
+/// A file with the answer that the judge gives.
+fn judged(text: &str) -> Case {
+    let source = treefile::text::parse(text).unwrap();
+    let file = source.assemble().to_bytes();
+    let answer = oracle::answer(&file, b"root", 60_000);
+    Case::of(file, b"root".to_vec(), answer).unwrap()
+}
+
+/// Whether the unmodified original agrees with an answer.
+fn agrees(case: &Case, answer: &[u8]) -> bool {
+    let file = File::open(&case.file).unwrap();
+    unmodified::compare(&file, &case.root, answer).is_ok()
+}
+
+#[test]
+#[cfg_attr(no_source, ignore = "SKIPPED: the original source is not there")]
+fn what_is_read_is_what_was_written() {
+    for text in [P2, P3, P8] {
+        let case = judged(text);
+        let (area, counted) = read(&case.area).unwrap();
+        assert_eq!((area.to_bytes(), counted), (case.area, area.errors.len()));
+    }
+}
+
+#[test]
+#[cfg_attr(no_source, ignore = "SKIPPED: the original source is not there")]
+fn every_spoiled_word_differs() {
+    let case = judged(P2);
+    for at in (0..case.area.len()).step_by(4) {
+        let mut spoiled = case.clone();
+        spoiled.area[at] ^= 1;
+        assert!(areas::check(&spoiled, 7).is_err(), "byte {at}");
+    }
+}
+
+/// Counts of errors and instances, first dependents, conditions and time-dependence are not in the unmodified report.
+#[test]
+#[cfg_attr(no_source, ignore = "SKIPPED: the original source is not there")]
+fn the_unmodified_original_notices() {
+    let case = judged(P3);
+    assert!(agrees(&case, &case.area));
+    let (area, _) = read(&case.area).unwrap();
+    let stmts = 40 + 32 * area.nodes.len();
+    let variables = stmts + 32 * area.stmts.len();
+    let x = variables + 48;
+    let fate = stmts + 24;
+    let span = stmts + 16;
+    let op = 40 + 32 + 8;
+    for at in [24, op, span, fate, x, x + 4, x + 8, x + 20, x + 32] {
+        let mut spoiled = case.area.clone();
+        spoiled[at] ^= 1;
+        assert!(!agrees(&case, &spoiled), "byte {at}");
+    }
+}
+
+#[test]
+#[cfg_attr(no_source, ignore = "SKIPPED: the original source is not there")]
+fn the_unmodified_original_notices_errors() {
+    let case = judged(P2);
+    let first = case.area.len() - 3 * 16;
+    assert!(agrees(&case, &case.area));
+    for at in [first, first + 4, first + 16, first + 32, first + 44] {
+        let mut spoiled = case.area.clone();
+        spoiled[at] ^= 2;
+        assert!(!agrees(&case, &spoiled), "byte {at}");
+    }
+}
