@@ -29,7 +29,7 @@ mod tests;
 mod tokens;
 
 pub use parse::parse;
-pub use print::print;
+pub use print::{name as print_name, print, stmt as print_stmt};
 
 use std::fmt;
 

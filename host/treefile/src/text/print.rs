@@ -26,7 +26,7 @@ fn model(m: &Model) -> String {
 }
 
 /// A name as it stands where it is plain, else in quotes.
-fn name(bytes: &[u8]) -> String {
+pub fn name(bytes: &[u8]) -> String {
     let plain = bytes.first().is_some_and(|b| begins_name(*b));
     if plain && bytes.iter().all(|b| in_name(*b)) {
         return String::from_utf8_lossy(bytes).into_owned();
@@ -84,7 +84,8 @@ fn decimal(number: f64) -> String {
     text.strip_suffix(".0").unwrap_or(&text).to_string()
 }
 
-fn stmt(s: &Stmt) -> String {
+/// A statement, without the `;` behind it.
+pub fn stmt(s: &Stmt) -> String {
     match &s.kind {
         StmtKind::Equation(left, right) => format!("{} = {}", left_side(left), expr(right)),
         StmtKind::Rate(rated, right) => format!("dot({}) = {}", name(rated), expr(right)),
