@@ -1,13 +1,12 @@
 -- Parts of an area: what is put at a place stands there, everything elsewhere stays, and parts one behind the other are the whole.
 use mathlib.Core.Path.{_≡_, refl, sym, ap, ap₂, _∙_}
-use mathlib.Core.List.{List, [], _∷_, _++_, map, append-assoc}
-use Prim.Native.Nat.{ℕ, zero, suc, _+_, _-_, _*_, min, _≤_, _<_}
+use mathlib.Core.List.{List, _++_, map, append-assoc}
+use Prim.Native.Nat.{ℕ, _+_, _-_, _≤_}
 use native.Mathlib.Omega.{arith}
-use lib.ListN.{length, take, drop, length-append, length-drop, length-take, length-map}
-use lib.Seq.{length-take-le, take-take, take-at, drop-at, drop-append-le, drop-append-add, take-append-le, drop-drop, take-add}
+use lib.ListN.{length, take, drop, length-append}
+use lib.Seq.{length-take-le, take-at, drop-at, drop-append-add, drop-drop, take-add}
 use Rattle.ast.specs.Bytes.{front, put}
 use Rattle.ast.specs.Encode.{encode}
-use Rattle.ast.proofs.Fronts.{take-front}
 use Rattle.builder.specs.Variables.{Error}
 use Rattle.builder.specs.Answer.{errorWords}
 use Rattle.builder.specs.Listing.{listed}

@@ -1,11 +1,11 @@
 -- How many errors the models of an open file can have: the count is a word.
 use mathlib.Core.Path.{_≡_}
-use Prim.Native.Nat.{ℕ, _+_, _*_, _≤_}
+use Prim.Native.Nat.{ℕ, _*_, _≤_}
 use mathlib.Core.List.{List}
 use native.Mathlib.Omega.{arith}
 use lib.ListN.{length}
 use Rattle.functions.specs.Lists.{sumOf}
-use Rattle.ast.specs.File.{Contents, contentsOf, unknownsAt}
+use Rattle.ast.specs.File.{contentsOf}
 use Rattle.ast.specs.Write.{stmtSize}
 use Rattle.ast.specs.Opens.{Open, contentsIn, fileIn}
 use Rattle.ast.specs.declared.sections.Sections.{Sections}

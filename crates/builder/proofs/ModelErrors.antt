@@ -257,6 +257,11 @@ module _ {f : List ℕ} {s : Sections} {cs rs ts : List ℕ} (g : Tabled f s cs 
     unfolding calleeOf
     callee-is = g .callees .callee q l ∙ ap (calleeOf (fileIn f s)) submodel-is
 
+    -- it has the same errors whatever the scope is
+    pub any-scope : (sub : ℕ → List Error) (c d : Scope) → stmtErrors (fileIn f s) sub c (stmtIn f s q) ≡ stmtErrors (fileIn f s) sub d (stmtIn f s q)
+    unfolding stmtErrors
+    any-scope sub c d = ap (stmtErrors (fileIn f s) sub c) submodel-is ∙ sym (ap (stmtErrors (fileIn f s) sub d) submodel-is)
+
     module _ (sub : ℕ → List Error) (c : Scope) where
       -- its model is missing
       pub submodel-missing : getD ts q 0 ≡ 0 → (n : ℕ) → n ≡ nameAt (nodesOf f s) x

@@ -1,5 +1,5 @@
 -- What the last steps of an answer need and give: fates, variables, errors and header, by what is known of the root model.
-use mathlib.Core.Path.{_≡_, refl, sym, ap, _∙_}
+use mathlib.Core.Path.{_≡_, ap, _∙_}
 use mathlib.Core.List.{List}
 use Prim.Native.Nat.{ℕ, _+_, _*_, _^_, min, _≤_, _<_}
 use native.Mathlib.Omega.{arith}
@@ -19,7 +19,7 @@ use Rattle.builder.specs.Build.{answerFrom}
 use Rattle.builder.specs.Tables.{Classes}
 use Rattle.builder.specs.Places.{Small, stmtsAt, varsAt, depsAt, errorsAt}
 use Rattle.builder.specs.Checking as checking
-use Rattle.builder.specs.Allocating.{Flattened, Tabled, stmtsIn, ListsAt}
+use Rattle.builder.specs.Allocating.{Flattened, Tabled, ListsAt}
 use Rattle.builder.specs.Starting.{Righted}
 use Rattle.builder.specs.VarRecords.{VarTables, varRecords, headWords}
 use Rattle.builder.specs.declared.places.Sizes.{Sizes}

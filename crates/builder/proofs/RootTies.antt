@@ -1,28 +1,27 @@
 -- What the code works out by the tables of a root model's variables is what the definitions say: roles, fates, variables' records and errors.
 use mathlib.Core.Path.{_≡_, refl, sym, ap, ap₂, _∙_}
 use mathlib.Core.Bool.{cond}
-use mathlib.Core.List.{List, [], _∷_, _++_, map}
-use Prim.Native.Nat.{ℕ, zero, suc, _+_, _≤_, _<_}
+use mathlib.Core.List.{List, [], _∷_, map}
+use Prim.Native.Nat.{ℕ, zero, suc, _+_, _<_}
 use native.Mathlib.Omega.{arith}
 use lib.Dec.{eqb}
-use lib.ListN.{length, take, getD, length-append, length-map}
+use lib.ListN.{length, take, getD, length-append}
 use lib.Seq.{getD-take}
 use Rattle.functions.specs.Lists.{each, times}
 use Rattle.ast.specs.Tree.{Flat, equation, rate, flatSize}
-use Rattle.ast.specs.Encode.{flatNodes}
 use Rattle.ast.specs.Opens.{Open, fileIn}
 use Rattle.ast.specs.declared.sections.Sections.{Sections}
 use Rattle.builder.specs.Variables.{Variable, at, noVariable, variableNames, variable, variablesOf}
-use Rattle.builder.specs.Flatten.{modelAt, scopeOf, errorsOf}
-use Rattle.builder.specs.Roles.{Role, roleOf, roleErrors}
-use Rattle.builder.specs.Allocate.{Fate, fatesOf, pairedStates, lacking, leftCount, countErrors, startingErrors}
+use Rattle.builder.specs.Flatten.{modelAt, scopeOf}
+use Rattle.builder.specs.Roles.{roleOf, roleErrors}
+use Rattle.builder.specs.Allocate.{Fate, pairedStates, lacking, leftCount, startingErrors}
 use Rattle.builder.specs.Answer.{flatWords, flatRecords, variableRecords}
 use Rattle.builder.specs.Build.{answerFrom}
 use Rattle.builder.specs.Tables.{roleNumber, lackingIn}
 use Rattle.builder.specs.VariableTables.{rosterIn, unknownsIn}
 use Rattle.builder.specs.Unfated.{unfatedWords, unfated}
 use Rattle.builder.specs.Fating as fating
-use Rattle.builder.specs.Allocating.{nodesIn, stmtsIn, flatsIn, roleBy, roleErrorsBy, Flattened}
+use Rattle.builder.specs.Allocating.{nodesIn, stmtsIn, flatsIn, roleErrorsBy, Flattened}
 use Rattle.builder.specs.Starting.{startingIn}
 use Rattle.builder.specs.VarRecords.{varRecords}
 use Rattle.builder.specs.declared.places.Sizes.{Sizes}

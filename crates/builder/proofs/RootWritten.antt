@@ -1,23 +1,21 @@
 -- The area of a root model's answer as it is written: fates into the statements' records, the variables, the errors, and last the header.
-use mathlib.Core.Path.{_≡_, refl, sym, ap, _∙_}
-use mathlib.Core.List.{List, [], _∷_, _++_, map, append-assoc}
-use Prim.Native.Nat.{ℕ, _+_, _*_, min, _≤_, _<_}
+use mathlib.Core.Path.{_≡_, refl, ap, _∙_}
+use mathlib.Core.List.{List, map, append-assoc}
+use Prim.Native.Nat.{ℕ, _+_, _*_, min, _≤_}
 use native.Mathlib.Omega.{arith}
-use lib.ListN.{length, take, length-append}
+use lib.ListN.{length, take}
 use Rattle.functions.specs.Lists.{each}
 use Rattle.ast.specs.Tree.{File}
 use Rattle.ast.specs.Words.{bytesOf, wordOf}
 use Rattle.ast.specs.Bytes.{put}
 use Rattle.ast.specs.Encode.{flatNodes, encode}
 use Rattle.ast.proofs.Encodes.{length-bytes}
-use Rattle.builder.specs.Flatten.{scopeOf}
-use Rattle.builder.specs.Answer.{Answer, flatRecords, variableRecords, errorWords, header, nodeCount, depsOf, areaOf, areaBytes, answerBytes}
-use Rattle.builder.specs.Area.{listedIn}
+use Rattle.builder.specs.Answer.{flatRecords, variableRecords, errorWords, header, nodeCount, depsOf, areaOf, areaBytes, answerBytes}
 use Rattle.builder.specs.Build.{answerFrom}
 use Rattle.builder.specs.Places.{stmtsAt, varsAt, depsAt, errorsAt}
-use Rattle.builder.specs.Allocating.{listedAt, ListsAt}
+use Rattle.builder.specs.Allocating.{ListsAt}
 use Rattle.builder.specs.declared.places.Sizes.{Sizes}
-use Rattle.builder.specs.Root.{flatsOf, scopeAt, fatesAt, answerAt, SizesOf, part, Laid, Unfated, Fated, Varied}
+use Rattle.builder.specs.Root.{flatsOf, scopeAt, fatesAt, answerAt, SizesOf, part, Unfated, Fated, Varied}
 use Rattle.builder.proofs.Lengths.{Bytes, bytes}
 use Rattle.builder.proofs.PutRecords.{length-put}
 use Rattle.builder.proofs.ListedAt.{length-listedAt}

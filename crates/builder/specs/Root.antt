@@ -1,7 +1,7 @@
 -- What a build works out of a root model, step by step: the sizes, the tables of its variables, and the parts of the area that are written.
 use Prim.Native.Nat.{ℕ, _+_, _*_, _≤_, _<_}
 use mathlib.Core.Path.{_≡_}
-use mathlib.Core.Bool.{cond, _||_, _&&_}
+use mathlib.Core.Bool.{cond, _||_}
 use mathlib.Core.List.{List, [], _++_, map}
 use lib.Dec.{eqb}
 use lib.ListN.{length, take, drop, getD}
@@ -17,7 +17,7 @@ use Rattle.builder.specs.Check.{Scope}
 use Rattle.builder.specs.Flatten.{modelAt, scopeOf, flatten, errorsOf, instances, cyclic, selfListed, overfull}
 use Rattle.builder.specs.Roles.{Role, roleOf, takesRate}
 use Rattle.builder.specs.Allocate.{Fate, fatesOf, pairedStates, countErrors}
-use Rattle.builder.specs.Answer.{Answer, answerBytes, flatRecords, variableRecords, nodeCount, depsOf}
+use Rattle.builder.specs.Answer.{Answer, answerBytes, flatRecords, variableRecords}
 use Rattle.builder.specs.Build.{Result, refusal, accepted, answerFrom, tooBig, fitted}
 use Rattle.builder.specs.Tables.{Classes, lackingIn}
 use Rattle.builder.specs.VariableTables.{rosterIn, Listing}
@@ -28,7 +28,6 @@ use Rattle.builder.specs.Allocating.{nodesIn, stmtsIn, flatsIn, roleBy, 
 use Rattle.builder.specs.Starting.{startingIn}
 use Rattle.builder.specs.declared.places.Sizes.{Sizes}
 use Rattle.builder.specs.declared.tables.Tables.{Tables}
-use Rattle.builder.specs.declared.variables.Roster.{Roster}
 use Rattle.builder.specs.declared.measure.Measured as measured
 use Rattle.builder.specs.declared.measure.Measured.the-variants.{Refused, Sized}
 use Rattle.builder.specs.declared.filling.Answered as answered

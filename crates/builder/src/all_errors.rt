@@ -1,5 +1,4 @@
 // All errors of an answer, in order: of building the model, of each statement's role, of the counts, of the initial conditions.
-ghost use mathlib.Core.Path.{_≡_};
 ghost use Prim.Native.Nat.{ℕ, _+_, _^_, _≤_, _<_};
 ghost use lib.ListN.{length};
 ghost use Rattle.ast.specs.Opens.{fileIn};

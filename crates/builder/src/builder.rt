@@ -1,4 +1,5 @@
 // `builder`: the errors of a model and of the submodels that it calls, in the order of the Rust.
+ghost use mathlib.Core.Path.{_≡_};
 ghost use mathlib.Core.List.{[], _∷_};
 ghost use Prim.Native.Nat.{_+_, _^_, _≤_, _<_};
 ghost use lib.ListN.{length, getD};
@@ -6,6 +7,7 @@ ghost use Rattle.functions.specs.Lists.{unless, each};
 ghost use Rattle.ast.specs.Records.{kindOfStmt, spanOfUnknown, spanOfStmt};
 ghost use Rattle.ast.specs.Opens.{Open, contentsIn, fileIn};
 ghost use Rattle.builder.specs.Variables.{error, domainErrors, unknownErrors};
+ghost use Rattle.builder.specs.Check.{Scope};
 ghost use Rattle.builder.specs.Flatten.{modelAt, orderErrors, stmtErrors, errorsOf};
 ghost use Rattle.builder.specs.Tables.{Classes};
 ghost use Rattle.builder.specs.Listing.{Lists, Room};
@@ -176,7 +178,33 @@ fn own_errors(
     check_expr(f, s, classes, rules, vars, m, left, out, own)
 }
 
-// The errors of statement q of model m. A submodel's model is gone through to a depth of k models, ahead of its own arguments.
+// The errors that the submodel statement q brings in: those of the model that it calls, to a depth of k models, and then those of its own arguments. No scope plays a part in them.
+fn add_submodel(
+    f: &[u8],
+    s: Sections,
+    classes: &[u8; 256],
+    rules: &[u8; 256],
+    callees: &[u8; 256],
+    k: usize,
+    q: usize,
+    out: &mut [u8],
+    count: usize,
+) -> usize
+    requires { ⌜ Tabled (now f) s (now classes) (now rules) (now callees) × (q < s .counts .stmts) × (kindOfStmt (getD (contentsIn (now f) s .stmts) q []) ≡ 3) × (k ≤ 32) × ((c : Scope) → Room (now out) count (stmtErrors (fileIn (now f) s) (λ j. errorsOf (fileIn (now f) s) k j) c (stmtIn (now f) s q))) ⌝ }
+    ensures { λ r. ⌜ ((c : Scope) → Lists (now (out .entry)) count (stmtErrors (fileIn (now (f .entry)) s) (λ j. errorsOf (fileIn (now (f .entry)) s) k j) c (stmtIn (now (f .entry)) s q)) r (now (out .exit))) ⌝ }
+{
+    let call = stmt(f, s, q, 3);
+    let c = callees[q] as usize;
+    if c == 0 {
+        return missing_error(f, s, q, node(f, s, call, 1), out, count);
+    }
+    let listed = builder(f, s, classes, rules, callees, k, c - 1, out, count);
+    let args = node(f, s, call, 2);
+    let total = node(f, s, call, 3) - 1;
+    order_errors(f, s, call, args, total, out, listed)
+}
+
+// The errors of statement q of model m, submodels gone through to a depth of k models.
 fn stmt_errors(
     f: &[u8],
     s: Sections,
@@ -196,15 +224,7 @@ fn stmt_errors(
     if stmt(f, s, q, 0) != 3 {
         return own_errors(f, s, classes, rules, vars, m, q, out, count);
     }
-    let call = stmt(f, s, q, 3);
-    let c = callees[q] as usize;
-    if c == 0 {
-        return missing_error(f, s, q, node(f, s, call, 1), out, count);
-    }
-    let listed = builder(f, s, classes, rules, callees, k, c - 1, out, count);
-    let args = node(f, s, call, 2);
-    let total = node(f, s, call, 3) - 1;
-    order_errors(f, s, call, args, total, out, listed)
+    add_submodel(f, s, classes, rules, callees, k, q, out, count)
 }
 
 // The errors of model m, to a depth of k models.

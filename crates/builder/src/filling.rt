@@ -1,7 +1,7 @@
 // An answer written whole into an area of the builder's own.
 ghost use mathlib.Core.Path.{_≡_};
 ghost use mathlib.Core.Bool.{false, cond};
-ghost use Prim.Native.Nat.{ℕ, _+_, _*_, min, _≤_, _<_};
+ghost use Prim.Native.Nat.{_+_, _*_, min, _≤_, _<_};
 ghost use lib.ListN.{length, take};
 ghost use Rattle.functions.specs.Lists.{sumOf};
 ghost use Rattle.ast.specs.Tree.{flatSize};

@@ -1,4 +1,4 @@
-use mathlib.Core.Path.{refl, ap, _∙_}
+use mathlib.Core.Path.{refl, sym, ap, _∙_}
 use mathlib.Core.List.{[]}
 use Prim.Native.Nat.{_+_, _-_, _*_, _≤_}
 use native.Mathlib.Omega.{arith}
@@ -12,16 +12,19 @@ use Rattle.builder.proofs.Listings.{lists-none, lists-then, room-first,
 use Rattle.builder.proofs.Runs.{stmts-below}
 use Rattle.builder.proofs.Calling.{entry-below}
 use Rattle.builder.proofs.Calls.{call-small, call-sized, call-args}
-use Rattle.builder.proofs.ModelErrors.{run-begins, run-room, run-goes, run-ends, stmt-here, stmt-there, stmts-past, errors-none, errors-more, against, not-three, own-same, call-in, submodel-missing, submodel-found}
+use Rattle.builder.proofs.ModelErrors.{run-begins, run-room, run-goes, run-ends, stmt-here, stmt-there, stmts-past, errors-none, errors-more, against, not-three, own-same, call-in, any-scope, submodel-missing, submodel-found}
 use Prim.Native.Nat.{ℕ, _<_}
 use borrow.Fn.Kinds.{In}
 use borrow.Fn.PlainCycle.{Measures, is, falls, and}
+use Rattle.builder.proofs.builder.add_submodel.Reads as add-submodel
+use Rattle.builder.proofs.builder.add_submodel.Kinds as add-submodel-kinds
+use Rattle.builder.proofs.builder.+add_submodel+builder+stmt_errors.Lts-add_submodel as add-submodel-lts
 use Rattle.builder.proofs.builder.builder.Reads as builder
 use Rattle.builder.proofs.builder.builder.Kinds as builder-kinds
-use Rattle.builder.proofs.builder.+builder+stmt_errors.Lts-builder as builder-lts
+use Rattle.builder.proofs.builder.+add_submodel+builder+stmt_errors.Lts-builder as builder-lts
 use Rattle.builder.proofs.builder.stmt_errors.Reads as stmt-errors
 use Rattle.builder.proofs.builder.stmt_errors.Kinds as stmt-errors-kinds
-use Rattle.builder.proofs.builder.+builder+stmt_errors.Lts-stmt_errors as stmt-errors-lts
+use Rattle.builder.proofs.builder.+add_submodel+builder+stmt_errors.Lts-stmt_errors as stmt-errors-lts
 use Rattle.ast.proofs.records.model.Reads as model-reads
 use Rattle.ast.proofs.records.node.Reads as node-reads
 use Rattle.ast.proofs.records.stmt.Reads as stmt-reads
@@ -30,14 +33,29 @@ use Rattle.builder.proofs.builder.order_errors.Reads as order-errors-re
 use Rattle.builder.proofs.builder.own_errors.Reads as own-errors-reads
 use Rattle.builder.proofs.builder.unknowns_errors.Reads as unknowns-errors-reads
 use Rattle.builder.proofs.scope.model_vars.Reads as model-vars-reads
-use Rattle.builder.proofs.builder.+builder+stmt_errors.{statement}
-use Rattle.builder.proofs.builder.+builder+stmt_errors.Tie.{close}
+use Rattle.builder.proofs.builder.+add_submodel+builder+stmt_errors.{statement}
+use Rattle.builder.proofs.builder.+add_submodel+builder+stmt_errors.Tie.{close}
+
+abbrev μ-add-submodel : Measures 5 add-submodel-kinds.ps ℕ
+μ-add-submodel κs a = 3 * a .1 .1 .1 .1 .1 .0 + 1
 
 abbrev μ-builder : Measures 5 builder-kinds.ps ℕ
-μ-builder κs a = 2 * a .1 .1 .1 .1 .1 .0
+μ-builder κs a = 3 * a .1 .1 .1 .1 .1 .0
 
 abbrev μ-stmt-errors : Measures 6 stmt-errors-kinds.ps ℕ
-μ-stmt-errors κs a = 2 * a .1 .1 .1 .1 .1 .1 .0 + 1
+μ-stmt-errors κs a = 3 * a .1 .1 .1 .1 .1 .1 .0 + 2
+
+abbrev add-submodel-at : ℕ → In 5 add-submodel-kinds.ps
+add-submodel-at t =
+    and 5 add-submodel-kinds.ps (is 5 add-submodel-kinds.ps μ-add-submodel t) add-submodel.Pre
+
+abbrev add-submodel-below : ℕ → In 5 add-submodel-kinds.ps
+add-submodel-below t =
+    and
+    5
+    add-submodel-kinds.ps
+    (falls 5 add-submodel-kinds.ps _<_ μ-add-submodel t)
+    add-submodel.Pre
 
 abbrev builder-at : ℕ → In 5 builder-kinds.ps
 builder-at t = and 5 builder-kinds.ps (is 5 builder-kinds.ps μ-builder t) builder.Pre
@@ -52,6 +70,51 @@ stmt-errors-at t =
 abbrev stmt-errors-below : ℕ → In 6 stmt-errors-kinds.ps
 stmt-errors-below t =
     and 6 stmt-errors-kinds.ps (falls 6 stmt-errors-kinds.ps _<_ μ-stmt-errors t) stmt-errors.Pre
+
+add-submodel-stmt-requires : (t : ℕ) → add-submodel-lts.Need-stmt-requires (stmt-reads.Asked, stmt-reads.Learnt, node-reads.Asked, node-reads.Learnt, missing-error-reads.Asked, missing-error-reads.Learnt, builder-below t, builder.Post, order-errors-reads.Asked, order-errors-reads.Learnt) (add-submodel-at t) add-submodel.Post
+add-submodel-stmt-requires t c κs = (c .before .before .pre .1 .0 .opened, (c .before .before .pre .1 .1, omega arith))
+
+add-submodel-element-copy-out-c : (t : ℕ) → add-submodel-lts.Need-element-copy-out-c (stmt-reads.Asked, stmt-reads.Learnt, node-reads.Asked, node-reads.Learnt, missing-error-reads.Asked, missing-error-reads.Learnt, builder-below t, builder.Post, order-errors-reads.Asked, order-errors-reads.Learnt) (add-submodel-at t) add-submodel.Post
+add-submodel-element-copy-out-c t c = omega (arith, c .before .before .before .pre .1 .0 .opened .laid .within .stmts, c .before .before .before .pre .1 .1)
+
+add-submodel-cast-c : (t : ℕ) → add-submodel-lts.Need-cast-c (stmt-reads.Asked, stmt-reads.Learnt, node-reads.Asked, node-reads.Learnt, missing-error-reads.Asked, missing-error-reads.Learnt, builder-below t, builder.Post, order-errors-reads.Asked, order-errors-reads.Learnt) (add-submodel-at t) add-submodel.Post
+add-submodel-cast-c t c = omega (arith, entry-below (c .before .before .before .before .args .f .now) (c .before .before .before .before .args .s) (c .before .before .before .before .pre .1 .0 .opened) (c .before .before .before .before .args .callees .now) (c .before .before .before .before .pre .1 .0 .callees) (c .before .before .before .before .args .q) (c .before .before .before .before .pre .1 .1), c .before .before .before .before .pre .1 .0 .opened .laid .within .models)
+
+add-submodel-node-requires : (t : ℕ) → add-submodel-lts.Need-node-requires (stmt-reads.Asked, stmt-reads.Learnt, node-reads.Asked, node-reads.Learnt, missing-error-reads.Asked, missing-error-reads.Learnt, builder-below t, builder.Post, order-errors-reads.Asked, order-errors-reads.Learnt) (add-submodel-at t) add-submodel.Post
+add-submodel-node-requires t c κs = (c .before .before .before .before .before .pre .1 .0 .opened, ((call-in (c .before .before .before .before .before .pre .1 .0 .opened) (c .before .before .before .before .before .args .q) (c .before .before .before .before .before .pre .1 .1) 3 (sym (c .before .before .before .before .before .pre .1 .2)) refl (c .before .before .stmt .result) (c .before .before .stmt .ensures .0)) .within, omega arith))
+
+add-submodel-missing-error-requires : (t : ℕ) → add-submodel-lts.Need-missing-error-requires (stmt-reads.Asked, stmt-reads.Learnt, node-reads.Asked, node-reads.Learnt, missing-error-reads.Asked, missing-error-reads.Learnt, builder-below t, builder.Post, order-errors-reads.Asked, order-errors-reads.Learnt) (add-submodel-at t) add-submodel.Post
+add-submodel-missing-error-requires t c κs = (c .before .before .before .before .before .before .before .pre .1 .0 .opened, c .before .before .before .before .before .before .before .pre .1 .1, omega (arith, c .before .node .ensures .0, call-small (call-in (c .before .before .before .before .before .before .before .pre .1 .0 .opened) (c .before .before .before .before .before .before .before .args .q) (c .before .before .before .before .before .before .before .pre .1 .1) 3 (sym (c .before .before .before .before .before .before .before .pre .1 .2)) refl (c .before .before .before .before .stmt .result) (c .before .before .before .before .stmt .ensures .0))), (c .before .before .before .before .before .before .before .pre .1 .4 (scopeIn (c .before .before .before .before .before .before .before .args .f .now) (c .before .before .before .before .before .before .before .args .s) 0)) .long, omega (arith, (c .before .before .before .before .before .before .before .pre .1 .4 (scopeIn (c .before .before .before .before .before .before .before .args .f .now) (c .before .before .before .before .before .before .before .args .s) 0)) .few))
+
+add-submodel-same-length : (t : ℕ) → add-submodel-lts.Need-same-length (stmt-reads.Asked, stmt-reads.Learnt, node-reads.Asked, node-reads.Learnt, missing-error-reads.Asked, missing-error-reads.Learnt, builder-below t, builder.Post, order-errors-reads.Asked, order-errors-reads.Learnt) (add-submodel-at t) add-submodel.Post
+add-submodel-same-length t c = omega arith
+
+add-submodel-returns : (t : ℕ) → add-submodel-lts.Need-returns (stmt-reads.Asked, stmt-reads.Learnt, node-reads.Asked, node-reads.Learnt, missing-error-reads.Asked, missing-error-reads.Learnt, builder-below t, builder.Post, order-errors-reads.Asked, order-errors-reads.Learnt) (add-submodel-at t) add-submodel.Post
+add-submodel-returns t c = λ o. rw (submodel-missing (c .before .before .before .before .before .before .before .before .before .before .pre .1 .0) (c .before .before .before .before .before .before .before .before .before .before .args .q) (c .before .before .before .before .before .before .before .before .before .before .pre .1 .1) 3 (sym (c .before .before .before .before .before .before .before .before .before .before .pre .1 .2)) refl (c .before .before .before .before .before .before .before .stmt .result) (c .before .before .before .before .before .before .before .stmt .ensures .0) (λ j. errorsOf (fileIn (c .before .before .before .before .before .before .before .before .before .before .args .f .now) (c .before .before .before .before .before .before .before .before .before .before .args .s)) (c .before .before .before .before .before .before .before .before .before .before .args .k) j) o (c .before .before .before .before .before .if1 .taken) (c .before .before .before .before .node .result) (c .before .before .before .before .node .ensures .0)) (c .before .before .missing-error .ensures)
+
+add-submodel-sub-builder : (t : ℕ) → add-submodel-lts.Need-sub-builder (stmt-reads.Asked, stmt-reads.Learnt, node-reads.Asked, node-reads.Learnt, missing-error-reads.Asked, missing-error-reads.Learnt, builder-below t, builder.Post, order-errors-reads.Asked, order-errors-reads.Learnt) (add-submodel-at t) add-submodel.Post
+add-submodel-sub-builder t c = omega (arith, c .if1 .left)
+
+add-submodel-builder-requires : (t : ℕ) → add-submodel-lts.Need-builder-requires (stmt-reads.Asked, stmt-reads.Learnt, node-reads.Asked, node-reads.Learnt, missing-error-reads.Asked, missing-error-reads.Learnt, builder-below t, builder.Post, order-errors-reads.Asked, order-errors-reads.Learnt) (add-submodel-at t) add-submodel.Post
+add-submodel-builder-requires t c κs = (omega (arith, c .before .before .before .before .before .before .pre .0), (c .before .before .before .before .before .before .pre .1 .0, omega (arith, entry-below (c .before .before .before .before .before .before .args .f .now) (c .before .before .before .before .before .before .args .s) (c .before .before .before .before .before .before .pre .1 .0 .opened) (c .before .before .before .before .before .before .args .callees .now) (c .before .before .before .before .before .before .pre .1 .0 .callees) (c .before .before .before .before .before .before .args .q) (c .before .before .before .before .before .before .pre .1 .1), c .before .if1 .left), omega (arith, c .before .before .before .before .before .before .pre .1 .3), room-first (submodel-found (c .before .before .before .before .before .before .pre .1 .0) (c .before .before .before .before .before .before .args .q) (c .before .before .before .before .before .before .pre .1 .1) 3 (sym (c .before .before .before .before .before .before .pre .1 .2)) refl (c .before .before .before .stmt .result) (c .before .before .before .stmt .ensures .0) (λ j. errorsOf (fileIn (c .before .before .before .before .before .before .args .f .now) (c .before .before .before .before .before .before .args .s)) (c .before .before .before .before .before .before .args .k) j) (scopeIn (c .before .before .before .before .before .before .args .f .now) (c .before .before .before .before .before .before .args .s) 0) (c .before .if1 .left) _ _ refl refl) (c .before .before .before .before .before .before .pre .1 .4 (scopeIn (c .before .before .before .before .before .before .args .f .now) (c .before .before .before .before .before .before .args .s) 0))))
+
+add-submodel-node-requires-2 : (t : ℕ) → add-submodel-lts.Need-node-requires-2 (stmt-reads.Asked, stmt-reads.Learnt, node-reads.Asked, node-reads.Learnt, missing-error-reads.Asked, missing-error-reads.Learnt, builder-below t, builder.Post, order-errors-reads.Asked, order-errors-reads.Learnt) (add-submodel-at t) add-submodel.Post
+add-submodel-node-requires-2 t c κs = (c .before .before .before .before .before .before .before .before .before .pre .1 .0 .opened, ((call-in (c .before .before .before .before .before .before .before .before .before .pre .1 .0 .opened) (c .before .before .before .before .before .before .before .before .before .args .q) (c .before .before .before .before .before .before .before .before .before .pre .1 .1) 3 (sym (c .before .before .before .before .before .before .before .before .before .pre .1 .2)) refl (c .before .before .before .before .before .before .stmt .result) (c .before .before .before .before .before .before .stmt .ensures .0)) .within, omega arith))
+
+add-submodel-node-requires-3 : (t : ℕ) → add-submodel-lts.Need-node-requires-3 (stmt-reads.Asked, stmt-reads.Learnt, node-reads.Asked, node-reads.Learnt, missing-error-reads.Asked, missing-error-reads.Learnt, builder-below t, builder.Post, order-errors-reads.Asked, order-errors-reads.Learnt) (add-submodel-at t) add-submodel.Post
+add-submodel-node-requires-3 t c κs = (c .before .before .before .before .before .before .before .before .before .before .pre .1 .0 .opened, ((call-in (c .before .before .before .before .before .before .before .before .before .before .pre .1 .0 .opened) (c .before .before .before .before .before .before .before .before .before .before .args .q) (c .before .before .before .before .before .before .before .before .before .before .pre .1 .1) 3 (sym (c .before .before .before .before .before .before .before .before .before .before .pre .1 .2)) refl (c .before .before .before .before .before .before .before .stmt .result) (c .before .before .before .before .before .before .before .stmt .ensures .0)) .within, omega arith))
+
+add-submodel-sub-total : (t : ℕ) → add-submodel-lts.Need-sub-total (stmt-reads.Asked, stmt-reads.Learnt, node-reads.Asked, node-reads.Learnt, missing-error-reads.Asked, missing-error-reads.Learnt, builder-below t, builder.Post, order-errors-reads.Asked, order-errors-reads.Learnt) (add-submodel-at t) add-submodel.Post
+add-submodel-sub-total t c = omega (arith, c .node3 .ensures .0, call-sized (call-in (c .before .before .before .before .before .before .before .before .before .before .before .pre .1 .0 .opened) (c .before .before .before .before .before .before .before .before .before .before .before .args .q) (c .before .before .before .before .before .before .before .before .before .before .before .pre .1 .1) 3 (sym (c .before .before .before .before .before .before .before .before .before .before .before .pre .1 .2)) refl (c .before .before .before .before .before .before .before .before .stmt .result) (c .before .before .before .before .before .before .before .before .stmt .ensures .0)))
+
+add-submodel-order-errors-requires : (t : ℕ) → add-submodel-lts.Need-order-errors-requires (stmt-reads.Asked, stmt-reads.Learnt, node-reads.Asked, node-reads.Learnt, missing-error-reads.Asked, missing-error-reads.Learnt, builder-below t, builder.Post, order-errors-reads.Asked, order-errors-reads.Learnt) (add-submodel-at t) add-submodel.Post
+add-submodel-order-errors-requires t c κs = (call-args (call-in (c .before .before .before .before .before .before .before .before .before .before .before .before .pre .1 .0 .opened) (c .before .before .before .before .before .before .before .before .before .before .before .before .args .q) (c .before .before .before .before .before .before .before .before .before .before .before .before .pre .1 .1) 3 (sym (c .before .before .before .before .before .before .before .before .before .before .before .before .pre .1 .2)) refl (c .before .before .before .before .before .before .before .before .before .stmt .result) (c .before .before .before .before .before .before .before .before .before .stmt .ensures .0)) (c .before .before .node2 .result) (c .before .node3 .result) (c .before .before .node2 .ensures .0) (c .before .node3 .ensures .0), room-then (submodel-found (c .before .before .before .before .before .before .before .before .before .before .before .before .pre .1 .0) (c .before .before .before .before .before .before .before .before .before .before .before .before .args .q) (c .before .before .before .before .before .before .before .before .before .before .before .before .pre .1 .1) 3 (sym (c .before .before .before .before .before .before .before .before .before .before .before .before .pre .1 .2)) refl (c .before .before .before .before .before .before .before .before .before .stmt .result) (c .before .before .before .before .before .before .before .before .before .stmt .ensures .0) (λ j. errorsOf (fileIn (c .before .before .before .before .before .before .before .before .before .before .before .before .args .f .now) (c .before .before .before .before .before .before .before .before .before .before .before .before .args .s)) (c .before .before .before .before .before .before .before .before .before .before .before .before .args .k) j) (scopeIn (c .before .before .before .before .before .before .before .before .before .before .before .before .args .f .now) (c .before .before .before .before .before .before .before .before .before .before .before .before .args .s) 0) (c .before .before .before .before .before .before .before .if1 .left) (c .before .before .node2 .result) (c .before .node3 .result) (c .before .before .node2 .ensures .0) (c .before .node3 .ensures .0)) _ _ (c .before .before .before .before .before .before .before .before .before .before .before .before .pre .1 .4 (scopeIn (c .before .before .before .before .before .before .before .before .before .before .before .before .args .f .now) (c .before .before .before .before .before .before .before .before .before .before .before .before .args .s) 0)) (c .before .before .before .before .before .builder .ensures))
+
+add-submodel-same-length-2 : (t : ℕ) → add-submodel-lts.Need-same-length-2 (stmt-reads.Asked, stmt-reads.Learnt, node-reads.Asked, node-reads.Learnt, missing-error-reads.Asked, missing-error-reads.Learnt, builder-below t, builder.Post, order-errors-reads.Asked, order-errors-reads.Learnt) (add-submodel-at t) add-submodel.Post
+add-submodel-same-length-2 t c = omega arith
+
+add-submodel-returns-2 : (t : ℕ) → add-submodel-lts.Need-returns-2 (stmt-reads.Asked, stmt-reads.Learnt, node-reads.Asked, node-reads.Learnt, missing-error-reads.Asked, missing-error-reads.Learnt, builder-below t, builder.Post, order-errors-reads.Asked, order-errors-reads.Learnt) (add-submodel-at t) add-submodel.Post
+add-submodel-returns-2 t c = λ o. lists-then (submodel-found (c .before .before .before .before .before .before .before .before .before .before .before .before .before .before .before .pre .1 .0) (c .before .before .before .before .before .before .before .before .before .before .before .before .before .before .before .args .q) (c .before .before .before .before .before .before .before .before .before .before .before .before .before .before .before .pre .1 .1) 3 (sym (c .before .before .before .before .before .before .before .before .before .before .before .before .before .before .before .pre .1 .2)) refl (c .before .before .before .before .before .before .before .before .before .before .before .before .stmt .result) (c .before .before .before .before .before .before .before .before .before .before .before .before .stmt .ensures .0) (λ j. errorsOf (fileIn (c .before .before .before .before .before .before .before .before .before .before .before .before .before .before .before .args .f .now) (c .before .before .before .before .before .before .before .before .before .before .before .before .before .before .before .args .s)) (c .before .before .before .before .before .before .before .before .before .before .before .before .before .before .before .args .k) j) o (c .before .before .before .before .before .before .before .before .before .before .if1 .left) (c .before .before .before .before .before .node2 .result) (c .before .before .before .before .node3 .result) (c .before .before .before .before .before .node2 .ensures .0) (c .before .before .before .before .node3 .ensures .0)) _ _ _ _ _ _ (c .before .before .before .before .before .before .before .before .builder .ensures) (c .before .before .order-errors .ensures)
 
 abbrev builder-Inv-loop : builder-lts.InvT-loop
 builder-Inv-loop f s classes rules callees k m out₀ count vars first stmts listed₀ i₀ out listed i = (i ≤ stmts) × Lists out₀ listed₀ (each (stmtErrors (fileIn f s) (λ j. errorsOf (fileIn f s) (k - 1) j) (scopeIn f s m)) (take i (modelAt (fileIn f s) m .stmts))) listed out
@@ -101,65 +164,48 @@ builder-same-length t c = let r = room-then (errors-more (fileIn (c .before .bef
 builder-returns-2 : (t : ℕ) → builder-lts.Need-returns-2 (model-vars-reads.Asked, model-vars-reads.Learnt, model-reads.Asked, model-reads.Learnt, unknowns-errors-reads.Asked, unknowns-errors-reads.Learnt, stmt-errors-below t, stmt-errors.Post) (builder-at t) builder.Post builder-Inv-loop builder-μ-loop
 builder-returns-2 t c = lists-then (errors-more (fileIn (c .before .before .before .before .before .before .before .before .before .before .before .before .args .f .now) (c .before .before .before .before .before .before .before .before .before .before .before .before .args .s)) (c .before .before .before .before .before .before .before .before .before .before .before .before .args .k) (c .before .before .before .before .before .before .before .before .before .before .before .before .args .m) (c .before .before .before .before .before .before .before .before .before .if1 .left)) _ _ _ _ _ _ (c .before .before .before .before .unknowns-errors .ensures) (run-ends (stmtErrors (fileIn (c .before .before .before .before .before .before .before .before .before .before .before .before .args .f .now) (c .before .before .before .before .before .before .before .before .before .before .before .before .args .s)) (λ j. errorsOf (fileIn (c .before .before .before .before .before .before .before .before .before .before .before .before .args .f .now) (c .before .before .before .before .before .before .before .before .before .before .before .before .args .s)) (c .before .before .before .before .before .before .before .before .before .before .before .before .args .k - 1) j) (scopeIn (c .before .before .before .before .before .before .before .before .before .before .before .before .args .f .now) (c .before .before .before .before .before .before .before .before .before .before .before .before .args .s) (c .before .before .before .before .before .before .before .before .before .before .before .before .args .m))) (modelAt (fileIn (c .before .before .before .before .before .before .before .before .before .before .before .before .args .f .now) (c .before .before .before .before .before .before .before .before .before .before .before .before .args .s)) (c .before .before .before .before .before .before .before .before .before .before .before .before .args .m) .stmts) (c .before .loop .i) (stmts-past (c .before .before .before .before .before .before .before .before .before .before .before .before .args .f .now) (c .before .before .before .before .before .before .before .before .before .before .before .before .args .s) (c .before .before .before .before .before .before .before .before .before .before .before .before .pre .1 .0 .opened) (c .before .before .before .before .before .before .before .before .before .before .before .before .args .m) (c .before .before .before .before .before .before .before .before .before .before .before .before .pre .1 .1) (c .before .before .before .before .before .before .before .model .result) (c .before .before .before .before .before .before .model2 .result) (c .before .loop .i) (c .before .before .before .before .before .before .before .model .ensures .0) (c .before .before .before .before .before .before .model2 .ensures .0) (c .loop-test .left)) _ _ _ _ (c .before .loop .inv .1))
 
-stmt-errors-stmt-requires : (t : ℕ) → stmt-errors-lts.Need-stmt-requires (stmt-reads.Asked, stmt-reads.Learnt, own-errors-reads.Asked, own-errors-reads.Learnt, node-reads.Asked, node-reads.Learnt, missing-error-reads.Asked, missing-error-reads.Learnt, builder-below t, builder.Post, order-errors-reads.Asked, order-errors-reads.Learnt) (stmt-errors-at t) stmt-errors.Post
+stmt-errors-stmt-requires : (t : ℕ) → stmt-errors-lts.Need-stmt-requires (stmt-reads.Asked, stmt-reads.Learnt, own-errors-reads.Asked, own-errors-reads.Learnt, add-submodel-below t, add-submodel.Post) (stmt-errors-at t) stmt-errors.Post
 stmt-errors-stmt-requires t c κs = (c .before .before .pre .1 .0 .opened, (c .before .before .pre .1 .2, omega arith))
 
-stmt-errors-own-errors-requires : (t : ℕ) → stmt-errors-lts.Need-own-errors-requires (stmt-reads.Asked, stmt-reads.Learnt, own-errors-reads.Asked, own-errors-reads.Learnt, node-reads.Asked, node-reads.Learnt, missing-error-reads.Asked, missing-error-reads.Learnt, builder-below t, builder.Post, order-errors-reads.Asked, order-errors-reads.Learnt) (stmt-errors-at t) stmt-errors.Post
+stmt-errors-own-errors-requires : (t : ℕ) → stmt-errors-lts.Need-own-errors-requires (stmt-reads.Asked, stmt-reads.Learnt, own-errors-reads.Asked, own-errors-reads.Learnt, add-submodel-below t, add-submodel.Post) (stmt-errors-at t) stmt-errors.Post
 stmt-errors-own-errors-requires t c κs = (c .before .before .before .before .before .pre .1 .1, c .before .before .before .before .before .pre .1 .2, (let n = not-three (c .before .before .before .before .before .pre .1 .0 .opened) (c .before .before .before .before .before .args .q) (c .before .before .before .before .before .pre .1 .2) (c .before .before .stmt .result) (c .before .before .stmt .ensures .0) (c .before .if1 .taken) in omega (arith, n, c .before .before .stmt .ensures .0)), rw (own-same (c .before .before .before .before .before .pre .1 .0 .opened) (c .before .before .before .before .before .args .q) (c .before .before .before .before .before .pre .1 .2) (c .before .before .stmt .result) (c .before .before .stmt .ensures .0) (not-three (c .before .before .before .before .before .pre .1 .0 .opened) (c .before .before .before .before .before .args .q) (c .before .before .before .before .before .pre .1 .2) (c .before .before .stmt .result) (c .before .before .stmt .ensures .0) (c .before .if1 .taken)) (λ j. errorsOf (fileIn (c .before .before .before .before .before .args .f .now) (c .before .before .before .before .before .args .s)) (c .before .before .before .before .before .args .k) j) (λ j. []) (scopeIn (c .before .before .before .before .before .args .f .now) (c .before .before .before .before .before .args .s) (c .before .before .before .before .before .args .m))) at (c .before .before .before .before .before .pre .1 .4))
 
-stmt-errors-same-length : (t : ℕ) → stmt-errors-lts.Need-same-length (stmt-reads.Asked, stmt-reads.Learnt, own-errors-reads.Asked, own-errors-reads.Learnt, node-reads.Asked, node-reads.Learnt, missing-error-reads.Asked, missing-error-reads.Learnt, builder-below t, builder.Post, order-errors-reads.Asked, order-errors-reads.Learnt) (stmt-errors-at t) stmt-errors.Post
+stmt-errors-same-length : (t : ℕ) → stmt-errors-lts.Need-same-length (stmt-reads.Asked, stmt-reads.Learnt, own-errors-reads.Asked, own-errors-reads.Learnt, add-submodel-below t, add-submodel.Post) (stmt-errors-at t) stmt-errors.Post
 stmt-errors-same-length t c = omega arith
 
-stmt-errors-returns : (t : ℕ) → stmt-errors-lts.Need-returns (stmt-reads.Asked, stmt-reads.Learnt, own-errors-reads.Asked, own-errors-reads.Learnt, node-reads.Asked, node-reads.Learnt, missing-error-reads.Asked, missing-error-reads.Learnt, builder-below t, builder.Post, order-errors-reads.Asked, order-errors-reads.Learnt) (stmt-errors-at t) stmt-errors.Post
+stmt-errors-returns : (t : ℕ) → stmt-errors-lts.Need-returns (stmt-reads.Asked, stmt-reads.Learnt, own-errors-reads.Asked, own-errors-reads.Learnt, add-submodel-below t, add-submodel.Post) (stmt-errors-at t) stmt-errors.Post
 stmt-errors-returns t c = rw (own-same (c .before .before .before .before .before .before .before .before .pre .1 .0 .opened) (c .before .before .before .before .before .before .before .before .args .q) (c .before .before .before .before .before .before .before .before .pre .1 .2) (c .before .before .before .before .before .stmt .result) (c .before .before .before .before .before .stmt .ensures .0) (not-three (c .before .before .before .before .before .before .before .before .pre .1 .0 .opened) (c .before .before .before .before .before .before .before .before .args .q) (c .before .before .before .before .before .before .before .before .pre .1 .2) (c .before .before .before .before .before .stmt .result) (c .before .before .before .before .before .stmt .ensures .0) (c .before .before .before .before .if1 .taken)) (λ j. errorsOf (fileIn (c .before .before .before .before .before .before .before .before .args .f .now) (c .before .before .before .before .before .before .before .before .args .s)) (c .before .before .before .before .before .before .before .before .args .k) j) (λ j. []) (scopeIn (c .before .before .before .before .before .before .before .before .args .f .now) (c .before .before .before .before .before .before .before .before .args .s) (c .before .before .before .before .before .before .before .before .args .m))) (c .before .before .own-errors .ensures)
 
-stmt-errors-stmt-requires-2 : (t : ℕ) → stmt-errors-lts.Need-stmt-requires-2 (stmt-reads.Asked, stmt-reads.Learnt, own-errors-reads.Asked, own-errors-reads.Learnt, node-reads.Asked, node-reads.Learnt, missing-error-reads.Asked, missing-error-reads.Learnt, builder-below t, builder.Post, order-errors-reads.Asked, order-errors-reads.Learnt) (stmt-errors-at t) stmt-errors.Post
-stmt-errors-stmt-requires-2 t c κs = (c .before .before .before .before .pre .1 .0 .opened, (c .before .before .before .before .pre .1 .2, omega arith))
+stmt-errors-add-submodel-requires : (t : ℕ) → stmt-errors-lts.Need-add-submodel-requires (stmt-reads.Asked, stmt-reads.Learnt, own-errors-reads.Asked, own-errors-reads.Learnt, add-submodel-below t, add-submodel.Post) (stmt-errors-at t) stmt-errors.Post
+stmt-errors-add-submodel-requires t c κs = (omega (arith, c .before .before .before .before .before .pre .0), (c .before .before .before .before .before .pre .1 .0, c .before .before .before .before .before .pre .1 .2, omega (arith, c .before .before .stmt .ensures .0), c .before .before .before .before .before .pre .1 .3, λ o. rw (any-scope (c .before .before .before .before .before .pre .1 .0) (c .before .before .before .before .before .args .q) (c .before .before .before .before .before .pre .1 .2) (c .before .before .stmt .result) (c .before .before .stmt .ensures .0) (c .before .if1 .left) _ refl (λ j. errorsOf (fileIn (c .before .before .before .before .before .args .f .now) (c .before .before .before .before .before .args .s)) (c .before .before .before .before .before .args .k) j) o (scopeIn (c .before .before .before .before .before .args .f .now) (c .before .before .before .before .before .args .s) (c .before .before .before .before .before .args .m))) (c .before .before .before .before .before .pre .1 .4)))
 
-stmt-errors-element-copy-out-c : (t : ℕ) → stmt-errors-lts.Need-element-copy-out-c (stmt-reads.Asked, stmt-reads.Learnt, own-errors-reads.Asked, own-errors-reads.Learnt, node-reads.Asked, node-reads.Learnt, missing-error-reads.Asked, missing-error-reads.Learnt, builder-below t, builder.Post, order-errors-reads.Asked, order-errors-reads.Learnt) (stmt-errors-at t) stmt-errors.Post
-stmt-errors-element-copy-out-c t c = omega (arith, c .before .before .before .before .before .pre .1 .0 .opened .laid .within .stmts, c .before .before .before .before .before .pre .1 .2)
-
-stmt-errors-cast-c : (t : ℕ) → stmt-errors-lts.Need-cast-c (stmt-reads.Asked, stmt-reads.Learnt, own-errors-reads.Asked, own-errors-reads.Learnt, node-reads.Asked, node-reads.Learnt, missing-error-reads.Asked, missing-error-reads.Learnt, builder-below t, builder.Post, order-errors-reads.Asked, order-errors-reads.Learnt) (stmt-errors-at t) stmt-errors.Post
-stmt-errors-cast-c t c = omega (arith, entry-below (c .before .before .before .before .before .before .args .f .now) (c .before .before .before .before .before .before .args .s) (c .before .before .before .before .before .before .pre .1 .0 .opened) (c .before .before .before .before .before .before .args .callees .now) (c .before .before .before .before .before .before .pre .1 .0 .callees) (c .before .before .before .before .before .before .args .q) (c .before .before .before .before .before .before .pre .1 .2), c .before .before .before .before .before .before .pre .1 .0 .opened .laid .within .models)
-
-stmt-errors-node-requires : (t : ℕ) → stmt-errors-lts.Need-node-requires (stmt-reads.Asked, stmt-reads.Learnt, own-errors-reads.Asked, own-errors-reads.Learnt, node-reads.Asked, node-reads.Learnt, missing-error-reads.Asked, missing-error-reads.Learnt, builder-below t, builder.Post, order-errors-reads.Asked, order-errors-reads.Learnt) (stmt-errors-at t) stmt-errors.Post
-stmt-errors-node-requires t c κs = (c .before .before .before .before .before .before .before .pre .1 .0 .opened, ((call-in (c .before .before .before .before .before .before .before .pre .1 .0 .opened) (c .before .before .before .before .before .before .before .args .q) (c .before .before .before .before .before .before .before .pre .1 .2) (c .before .before .before .before .stmt .result) (c .before .before .before .before .stmt .ensures .0) (c .before .before .before .if1 .left) (c .before .before .stmt2 .result) (c .before .before .stmt2 .ensures .0)) .within, omega arith))
-
-stmt-errors-missing-error-requires : (t : ℕ) → stmt-errors-lts.Need-missing-error-requires (stmt-reads.Asked, stmt-reads.Learnt, own-errors-reads.Asked, own-errors-reads.Learnt, node-reads.Asked, node-reads.Learnt, missing-error-reads.Asked, missing-error-reads.Learnt, builder-below t, builder.Post, order-errors-reads.Asked, order-errors-reads.Learnt) (stmt-errors-at t) stmt-errors.Post
-stmt-errors-missing-error-requires t c κs = (c .before .before .before .before .before .before .before .before .before .pre .1 .0 .opened, c .before .before .before .before .before .before .before .before .before .pre .1 .2, omega (arith, c .before .node .ensures .0, call-small (call-in (c .before .before .before .before .before .before .before .before .before .pre .1 .0 .opened) (c .before .before .before .before .before .before .before .before .before .args .q) (c .before .before .before .before .before .before .before .before .before .pre .1 .2) (c .before .before .before .before .before .before .stmt .result) (c .before .before .before .before .before .before .stmt .ensures .0) (c .before .before .before .before .before .if1 .left) (c .before .before .before .before .stmt2 .result) (c .before .before .before .before .stmt2 .ensures .0))), c .before .before .before .before .before .before .before .before .before .pre .1 .4 .long, omega (arith, c .before .before .before .before .before .before .before .before .before .pre .1 .4 .few))
-
-stmt-errors-same-length-2 : (t : ℕ) → stmt-errors-lts.Need-same-length-2 (stmt-reads.Asked, stmt-reads.Learnt, own-errors-reads.Asked, own-errors-reads.Learnt, node-reads.Asked, node-reads.Learnt, missing-error-reads.Asked, missing-error-reads.Learnt, builder-below t, builder.Post, order-errors-reads.Asked, order-errors-reads.Learnt) (stmt-errors-at t) stmt-errors.Post
+stmt-errors-same-length-2 : (t : ℕ) → stmt-errors-lts.Need-same-length-2 (stmt-reads.Asked, stmt-reads.Learnt, own-errors-reads.Asked, own-errors-reads.Learnt, add-submodel-below t, add-submodel.Post) (stmt-errors-at t) stmt-errors.Post
 stmt-errors-same-length-2 t c = omega arith
 
-stmt-errors-returns-2 : (t : ℕ) → stmt-errors-lts.Need-returns-2 (stmt-reads.Asked, stmt-reads.Learnt, own-errors-reads.Asked, own-errors-reads.Learnt, node-reads.Asked, node-reads.Learnt, missing-error-reads.Asked, missing-error-reads.Learnt, builder-below t, builder.Post, order-errors-reads.Asked, order-errors-reads.Learnt) (stmt-errors-at t) stmt-errors.Post
-stmt-errors-returns-2 t c = rw (submodel-missing (c .before .before .before .before .before .before .before .before .before .before .before .before .pre .1 .0) (c .before .before .before .before .before .before .before .before .before .before .before .before .args .q) (c .before .before .before .before .before .before .before .before .before .before .before .before .pre .1 .2) (c .before .before .before .before .before .before .before .before .before .stmt .result) (c .before .before .before .before .before .before .before .before .before .stmt .ensures .0) (c .before .before .before .before .before .before .before .before .if1 .left) (c .before .before .before .before .before .before .before .stmt2 .result) (c .before .before .before .before .before .before .before .stmt2 .ensures .0) (λ j. errorsOf (fileIn (c .before .before .before .before .before .before .before .before .before .before .before .before .args .f .now) (c .before .before .before .before .before .before .before .before .before .before .before .before .args .s)) (c .before .before .before .before .before .before .before .before .before .before .before .before .args .k) j) (scopeIn (c .before .before .before .before .before .before .before .before .before .before .before .before .args .f .now) (c .before .before .before .before .before .before .before .before .before .before .before .before .args .s) (c .before .before .before .before .before .before .before .before .before .before .before .before .args .m)) (c .before .before .before .before .before .if2 .taken) (c .before .before .before .before .node .result) (c .before .before .before .before .node .ensures .0)) (c .before .before .missing-error .ensures)
+stmt-errors-returns-2 : (t : ℕ) → stmt-errors-lts.Need-returns-2 (stmt-reads.Asked, stmt-reads.Learnt, own-errors-reads.Asked, own-errors-reads.Learnt, add-submodel-below t, add-submodel.Post) (stmt-errors-at t) stmt-errors.Post
+stmt-errors-returns-2 t c = c .before .before .add-submodel .ensures (scopeIn (c .before .before .before .before .before .before .before .before .args .f .now) (c .before .before .before .before .before .before .before .before .args .s) (c .before .before .before .before .before .before .before .before .args .m))
 
-stmt-errors-sub-builder : (t : ℕ) → stmt-errors-lts.Need-sub-builder (stmt-reads.Asked, stmt-reads.Learnt, own-errors-reads.Asked, own-errors-reads.Learnt, node-reads.Asked, node-reads.Learnt, missing-error-reads.Asked, missing-error-reads.Learnt, builder-below t, builder.Post, order-errors-reads.Asked, order-errors-reads.Learnt) (stmt-errors-at t) stmt-errors.Post
-stmt-errors-sub-builder t c = omega (arith, c .if2 .left)
-
-stmt-errors-builder-requires : (t : ℕ) → stmt-errors-lts.Need-builder-requires (stmt-reads.Asked, stmt-reads.Learnt, own-errors-reads.Asked, own-errors-reads.Learnt, node-reads.Asked, node-reads.Learnt, missing-error-reads.Asked, missing-error-reads.Learnt, builder-below t, builder.Post, order-errors-reads.Asked, order-errors-reads.Learnt) (stmt-errors-at t) stmt-errors.Post
-stmt-errors-builder-requires t c κs = (omega (arith, c .before .before .before .before .before .before .before .before .pre .0), (c .before .before .before .before .before .before .before .before .pre .1 .0, omega (arith, entry-below (c .before .before .before .before .before .before .before .before .args .f .now) (c .before .before .before .before .before .before .before .before .args .s) (c .before .before .before .before .before .before .before .before .pre .1 .0 .opened) (c .before .before .before .before .before .before .before .before .args .callees .now) (c .before .before .before .before .before .before .before .before .pre .1 .0 .callees) (c .before .before .before .before .before .before .before .before .args .q) (c .before .before .before .before .before .before .before .before .pre .1 .2), c .before .if2 .left), omega (arith, c .before .before .before .before .before .before .before .before .pre .1 .3), room-first (submodel-found (c .before .before .before .before .before .before .before .before .pre .1 .0) (c .before .before .before .before .before .before .before .before .args .q) (c .before .before .before .before .before .before .before .before .pre .1 .2) (c .before .before .before .before .before .stmt .result) (c .before .before .before .before .before .stmt .ensures .0) (c .before .before .before .before .if1 .left) (c .before .before .before .stmt2 .result) (c .before .before .before .stmt2 .ensures .0) (λ j. errorsOf (fileIn (c .before .before .before .before .before .before .before .before .args .f .now) (c .before .before .before .before .before .before .before .before .args .s)) (c .before .before .before .before .before .before .before .before .args .k) j) (scopeIn (c .before .before .before .before .before .before .before .before .args .f .now) (c .before .before .before .before .before .before .before .before .args .s) (c .before .before .before .before .before .before .before .before .args .m)) (c .before .if2 .left) _ _ refl refl) (c .before .before .before .before .before .before .before .before .pre .1 .4)))
-
-stmt-errors-node-requires-2 : (t : ℕ) → stmt-errors-lts.Need-node-requires-2 (stmt-reads.Asked, stmt-reads.Learnt, own-errors-reads.Asked, own-errors-reads.Learnt, node-reads.Asked, node-reads.Learnt, missing-error-reads.Asked, missing-error-reads.Learnt, builder-below t, builder.Post, order-errors-reads.Asked, order-errors-reads.Learnt) (stmt-errors-at t) stmt-errors.Post
-stmt-errors-node-requires-2 t c κs = (c .before .before .before .before .before .before .before .before .before .before .before .pre .1 .0 .opened, ((call-in (c .before .before .before .before .before .before .before .before .before .before .before .pre .1 .0 .opened) (c .before .before .before .before .before .before .before .before .before .before .before .args .q) (c .before .before .before .before .before .before .before .before .before .before .before .pre .1 .2) (c .before .before .before .before .before .before .before .before .stmt .result) (c .before .before .before .before .before .before .before .before .stmt .ensures .0) (c .before .before .before .before .before .before .before .if1 .left) (c .before .before .before .before .before .before .stmt2 .result) (c .before .before .before .before .before .before .stmt2 .ensures .0)) .within, omega arith))
-
-stmt-errors-node-requires-3 : (t : ℕ) → stmt-errors-lts.Need-node-requires-3 (stmt-reads.Asked, stmt-reads.Learnt, own-errors-reads.Asked, own-errors-reads.Learnt, node-reads.Asked, node-reads.Learnt, missing-error-reads.Asked, missing-error-reads.Learnt, builder-below t, builder.Post, order-errors-reads.Asked, order-errors-reads.Learnt) (stmt-errors-at t) stmt-errors.Post
-stmt-errors-node-requires-3 t c κs = (c .before .before .before .before .before .before .before .before .before .before .before .before .pre .1 .0 .opened, ((call-in (c .before .before .before .before .before .before .before .before .before .before .before .before .pre .1 .0 .opened) (c .before .before .before .before .before .before .before .before .before .before .before .before .args .q) (c .before .before .before .before .before .before .before .before .before .before .before .before .pre .1 .2) (c .before .before .before .before .before .before .before .before .before .stmt .result) (c .before .before .before .before .before .before .before .before .before .stmt .ensures .0) (c .before .before .before .before .before .before .before .before .if1 .left) (c .before .before .before .before .before .before .before .stmt2 .result) (c .before .before .before .before .before .before .before .stmt2 .ensures .0)) .within, omega arith))
-
-stmt-errors-sub-total : (t : ℕ) → stmt-errors-lts.Need-sub-total (stmt-reads.Asked, stmt-reads.Learnt, own-errors-reads.Asked, own-errors-reads.Learnt, node-reads.Asked, node-reads.Learnt, missing-error-reads.Asked, missing-error-reads.Learnt, builder-below t, builder.Post, order-errors-reads.Asked, order-errors-reads.Learnt) (stmt-errors-at t) stmt-errors.Post
-stmt-errors-sub-total t c = omega (arith, c .node3 .ensures .0, call-sized (call-in (c .before .before .before .before .before .before .before .before .before .before .before .before .before .pre .1 .0 .opened) (c .before .before .before .before .before .before .before .before .before .before .before .before .before .args .q) (c .before .before .before .before .before .before .before .before .before .before .before .before .before .pre .1 .2) (c .before .before .before .before .before .before .before .before .before .before .stmt .result) (c .before .before .before .before .before .before .before .before .before .before .stmt .ensures .0) (c .before .before .before .before .before .before .before .before .before .if1 .left) (c .before .before .before .before .before .before .before .before .stmt2 .result) (c .before .before .before .before .before .before .before .before .stmt2 .ensures .0)))
-
-stmt-errors-order-errors-requires : (t : ℕ) → stmt-errors-lts.Need-order-errors-requires (stmt-reads.Asked, stmt-reads.Learnt, own-errors-reads.Asked, own-errors-reads.Learnt, node-reads.Asked, node-reads.Learnt, missing-error-reads.Asked, missing-error-reads.Learnt, builder-below t, builder.Post, order-errors-reads.Asked, order-errors-reads.Learnt) (stmt-errors-at t) stmt-errors.Post
-stmt-errors-order-errors-requires t c κs = (call-args (call-in (c .before .before .before .before .before .before .before .before .before .before .before .before .before .before .pre .1 .0 .opened) (c .before .before .before .before .before .before .before .before .before .before .before .before .before .before .args .q) (c .before .before .before .before .before .before .before .before .before .before .before .before .before .before .pre .1 .2) (c .before .before .before .before .before .before .before .before .before .before .before .stmt .result) (c .before .before .before .before .before .before .before .before .before .before .before .stmt .ensures .0) (c .before .before .before .before .before .before .before .before .before .before .if1 .left) (c .before .before .before .before .before .before .before .before .before .stmt2 .result) (c .before .before .before .before .before .before .before .before .before .stmt2 .ensures .0)) (c .before .before .node2 .result) (c .before .node3 .result) (c .before .before .node2 .ensures .0) (c .before .node3 .ensures .0), room-then (submodel-found (c .before .before .before .before .before .before .before .before .before .before .before .before .before .before .pre .1 .0) (c .before .before .before .before .before .before .before .before .before .before .before .before .before .before .args .q) (c .before .before .before .before .before .before .before .before .before .before .before .before .before .before .pre .1 .2) (c .before .before .before .before .before .before .before .before .before .before .before .stmt .result) (c .before .before .before .before .before .before .before .before .before .before .before .stmt .ensures .0) (c .before .before .before .before .before .before .before .before .before .before .if1 .left) (c .before .before .before .before .before .before .before .before .before .stmt2 .result) (c .before .before .before .before .before .before .before .before .before .stmt2 .ensures .0) (λ j. errorsOf (fileIn (c .before .before .before .before .before .before .before .before .before .before .before .before .before .before .args .f .now) (c .before .before .before .before .before .before .before .before .before .before .before .before .before .before .args .s)) (c .before .before .before .before .before .before .before .before .before .before .before .before .before .before .args .k) j) (scopeIn (c .before .before .before .before .before .before .before .before .before .before .before .before .before .before .args .f .now) (c .before .before .before .before .before .before .before .before .before .before .before .before .before .before .args .s) (c .before .before .before .before .before .before .before .before .before .before .before .before .before .before .args .m)) (c .before .before .before .before .before .before .before .if2 .left) (c .before .before .node2 .result) (c .before .node3 .result) (c .before .before .node2 .ensures .0) (c .before .node3 .ensures .0)) _ _ (c .before .before .before .before .before .before .before .before .before .before .before .before .before .before .pre .1 .4) (c .before .before .before .before .before .builder .ensures))
-
-stmt-errors-same-length-3 : (t : ℕ) → stmt-errors-lts.Need-same-length-3 (stmt-reads.Asked, stmt-reads.Learnt, own-errors-reads.Asked, own-errors-reads.Learnt, node-reads.Asked, node-reads.Learnt, missing-error-reads.Asked, missing-error-reads.Learnt, builder-below t, builder.Post, order-errors-reads.Asked, order-errors-reads.Learnt) (stmt-errors-at t) stmt-errors.Post
-stmt-errors-same-length-3 t c = omega arith
-
-stmt-errors-returns-3 : (t : ℕ) → stmt-errors-lts.Need-returns-3 (stmt-reads.Asked, stmt-reads.Learnt, own-errors-reads.Asked, own-errors-reads.Learnt, node-reads.Asked, node-reads.Learnt, missing-error-reads.Asked, missing-error-reads.Learnt, builder-below t, builder.Post, order-errors-reads.Asked, order-errors-reads.Learnt) (stmt-errors-at t) stmt-errors.Post
-stmt-errors-returns-3 t c = lists-then (submodel-found (c .before .before .before .before .before .before .before .before .before .before .before .before .before .before .before .before .before .pre .1 .0) (c .before .before .before .before .before .before .before .before .before .before .before .before .before .before .before .before .before .args .q) (c .before .before .before .before .before .before .before .before .before .before .before .before .before .before .before .before .before .pre .1 .2) (c .before .before .before .before .before .before .before .before .before .before .before .before .before .before .stmt .result) (c .before .before .before .before .before .before .before .before .before .before .before .before .before .before .stmt .ensures .0) (c .before .before .before .before .before .before .before .before .before .before .before .before .before .if1 .left) (c .before .before .before .before .before .before .before .before .before .before .before .before .stmt2 .result) (c .before .before .before .before .before .before .before .before .before .before .before .before .stmt2 .ensures .0) (λ j. errorsOf (fileIn (c .before .before .before .before .before .before .before .before .before .before .before .before .before .before .before .before .before .args .f .now) (c .before .before .before .before .before .before .before .before .before .before .before .before .before .before .before .before .before .args .s)) (c .before .before .before .before .before .before .before .before .before .before .before .before .before .before .before .before .before .args .k) j) (scopeIn (c .before .before .before .before .before .before .before .before .before .before .before .before .before .before .before .before .before .args .f .now) (c .before .before .before .before .before .before .before .before .before .before .before .before .before .before .before .before .before .args .s) (c .before .before .before .before .before .before .before .before .before .before .before .before .before .before .before .before .before .args .m)) (c .before .before .before .before .before .before .before .before .before .before .if2 .left) (c .before .before .before .before .before .node2 .result) (c .before .before .before .before .node3 .result) (c .before .before .before .before .before .node2 .ensures .0) (c .before .before .before .before .node3 .ensures .0)) _ _ _ _ _ _ (c .before .before .before .before .before .before .before .before .builder .ensures) (c .before .before .order-errors .ensures)
-
-pub +builder+stmt-errors-spec : {M : Type 1} → statement M
-+builder+stmt-errors-spec = close μ-builder μ-stmt-errors (λ t. builder-lts.spec (model-vars-reads.Asked, model-vars-reads.Learnt, model-reads.Asked, model-reads.Learnt, unknowns-errors-reads.Asked, unknowns-errors-reads.Learnt, stmt-errors-below t, stmt-errors.Post)
+pub +add-submodel+builder+stmt-errors-spec : {M : Type 1} → statement M
++add-submodel+builder+stmt-errors-spec =
+    close μ-add-submodel μ-builder μ-stmt-errors (λ t. add-submodel-lts.spec (stmt-reads.Asked, stmt-reads.Learnt, node-reads.Asked, node-reads.Learnt, missing-error-reads.Asked, missing-error-reads.Learnt, builder-below t, builder.Post, order-errors-reads.Asked, order-errors-reads.Learnt)
+    (add-submodel-at t)
+    add-submodel.Post
+    (add-submodel-stmt-requires t)
+    (add-submodel-element-copy-out-c t)
+    (add-submodel-cast-c t)
+    (add-submodel-node-requires t)
+    (add-submodel-missing-error-requires t)
+    (add-submodel-same-length t)
+    (add-submodel-returns t)
+    (add-submodel-sub-builder t)
+    (add-submodel-builder-requires t)
+    (add-submodel-node-requires-2 t)
+    (add-submodel-node-requires-3 t)
+    (add-submodel-sub-total t)
+    (add-submodel-order-errors-requires t)
+    (add-submodel-same-length-2 t)
+    (add-submodel-returns-2 t))
+    (λ t. builder-lts.spec (model-vars-reads.Asked, model-vars-reads.Learnt, model-reads.Asked, model-reads.Learnt, unknowns-errors-reads.Asked, unknowns-errors-reads.Learnt, stmt-errors-below t, stmt-errors.Post)
     (builder-at t)
     builder.Post
     builder-Inv-loop
@@ -178,25 +224,13 @@ pub +builder+stmt-errors-spec : {M : Type 1} → statement M
     (builder-loop-again t)
     (builder-same-length t)
     (builder-returns-2 t))
-    λ t. stmt-errors-lts.spec (stmt-reads.Asked, stmt-reads.Learnt, own-errors-reads.Asked, own-errors-reads.Learnt, node-reads.Asked, node-reads.Learnt, missing-error-reads.Asked, missing-error-reads.Learnt, builder-below t, builder.Post, order-errors-reads.Asked, order-errors-reads.Learnt)
+    λ t. stmt-errors-lts.spec (stmt-reads.Asked, stmt-reads.Learnt, own-errors-reads.Asked, own-errors-reads.Learnt, add-submodel-below t, add-submodel.Post)
     (stmt-errors-at t)
     stmt-errors.Post
     (stmt-errors-stmt-requires t)
     (stmt-errors-own-errors-requires t)
     (stmt-errors-same-length t)
     (stmt-errors-returns t)
-    (stmt-errors-stmt-requires-2 t)
-    (stmt-errors-element-copy-out-c t)
-    (stmt-errors-cast-c t)
-    (stmt-errors-node-requires t)
-    (stmt-errors-missing-error-requires t)
+    (stmt-errors-add-submodel-requires t)
     (stmt-errors-same-length-2 t)
     (stmt-errors-returns-2 t)
-    (stmt-errors-sub-builder t)
-    (stmt-errors-builder-requires t)
-    (stmt-errors-node-requires-2 t)
-    (stmt-errors-node-requires-3 t)
-    (stmt-errors-sub-total t)
-    (stmt-errors-order-errors-requires t)
-    (stmt-errors-same-length-3 t)
-    (stmt-errors-returns-3 t)
