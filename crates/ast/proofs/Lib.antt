@@ -37,3 +37,4 @@ pub mod Encoded
 pub mod WrittenBytes
 pub mod Accepted
 pub mod Rewritten
+pub mod Viewed

@@ -13,3 +13,4 @@ pub mod WellFormed
 pub mod Opens
 pub mod Rows
 pub mod Computes
+pub mod Numbered

@@ -1,6 +1,6 @@
 //! Stands in where the original source files are not there: nothing can be run.
 
-use report::{Built, Outcome, Request};
+use report::{Built, Outcome, Request, Step};
 use treefile::File;
 
 const ABSENT: &str = "the original source is not available; ask available() first";
@@ -12,5 +12,10 @@ pub fn run(_: &File, _: &[u8], _: &Request) -> Outcome {
 
 /// Cannot be called: see [`crate::available`].
 pub fn plain(_: &File, _: &[u8]) -> Option<Built> {
+    panic!("{ABSENT}")
+}
+
+/// Cannot be called: see [`crate::available`].
+pub fn bare(_: &[u8], _: &[u8], _: impl FnMut(Step)) -> bool {
     panic!("{ABSENT}")
 }

@@ -12,7 +12,7 @@ use treefile::{File, Span};
 /// A file to be turned into trees.
 pub struct Converter<'s> {
     pub file: &'s File,
-    pub texts: &'s Texts,
+    pub texts: &'s Texts<'s>,
     pub spans: Spans,
 }
 
@@ -69,7 +69,7 @@ impl<'s> Converter<'s> {
             _ => AstKind::Submodel(Submodel {
                 name: self.texts.text(self.file.nodes[right].name),
                 local_name: "",
-                args: self.children(right),
+                args: self.arguments(right),
             }),
         };
         self.ast(kind, Origin::Stmt(s), stmt.span)
@@ -79,35 +79,51 @@ impl<'s> Converter<'s> {
         let node = &self.file.nodes[i];
         let text = |name| self.texts.text(name);
         let op = node.op as u8 as char;
-        let mut children = self.children(i).into_iter();
-        let mut child = || children.next().expect("a child");
         let kind = match node.kind {
             node::NAME => AstKind::new_name(text(node.name)),
             node::NUMBER => AstKind::new_num(f64::from_bits(node.number)),
             node::BINARY => AstKind::Binop(Binop {
                 op,
-                left: child(),
-                right: child(),
+                left: self.boxed(i - 1 - self.size(i - 1)),
+                right: self.boxed(i - 1),
             }),
-            node::UNARY => AstKind::Monop(Monop { op, child: child() }),
+            node::UNARY => AstKind::Monop(Monop {
+                op,
+                child: self.boxed(i - 1),
+            }),
             node::CALL => AstKind::Call(Call {
                 fn_name: text(node.name),
-                args: children.collect(),
+                args: self.arguments(i),
                 is_tangent: false,
             }),
             _ => AstKind::CallArg(CallArg {
                 name: node.name.checked_sub(1).map(text),
-                expression: child(),
+                expression: self.boxed(i - 1),
             }),
         };
         self.ast(kind, Origin::Node(i), node.span)
     }
 
-    /// Boxed one by one, as the original wants them.
+    fn boxed(&self, i: usize) -> Box<Ast<'s>> {
+        Box::new(self.expr(i))
+    }
+
+    fn size(&self, i: usize) -> usize {
+        self.file.nodes[i].size as usize
+    }
+
+    /// The arguments of a call, boxed one by one, as the original wants them.
     #[allow(clippy::vec_box)]
-    fn children(&self, i: usize) -> Vec<Box<Ast<'s>>> {
-        let children = self.file.children(i).into_iter();
-        children.map(|child| Box::new(self.expr(child))).collect()
+    fn arguments(&self, call: usize) -> Vec<Box<Ast<'s>>> {
+        let mut end = call;
+        let last_first = (0..self.file.nodes[call].op).map(|_| {
+            let argument = self.boxed(end - 1);
+            end -= self.size(end - 1);
+            argument
+        });
+        let mut arguments: Vec<_> = last_first.collect();
+        arguments.reverse();
+        arguments
     }
 
     fn ast(&self, kind: AstKind<'s>, origin: Origin, own: Span) -> Ast<'s> {

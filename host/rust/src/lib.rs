@@ -3,6 +3,8 @@
 //! `rust_unmodified`.
 
 #[cfg(not(no_source))]
+mod bare;
+#[cfg(not(no_source))]
 mod convert;
 #[cfg(not(no_source))]
 mod extract;
@@ -31,12 +33,15 @@ extern crate self as pest;
 pub use shims::{dlsym, Span, RTLD_DEFAULT};
 
 #[cfg(not(no_source))]
-pub use run::{plain, run};
+pub use {
+    bare::bare,
+    run::{plain, run},
+};
 
 #[cfg(no_source)]
 mod absent;
 #[cfg(no_source)]
-pub use absent::{plain, run};
+pub use absent::{bare, plain, run};
 
 /// Whether the original source files were there when this was compiled.
 pub fn available() -> bool {

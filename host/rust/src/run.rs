@@ -58,7 +58,7 @@ pub fn plain(file: &File, root: &[u8]) -> Option<Built> {
 struct Watch<'s> {
     root: &'s str,
     models: &'s [Ast<'s>],
-    texts: &'s Texts,
+    texts: &'s Texts<'s>,
     request: &'s Request<'s>,
 }
 
@@ -179,7 +179,7 @@ fn put_back<'s>(kept: Vec<(Cell<'s>, Vec<Cell<'s>>)>) {
 }
 
 /// Cuts cycles of dependents, which would never be freed.
-fn release(info: &ModelInfo) {
+pub fn release(info: &ModelInfo) {
     for cell in access::variables(info) {
         cell.borrow_mut().dependents.clear();
     }

@@ -1,23 +1,32 @@
 //! A text for each name of a file. Names of letters, digits and underscores keep theirs; every other name gets one that
 //! no such name has, so that messages can be taken apart without doubt.
 
+use std::borrow::Cow;
 use std::collections::HashMap;
 use treefile::File;
 
 /// The texts of a file's names, and back.
-pub struct Texts {
-    texts: Vec<String>,
+pub struct Texts<'f> {
+    texts: Vec<Cow<'f, str>>,
     numbers: HashMap<String, u32>,
 }
 
-impl Texts {
-    /// The texts of this file's names.
-    pub fn of(file: &File) -> Texts {
-        let texts: Vec<String> = (0..file.names.len())
-            .map(|n| plain(file.name(n as u32)).unwrap_or_else(|| format!("#{n}")))
-            .collect();
-        let numbers = texts.iter().cloned().zip(0..).collect();
-        Texts { texts, numbers }
+impl<'f> Texts<'f> {
+    /// The texts of this file's names, and back.
+    pub fn of(file: &'f File) -> Texts<'f> {
+        let mut texts = Texts::one_way(file);
+        let owned = texts.texts.iter().map(|text| text.to_string());
+        texts.numbers = owned.zip(0..).collect();
+        texts
+    }
+
+    /// The texts of this file's names, and no way back: no text has a number.
+    pub fn one_way(file: &'f File) -> Texts<'f> {
+        let text = |n| plain(file.name(n)).map_or_else(|| format!("#{n}").into(), Cow::from);
+        Texts {
+            texts: (0..file.names.len() as u32).map(text).collect(),
+            numbers: HashMap::new(),
+        }
     }
 
     /// The text of a name.
@@ -33,15 +42,15 @@ impl Texts {
     /// The text of a root name, which need not be a name of the file.
     pub fn root(&self, file: &File, root: &[u8]) -> String {
         match (0..file.names.len()).find(|&n| file.name(n as u32) == root) {
-            Some(n) => self.texts[n].clone(),
-            None => plain(root).unwrap_or_else(|| "#".to_string()),
+            Some(n) => self.texts[n].to_string(),
+            None => plain(root).unwrap_or("#").to_string(),
         }
     }
 }
 
 /// The bytes as text, if they are letters, digits and underscores only and at least one.
-fn plain(bytes: &[u8]) -> Option<String> {
+fn plain(bytes: &[u8]) -> Option<&str> {
     let fits = |b: &u8| b.is_ascii_alphanumeric() || *b == b'_';
-    (!bytes.is_empty() && bytes.iter().all(fits))
-        .then(|| String::from_utf8_lossy(bytes).into_owned())
+    let text = std::str::from_utf8(bytes).ok()?;
+    (!bytes.is_empty() && bytes.iter().all(fits)).then_some(text)
 }

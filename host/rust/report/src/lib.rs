@@ -174,3 +174,14 @@ impl Request<'static> {
         walks: &[],
     };
 }
+
+/// A step of a bare run, from a tree file to what the original builds of it.
+#[derive(Clone, Copy, Debug, PartialEq, Eq)]
+pub enum Step {
+    /// The file is read and checked.
+    Read,
+    /// The original's trees are made.
+    Made,
+    /// `ModelInfo::build` has returned.
+    Built,
+}

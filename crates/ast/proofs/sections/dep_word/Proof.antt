@@ -18,7 +18,7 @@ cast-result : tie.Need-cast-result
 cast-result c = search needs
 
 returns : tie.Need-returns
-returns c = c .read-word .ensures ∙ sym (dep-at (c .before .before .args .f .now) (c .before .before .args .at) (c .before .before .args .n) (c .before .before .args .i) (omega arith) (omega arith))
+returns c = (c .read-word .ensures ∙ sym (dep-at (c .before .before .args .f .now) (c .before .before .args .at) (c .before .before .args .n) (c .before .before .args .i) (omega arith) (omega arith)), omega arith)
 
 pub dep-word-spec : {M : Type 1} → statement M
 dep-word-spec =
