@@ -1,12 +1,13 @@
 -- What a build answers, step by step as the code takes them: the file opened, the root found, the model measured, its answer handed over.
-use mathlib.Core.Path.{_≡_, refl, sym, ap}
-use mathlib.Core.List.{List}
+use mathlib.Core.Path.{_≡_, refl, sym, ap, _∙_}
+use mathlib.Core.List.{List, _++_}
 use mathlib.Core.Bool.{Bool, true, false, cond}
 use mathlib.Core.Option.{Option, none, some}
 use Prim.Native.Nat.{ℕ, _-_, _≤_}
 use native.Mathlib.Omega.{arith}
 use lib.Dec.{eqb}
-use lib.ListN.{length, take, getD}
+use lib.ListN.{length, take, drop, getD, length-drop, length-append}
+use lib.Seq.{take-append-le}
 use Rattle.functions.specs.Lists.{sumOf, plusOne}
 use Rattle.functions.proofs.Lists.{clash}
 use Rattle.ast.specs.Tree.{File, flatSize}
@@ -17,7 +18,7 @@ use Rattle.ast.specs.declared.open.Opened.the-variants as opens-as
 use Rattle.ast.specs.Opens.{outcome, opens}
 use Rattle.builder.specs.Flatten.{instances, cyclic, selfListed, overfull}
 use Rattle.builder.specs.Answer.{Answer}
-use Rattle.builder.specs.Build.{Result, refusal, accepted, tooBig, anyShort, allocated, answerOfModel, rootOf, answerOfRoot, answerInFile, answer, fitted, written, build}
+use Rattle.builder.specs.Build.{Result, refusal, accepted, tooBig, anyShort, allocated, answerOfModel, rootOf, answerOfRoot, answerInFile, answer, fitted, written, build, told, resultArea}
 use Rattle.builder.specs.Root.{flatsOf, scopeAt, answerAt, forbiddenOf, sizeOf, measureOf, given, usedIn, bytesIn, fittedIn}
 use Rattle.builder.specs.declared.measure.Measured as measured
 use Rattle.builder.specs.declared.measure.Measured.the-variants.{Refused, Sized}
@@ -85,6 +86,24 @@ hands-used room a n b e = ap (λ (x : answered.Answered). fittedIn room (given x
 pub used-is : (a : answered.Answered) (n : ℕ) → a ≡ is.Used n → usedIn a ≡ n
 unfolding usedIn
 used-is a n e = ap usedIn e
+
+-- at the front of an area
+given-front : (a : answered.Answered) (ys rest : List ℕ) → usedIn a ≤ length ys → given a (ys ++ rest) ≡ given a ys
+unfolding given usedIn
+given-front (is.Refused k) ys rest h = refl
+given-front (is.Used n) ys rest h = ap accepted (take-append-le n ys rest h)
+
+-- and kept there
+pub given-within : (area ys last : List ℕ) (a : answered.Answered) (r : ℕ) (b : Result (List ℕ)) → 55384 ≤ length area
+    → (given a ys ≡ b) × (usedIn a ≤ 55384) → length ys ≡ 55384
+    → (r ≡ told (fittedIn (length (ys ++ drop 55384 area)) (given a (ys ++ drop 55384 area))))
+    × (last ≡ resultArea (length (ys ++ drop 55384 area)) (fittedIn (length (ys ++ drop 55384 area)) (given a (ys ++ drop 55384 area))))
+    → (r ≡ told (fittedIn (length area) b)) × (last ≡ resultArea (length area) (fittedIn (length area) b))
+given-within area ys last a r b h g l k =
+    let room : length (ys ++ drop 55384 area) ≡ length area = simp (length-append, length-drop) (omega (arith, l, h)) in
+    let same : given a (ys ++ drop 55384 area) ≡ b = given-front a ys (drop 55384 area) (omega (arith, g .1, l)) ∙ g .0 in
+    let e : fittedIn (length (ys ++ drop 55384 area)) (given a (ys ++ drop 55384 area)) ≡ fittedIn (length area) b = ap (λ (n : ℕ). fittedIn n (given a (ys ++ drop 55384 area))) room ∙ ap (fittedIn (length area)) same in
+    (k .0 ∙ ap told e, k .1 ∙ ap (λ (n : ℕ). resultArea n (fittedIn (length (ys ++ drop 55384 area)) (given a (ys ++ drop 55384 area)))) room ∙ ap (resultArea (length area)) e)
 
 -- ---- a build
 

@@ -47,8 +47,8 @@ module _ (f : List ℕ) (s : Sections) (rows : List ℕ) (m : ℕ) where
   flats-root = map-none (flatten (fileIn f s) (s .counts .models) m) ∙ ap (λ (k : ℕ). flatten (fileIn f s) k m) (sym (models-long f s))
 
   -- there is a row for each model
-  pub rows-room : Open f s → length rows ≡ 8192 → (0 + s .counts .models ≤ 32) × (256 * (0 + s .counts .models) ≤ length rows)
-  rows-room o l = (omega (arith, o .laid .within .models), omega (arith, o .laid .within .models, l))
+  pub rows-room : Open f s → 256 * s .counts .models ≤ length rows → (0 + s .counts .models ≤ 32) × (256 * (0 + s .counts .models) ≤ length rows)
+  rows-room o l = (omega (arith, o .laid .within .models), omega (arith, l))
 
   -- there is room for the nodes
   pub nodes-room : (d : List ℕ) → sumOf flatSize (flatsOf (fileIn f s) m) ≤ 1024 → length d ≡ 55384
@@ -59,14 +59,14 @@ module _ (f : List ℕ) (s : Sections) (rows : List ℕ) (m : ℕ) where
       (omega (arith, e, h), omega (arith, e, h, l, lent-long d 40))
 
   -- the nodes are laid
-  pub nodes-laid : (d ys rows′ : List ℕ) (r : ℕ) → length d ≡ 55384 → length rows ≡ 8192
+  pub nodes-laid : (d ys rows′ : List ℕ) (r : ℕ) → length d ≡ 55384 → 256 * s .counts .models ≤ length rows
       → (r ≡ 0 + sumOf flatSize (flatAt f s rows 0 (s .counts .models) m))
       × (ys ≡ put (take (length d - 40) (drop 40 d)) (32 * 0) (encode (each flatNodes (flatAt f s rows 0 (s .counts .models) m))))
       × RowsKept f s 0 rows rows′
       → (take 40 d ++ (ys ++ drop (length d - 40) (drop 40 d)) ≡ put d 40 (encode (each flatNodes (flatsOf (fileIn f s) m))))
-      × (length rows′ ≡ 8192) × RowsIn f s rows′
+      × (256 * s .counts .models ≤ length rows′) × RowsIn f s rows′
   nodes-laid d ys rows′ r l h g =
-      (lent-start d (encode (each flatNodes (flatsOf (fileIn f s) m))) ys 40 (omega (arith, l)) (g .1 ∙ ap (λ (qs : List Flat). put (take (length d - 40) (drop 40 d)) 0 (encode (each flatNodes qs))) flats-root), g .2 .0 ∙ h, g .2 .2)
+      (lent-start d (encode (each flatNodes (flatsOf (fileIn f s) m))) ys 40 (omega (arith, l)) (g .1 ∙ ap (λ (qs : List Flat). put (take (length d - 40) (drop 40 d)) 0 (encode (each flatNodes qs))) flats-root), omega (arith, g .2 .0, h), g .2 .2)
 
   -- there is room for the records
   pub stmts-room : (d : List ℕ) (at : ℕ) → sumOf flatSize (flatsOf (fileIn f s) m) ≤ 1024 → length (flatsOf (fileIn f s) m) ≤ 256 → at + 8192 ≤ length d

@@ -111,5 +111,5 @@ module _ (f : File) (m k : ℕ) (ek : length (f .models) ≡ k) where
             over-none i q n hi hq hn ∙ ap (λ (x : ℕ). sizing x q n) ai ∙ ap (λ (x : ℕ). sizing (instances f k m) x n) aq ∙ ap (λ (x : ℕ). sizing (instances f k m) (length (flatten f k m)) x) an ∙ size-at
 
 -- rows for all levels
-pub rows-room : (k l : ℕ) → k ≤ 32 → l ≡ 8192 → 256 * (0 + k) ≤ l
-rows-room k l h e = omega arith
+pub rows-room : (k l : ℕ) → 256 * k ≤ l → 256 * (0 + k) ≤ l
+rows-room k l h = omega arith

@@ -71,6 +71,15 @@ module _ (own area area′ last : List ℕ) (used : ℕ) (long : used ≤ length
   unfolding fitted
   not-handed h = rw (cut, lt-leb used (length area) h) refl
 
+-- an answer that stands at the front of the area
+pub kept : (area last : List ℕ) (used : ℕ) → used ≤ length area → last ≡ take used area ++ replicate (length area - used) 0
+    → (4294967296 * used ≡ told (fitted (length area) (take used area))) × (last ≡ resultArea (length area) (fitted (length area) (take used area)))
+unfolding told fitted resultNumber resultUsed resultArea
+kept area last used h g =
+    let cut : length (take used area) ≡ used = length-take-le used area h in
+    let fits : leb (length (take used area)) (length area) ≡ true = rw cut (le-leb used (length area) h) in
+    (rw (fits, cut) (omega arith), rw fits (g ∙ rw cut refl))
+
 pub cleared : (area last : List ℕ) (n : ℕ) → last ≡ take 0 area ++ replicate (length area - 0) 0 → (n ≡ told (refusal n)) × (last ≡ resultArea (length area) (refusal n))
 unfolding told resultNumber resultUsed resultArea
 cleared area last n e = (omega arith, rw sub-zero at e)

@@ -1,15 +1,18 @@
 // `build`: from a tree file and a root name to an answer area.
 ghost use mathlib.Core.Path.{_≡_};
-ghost use Prim.Native.Nat.{_≤_, _<_};
+ghost use Prim.Native.Nat.{_*_, _≤_, _<_};
 ghost use lib.ListN.{length};
 ghost use Rattle.ast.specs.Opens.{Open, fileIn};
 ghost use Rattle.ast.specs.File.{openFile, opened};
 ghost use Rattle.builder.specs.Build as definition;
 ghost use Rattle.builder.specs.Build.{answerOfModel, told, resultArea};
+ghost use Rattle.builder.specs.Tables.{Classes, Callees};
+ghost use Rattle.builder.specs.Descent.{RowsIn};
 ghost use Rattle.builder.specs.Root.{given, usedIn, bytesIn, fittedIn};
 use super::filling::Answered;
 use super::filling::fill;
 use super::laying::blank;
+use super::laying::few_rows;
 use super::laying::no_rows;
 use super::measure::Measured;
 use super::measure::measure;
@@ -17,11 +20,34 @@ use super::models::callees;
 use super::models::find_root;
 use super::names::classes;
 use super::names::rules;
+use super::output::clear;
 use super::output::hand_out;
 use super::output::refuse;
 use ast::open::Opened;
 use ast::open::open;
 use ast::sections::Sections;
+
+// The answer of model m, by the classes of the names, the submodel calls and rows for as many models as there are.
+fn answer_with(
+    f: &[u8],
+    s: Sections,
+    kinds: &[u8; 256],
+    calls: &[u8; 256],
+    rows: &mut [u32],
+    m: usize,
+    own: &mut [u8],
+) -> Answered
+    requires { ⌜ Open (now f) s × (m < s .counts .models) × (Classes (fileIn (now f) s .names) (now kinds) × (length (now kinds) ≡ 256) × Callees (now f) s (now calls)) × ((256 * s .counts .models ≤ length (now rows)) × RowsIn (now f) s (now rows)) × (length (now own) ≡ 55384) ⌝ }
+    ensures { λ a. ⌜ (given a (now (own .exit)) ≡ bytesIn (answerOfModel (fileIn (now (f .entry)) s) m)) × (usedIn a ≤ 55384) ⌝ }
+{
+    match measure(f, s, kinds, calls, rows, m) {
+        Measured::Refused(number) => Answered::Refused(number),
+        Measured::Sized(i, q, n) => {
+            let counts = rules(f, s);
+            fill(f, s, kinds, &counts, calls, rows, m, own, i, q, n)
+        }
+    }
+}
 
 // The answer of model m.
 fn answer(f: &[u8], s: Sections, m: usize, own: &mut [u8]) -> Answered
@@ -30,14 +56,12 @@ fn answer(f: &[u8], s: Sections, m: usize, own: &mut [u8]) -> Answered
 {
     let kinds = classes(f, s);
     let calls = callees(f, s);
-    let mut rows = no_rows();
-    match measure(f, s, &kinds, &calls, &mut rows, m) {
-        Measured::Refused(number) => Answered::Refused(number),
-        Measured::Sized(i, q, n) => {
-            let counts = rules(f, s);
-            fill(f, s, &kinds, &counts, &calls, &mut rows, m, own, i, q, n)
-        }
+    if s.counts.models <= 2 {
+        let mut rows = few_rows();
+        return answer_with(f, s, &kinds, &calls, &mut rows, m, own);
     }
+    let mut rows = no_rows();
+    answer_with(f, s, &kinds, &calls, &mut rows, m, own)
 }
 
 // A refusal, or the answer handed out.
@@ -51,6 +75,39 @@ fn hand_over(a: Answered, own: &[u8], area: &mut [u8]) -> u64
     }
 }
 
+// The same where the answer stands at the front of the area.
+fn keep(a: Answered, area: &mut [u8]) -> u64
+    requires { ⌜ (usedIn a ≤ 55384) × (55384 ≤ length (now area)) ⌝ }
+    ensures { λ r. ⌜ (r ≡ told (fittedIn (length (now (area .entry))) (given a (now (area .entry))))) × (now (area .exit) ≡ resultArea (length (now (area .entry))) (fittedIn (length (now (area .entry))) (given a (now (area .entry))))) ⌝ }
+{
+    match a {
+        Answered::Refused(number) => refuse(area, number),
+        Answered::Used(used) => {
+            clear(area, used);
+            4294967296 * (used as u64)
+        }
+    }
+}
+
+// The build of model m in an area too short for some answers: the answer is written apart.
+fn build_apart(file: &[u8], s: Sections, m: usize, area: &mut [u8]) -> u64
+    requires { ⌜ Open (now file) s × (m < s .counts .models) ⌝ }
+    ensures { λ r. ⌜ (r ≡ told (fittedIn (length (now (area .entry))) (bytesIn (answerOfModel (fileIn (now (file .entry)) s) m)))) × (now (area .exit) ≡ resultArea (length (now (area .entry))) (fittedIn (length (now (area .entry))) (bytesIn (answerOfModel (fileIn (now (file .entry)) s) m)))) ⌝ }
+{
+    let mut own = blank();
+    let a = answer(file, s, m, &mut own);
+    hand_over(a, &own, area)
+}
+
+// The build of model m in an area long enough for every answer: the answer is written at its front.
+fn build_within(file: &[u8], s: Sections, m: usize, area: &mut [u8]) -> u64
+    requires { ⌜ Open (now file) s × (m < s .counts .models) × (55384 ≤ length (now area)) ⌝ }
+    ensures { λ r. ⌜ (r ≡ told (fittedIn (length (now (area .entry))) (bytesIn (answerOfModel (fileIn (now (file .entry)) s) m)))) × (now (area .exit) ≡ resultArea (length (now (area .entry))) (fittedIn (length (now (area .entry))) (bytesIn (answerOfModel (fileIn (now (file .entry)) s) m)))) ⌝ }
+{
+    let a = answer(file, s, m, &mut area[..55384]);
+    keep(a, area)
+}
+
 // The build of an open file.
 fn build_opened(file: &[u8], s: Sections, root: &[u8], area: &mut [u8]) -> u64
     requires { ⌜ Open (now file) s × (openFile (now file) ≡ opened (fileIn (now file) s)) ⌝ }
@@ -60,9 +117,10 @@ fn build_opened(file: &[u8], s: Sections, root: &[u8], area: &mut [u8]) -> u64
     if m == 0 {
         return refuse(area, 5);
     }
-    let mut own = blank();
-    let a = answer(file, s, m - 1, &mut own);
-    hand_over(a, &own, area)
+    if area.len() < 55384 {
+        return build_apart(file, s, m - 1, area);
+    }
+    build_within(file, s, m - 1, area)
 }
 
 // The number in the low 32 bits, 0 or a refusal's, and the bytes used in the high ones.

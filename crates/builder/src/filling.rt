@@ -1,4 +1,4 @@
-// An answer written whole into an area of the builder's own.
+// An answer written whole into an area of 55,384 bytes.
 ghost use mathlib.Core.Path.{_≡_};
 ghost use mathlib.Core.Bool.{false, cond};
 ghost use Prim.Native.Nat.{_+_, _*_, min, _≤_, _<_};
@@ -237,7 +237,7 @@ pub fn fill(
     q: usize,
     n: usize,
 ) -> Answered
-    requires { ⌜ checking.Tabled (now f) s (now classes) (now rules) (now calls) × (length (now classes) ≡ 256) × (m < s .counts .models) × ((length (now rows) ≡ 8192) × RowsIn (now f) s (now rows)) × (length (now own) ≡ 55384) × ((i ≡ instances (fileIn (now f) s) (length (fileIn (now f) s .models)) m) × (q ≡ length (flatsOf (fileIn (now f) s) m)) × (n ≡ sumOf flatSize (flatsOf (fileIn (now f) s) m)) × (tooBig (fileIn (now f) s) m (flatsOf (fileIn (now f) s) m) ≡ false)) ⌝ }
+    requires { ⌜ checking.Tabled (now f) s (now classes) (now rules) (now calls) × (length (now classes) ≡ 256) × (m < s .counts .models) × ((256 * s .counts .models ≤ length (now rows)) × RowsIn (now f) s (now rows)) × (length (now own) ≡ 55384) × ((i ≡ instances (fileIn (now f) s) (length (fileIn (now f) s .models)) m) × (q ≡ length (flatsOf (fileIn (now f) s) m)) × (n ≡ sumOf flatSize (flatsOf (fileIn (now f) s) m)) × (tooBig (fileIn (now f) s) m (flatsOf (fileIn (now f) s) m) ≡ false)) ⌝ }
     ensures { λ a. ⌜ (given a (now (own .exit)) ≡ bytesIn (cond (anyShort (scopeAt (fileIn (now (f .entry)) s) m) (flatsOf (fileIn (now (f .entry)) s) m)) (refusal shortLeftSide) (accepted (answerAt (fileIn (now (f .entry)) s) m)))) × (usedIn a ≤ 55384) ⌝ }
 {
     let r = roster_of(f, s, classes, m);

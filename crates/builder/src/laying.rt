@@ -33,6 +33,13 @@ pub fn no_rows() -> [u32; 8192]
     [0u32; 8192]
 }
 
+// The same for 2 models.
+pub fn few_rows() -> [u32; 512]
+    ensures { λ r. ⌜ (length r ≡ 512) × ((n : ℕ) → getD r n 0 ≡ 0) ⌝ }
+{
+    [0u32; 512]
+}
+
 // An answer of the builder's own.
 pub fn blank() -> [u8; 55384]
     ensures { λ r. ⌜ length r ≡ 55384 ⌝ }
@@ -42,8 +49,8 @@ pub fn blank() -> [u8; 55384]
 
 // Writes the nodes behind the header.
 fn lay_nodes(f: &[u8], s: Sections, calls: &[u8; 256], rows: &mut [u32], m: usize, own: &mut [u8])
-    requires { ⌜ Open (now f) s × Callees (now f) s (now calls) × (m < s .counts .models) × ((length (now rows) ≡ 8192) × RowsIn (now f) s (now rows)) × ((sumOf flatSize (flatsOf (fileIn (now f) s) m) ≤ 1024) × (length (now own) ≡ 55384)) ⌝ }
-    ensures { λ _. ⌜ (now (own .exit) ≡ put (now (own .entry)) 40 (encode (each flatNodes (flatsOf (fileIn (now (f .entry)) s) m)))) × (length (now (rows .exit)) ≡ 8192) × RowsIn (now (f .entry)) s (now (rows .exit)) ⌝ }
+    requires { ⌜ Open (now f) s × Callees (now f) s (now calls) × (m < s .counts .models) × ((256 * s .counts .models ≤ length (now rows)) × RowsIn (now f) s (now rows)) × ((sumOf flatSize (flatsOf (fileIn (now f) s) m) ≤ 1024) × (length (now own) ≡ 55384)) ⌝ }
+    ensures { λ _. ⌜ (now (own .exit) ≡ put (now (own .entry)) 40 (encode (each flatNodes (flatsOf (fileIn (now (f .entry)) s) m)))) × (256 * s .counts .models ≤ length (now (rows .exit))) × RowsIn (now (f .entry)) s (now (rows .exit)) ⌝ }
 {
     write_nodes(f, s, calls, rows, s.counts.models, m, 0, &mut own[40..], 0);
 }
@@ -58,7 +65,7 @@ fn lay_stmts(
     own: &mut [u8],
     at: usize,
 )
-    requires { ⌜ Open (now f) s × Callees (now f) s (now calls) × (m < s .counts .models) × ((length (now rows) ≡ 8192) × RowsIn (now f) s (now rows)) × ((sumOf flatSize (flatsOf (fileIn (now f) s) m) ≤ 1024) × (length (flatsOf (fileIn (now f) s) m) ≤ 256) × (at + 8192 ≤ length (now own))) ⌝ }
+    requires { ⌜ Open (now f) s × Callees (now f) s (now calls) × (m < s .counts .models) × ((256 * s .counts .models ≤ length (now rows)) × RowsIn (now f) s (now rows)) × ((sumOf flatSize (flatsOf (fileIn (now f) s) m) ≤ 1024) × (length (flatsOf (fileIn (now f) s) m) ≤ 256) × (at + 8192 ≤ length (now own))) ⌝ }
     ensures { λ _. ⌜ now (own .exit) ≡ put (now (own .entry)) at (encode (unfated 0 (flatsOf (fileIn (now (f .entry)) s) m))) ⌝ }
 {
     let none = Done { stmts: 0, nodes: 0 };
@@ -85,7 +92,7 @@ pub fn lay_flats(
     own: &mut [u8],
     n: usize,
 )
-    requires { ⌜ Open (now f) s × Callees (now f) s (now calls) × (m < s .counts .models) × ((length (now rows) ≡ 8192) × RowsIn (now f) s (now rows)) × ((sumOf flatSize (flatsOf (fileIn (now f) s) m) ≤ 1024) × (length (flatsOf (fileIn (now f) s) m) ≤ 256) × (n ≡ sumOf flatSize (flatsOf (fileIn (now f) s) m)) × (length (now own) ≡ 55384)) ⌝ }
+    requires { ⌜ Open (now f) s × Callees (now f) s (now calls) × (m < s .counts .models) × ((256 * s .counts .models ≤ length (now rows)) × RowsIn (now f) s (now rows)) × ((sumOf flatSize (flatsOf (fileIn (now f) s) m) ≤ 1024) × (length (flatsOf (fileIn (now f) s) m) ≤ 256) × (n ≡ sumOf flatSize (flatsOf (fileIn (now f) s) m)) × (length (now own) ≡ 55384)) ⌝ }
     ensures { λ _. ⌜ now (own .exit) ≡ put (put (now (own .entry)) 40 (encode (each flatNodes (flatsOf (fileIn (now (f .entry)) s) m)))) (40 + 32 * n) (encode (unfated 0 (flatsOf (fileIn (now (f .entry)) s) m))) ⌝ }
 {
     lay_nodes(f, s, calls, rows, m, own);

@@ -1,6 +1,6 @@
 // Whether a root model can be built, and how big its answer is: refusals 6 to 9.
 ghost use mathlib.Core.Path.{_≡_};
-ghost use Prim.Native.Nat.{_<_};
+ghost use Prim.Native.Nat.{_*_, _≤_, _<_};
 ghost use lib.ListN.{length};
 ghost use Rattle.ast.specs.Opens.{Open, fileIn};
 ghost use Rattle.builder.specs.Tables.{Classes, Callees};
@@ -45,8 +45,8 @@ fn forbidden(f: &[u8], s: Sections, classes: &[u8; 256], calls: &[u8; 256], m: u
 
 // Refusal 9, or the sizes.
 fn size(f: &[u8], s: Sections, calls: &[u8; 256], rows: &mut [u32], m: usize) -> Measured
-    requires { ⌜ Open (now f) s × Callees (now f) s (now calls) × (m < s .counts .models) × (length (now rows) ≡ 8192) × RowsIn (now f) s (now rows) ⌝ }
-    ensures { λ r. ⌜ (r ≡ sizeOf (fileIn (now (f .entry)) s) m) × (length (now (rows .exit)) ≡ 8192) × RowsIn (now (f .entry)) s (now (rows .exit)) ⌝ }
+    requires { ⌜ Open (now f) s × Callees (now f) s (now calls) × (m < s .counts .models) × (256 * s .counts .models ≤ length (now rows)) × RowsIn (now f) s (now rows) ⌝ }
+    ensures { λ r. ⌜ (r ≡ sizeOf (fileIn (now (f .entry)) s) m) × (256 * s .counts .models ≤ length (now (rows .exit))) × RowsIn (now (f .entry)) s (now (rows .exit)) ⌝ }
 {
     let k = s.counts.models;
     let i = instances(f, s, calls, k, m, MOST_INSTANCES + 1);
@@ -73,8 +73,8 @@ pub fn measure(
     rows: &mut [u32],
     m: usize,
 ) -> Measured
-    requires { ⌜ Open (now f) s × Classes (fileIn (now f) s .names) (now classes) × Callees (now f) s (now calls) × (m < s .counts .models) × (length (now rows) ≡ 8192) × RowsIn (now f) s (now rows) ⌝ }
-    ensures { λ r. ⌜ (r ≡ measureOf (fileIn (now (f .entry)) s) m) × (length (now (rows .exit)) ≡ 8192) × RowsIn (now (f .entry)) s (now (rows .exit)) ⌝ }
+    requires { ⌜ Open (now f) s × Classes (fileIn (now f) s .names) (now classes) × Callees (now f) s (now calls) × (m < s .counts .models) × (256 * s .counts .models ≤ length (now rows)) × RowsIn (now f) s (now rows) ⌝ }
+    ensures { λ r. ⌜ (r ≡ measureOf (fileIn (now (f .entry)) s) m) × (256 * s .counts .models ≤ length (now (rows .exit))) × RowsIn (now (f .entry)) s (now (rows .exit)) ⌝ }
 {
     let number = forbidden(f, s, classes, calls, m);
     if number != 0 {

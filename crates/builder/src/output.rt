@@ -7,7 +7,7 @@ ghost use Rattle.ast.specs.Bytes.{front};
 ghost use Rattle.builder.specs.Build.{refusal, fitted, told, resultArea};
 
 // Zeros from a place to the end.
-fn clear(area: &mut [u8], from: usize)
+pub fn clear(area: &mut [u8], from: usize)
     requires { ⌜ from ≤ length (now area) ⌝ }
     ensures { λ _. ⌜ now (area .exit) ≡ take from (now (area .entry)) ++ replicate (length (now (area .entry)) - from) 0 ⌝ }
 {

@@ -2,7 +2,6 @@ use mathlib.Core.Path.{sym, ap, _∙_}
 use native.Mathlib.Omega.{arith}
 use lib.ListN.{length}
 use Rattle.builder.specs.Build.{told, resultArea}
-use Rattle.builder.specs.Root.{fittedIn}
 use Rattle.builder.proofs.Finding.{root-below}
 use Rattle.builder.proofs.Answers.{place-of, place-none, built-none, built-at}
 use borrow.Author.Needs.{needs}
@@ -19,31 +18,31 @@ same-length : tie.Need-same-length
 same-length c = search needs
 
 returns : tie.Need-returns
-returns c = let e = built-none _ (c .before .before .before .before .before .before .before .before .before .args .root .now) (length (c .before .before .before .before .before .before .before .before .before .args .area .now)) _ (c .before .before .before .before .before .before .before .before .before .pre .1) (place-none _ _ (c .before .before .before .before .before .find-root .ensures) (c .before .before .before .before .if1 .taken)) in (c .before .before .refuse .ensures .0 ∙ sym (ap told e), c .before .before .refuse .ensures .1 ∙ sym (ap (resultArea (length (c .before .before .before .before .before .before .before .before .before .args .area .now))) e))
+returns c = let room = length (c .before .before .before .before .before .before .before .before .before .args .area .now) in let e = built-none _ (c .before .before .before .before .before .before .before .before .before .args .root .now) room _ (c .before .before .before .before .before .before .before .before .before .pre .1) (place-none _ _ (c .before .before .before .before .before .find-root .ensures) (c .before .before .before .before .if1 .taken)) in (c .before .before .refuse .ensures .0 ∙ sym (ap told e), c .before .before .refuse .ensures .1 ∙ sym (ap (resultArea room) e))
 
-blank-requires : tie.Need-blank-requires
-blank-requires c κs = search needs
+sub-build-apart : tie.Need-sub-build-apart
+sub-build-apart c = search needs
 
-sub-answer : tie.Need-sub-answer
-sub-answer c = search needs
-
-slice-aggregate-answer : tie.Need-slice-aggregate-answer
-slice-aggregate-answer c = search needs
-
-answer-requires : tie.Need-answer-requires
-answer-requires c κs = (c .before .before .before .before .before .before .before .pre .0, omega (arith, c .before .before .before .find-root .ensures, c .before .before .if1 .left, root-below (c .before .before .before .before .before .before .before .args .file .now) (c .before .before .before .before .before .before .before .args .s) (c .before .before .before .before .before .before .before .args .root .now)), c .before .blank .ensures)
-
-slice-aggregate-hand-over : tie.Need-slice-aggregate-hand-over
-slice-aggregate-hand-over c = search needs
-
-hand-over-requires : tie.Need-hand-over-requires
-hand-over-requires c κs = search needs
+build-apart-requires : tie.Need-build-apart-requires
+build-apart-requires c κs = (c .before .before .before .before .before .before .before .pre .0, omega (arith, c .before .before .before .find-root .ensures, c .before .before .if1 .left, root-below (c .before .before .before .before .before .before .before .args .file .now) (c .before .before .before .before .before .before .before .args .s) (c .before .before .before .before .before .before .before .args .root .now)))
 
 same-length-2 : tie.Need-same-length-2
 same-length-2 c = search needs
 
 returns-2 : tie.Need-returns-2
-returns-2 c = let g = c .before .before .before .before .before .before .answer .ensures .0 in let e = built-at _ (c .before .before .before .before .before .before .before .before .before .before .before .before .before .before .args .root .now) (length (c .before .before .before .before .before .before .before .before .before .before .before .before .before .before .args .area .now)) _ (c .before .before .before .before .before .before .before .before .before .before .before .before .before .before .pre .1) _ (place-of _ _ (c .before .before .before .before .before .before .before .before .before .before .find-root .ensures) (c .before .before .before .before .before .before .before .before .before .if1 .left)) ∙ sym (ap (fittedIn (length (c .before .before .before .before .before .before .before .before .before .before .before .before .before .before .args .area .now))) g) in (c .before .before .hand-over .ensures .0 ∙ sym (ap told e), c .before .before .hand-over .ensures .1 ∙ sym (ap (resultArea (length (c .before .before .before .before .before .before .before .before .before .before .before .before .before .before .args .area .now))) e))
+returns-2 c = let room = length (c .before .before .before .before .before .before .before .before .before .before .args .area .now) in let e = built-at _ (c .before .before .before .before .before .before .before .before .before .before .args .root .now) room _ (c .before .before .before .before .before .before .before .before .before .before .pre .1) _ (place-of _ _ (c .before .before .before .before .before .before .find-root .ensures) (c .before .before .before .before .before .if1 .left)) in (c .before .before .build-apart .ensures .0 ∙ sym (ap told e), c .before .before .build-apart .ensures .1 ∙ sym (ap (resultArea room) e))
+
+sub-build-within : tie.Need-sub-build-within
+sub-build-within c = search needs
+
+build-within-requires : tie.Need-build-within-requires
+build-within-requires c κs = (c .before .before .before .before .before .before .before .pre .0, omega (arith, c .before .before .before .find-root .ensures, c .before .before .if1 .left, root-below (c .before .before .before .before .before .before .before .args .file .now) (c .before .before .before .before .before .before .before .args .s) (c .before .before .before .before .before .before .before .args .root .now)), omega (arith, c .before .if2 .left))
+
+same-length-3 : tie.Need-same-length-3
+same-length-3 c = search needs
+
+returns-3 : tie.Need-returns-3
+returns-3 c = let room = length (c .before .before .before .before .before .before .before .before .before .before .args .area .now) in let e = built-at _ (c .before .before .before .before .before .before .before .before .before .before .args .root .now) room _ (c .before .before .before .before .before .before .before .before .before .before .pre .1) _ (place-of _ _ (c .before .before .before .before .before .before .find-root .ensures) (c .before .before .before .before .before .if1 .left)) in (c .before .before .build-within .ensures .0 ∙ sym (ap told e), c .before .before .build-within .ensures .1 ∙ sym (ap (resultArea room) e))
 
 pub build-opened-spec : {M : Type 1} → statement M
 build-opened-spec =
@@ -53,11 +52,11 @@ build-opened-spec =
     refuse-requires
     same-length
     returns
-    blank-requires
-    sub-answer
-    slice-aggregate-answer
-    answer-requires
-    slice-aggregate-hand-over
-    hand-over-requires
+    sub-build-apart
+    build-apart-requires
     same-length-2
-    returns-2)
+    returns-2
+    sub-build-within
+    build-within-requires
+    same-length-3
+    returns-3)

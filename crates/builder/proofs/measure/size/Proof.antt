@@ -1,5 +1,5 @@
-use mathlib.Core.Path.{_∙_}
 use native.Mathlib.Omega.{arith}
+use lib.ListN.{length}
 use Rattle.ast.specs.Opens.{contentsIn, fileIn}
 use Rattle.builder.proofs.Open.{models-long}
 use Rattle.builder.proofs.Measures.{over-instances, over-stmts, over-nodes, sized, rows-room}
@@ -29,19 +29,19 @@ add-flat-nodes : tie.Need-add-flat-nodes
 add-flat-nodes c = search needs
 
 flat-nodes-requires : tie.Need-flat-nodes-requires
-flat-nodes-requires c κs = let p = c .before .before .before .before .before .before .before .pre in (p .0, p .1, p .2, (omega (arith, p .0 .laid .within .models), rows-room _ _ (p .0 .laid .within .models) (p .3), p .4))
+flat-nodes-requires c κs = let p = c .before .before .before .before .before .before .before .pre in (p .0, p .1, p .2, (omega (arith, p .0 .laid .within .models), rows-room (c .before .before .before .before .before .before .before .args .s .counts .models) (length (c .before .before .before .before .before .before .before .args .rows .now)) (p .3), p .4))
 
 same-length : tie.Need-same-length
 same-length c = search needs
 
 returns-3 : tie.Need-returns-3
-returns-3 c = (over-nodes (fileIn (c .before .before .before .before .before .before .before .before .before .before .before .args .f .now) (c .before .before .before .before .before .before .before .before .before .before .before .args .s)) (c .before .before .before .before .before .before .before .before .before .before .before .args .m) (c .before .before .before .before .before .before .before .before .before .before .before .args .s .counts .models) (models-long (c .before .before .before .before .before .before .before .before .before .before .before .args .f .now) (c .before .before .before .before .before .before .before .before .before .before .before .args .s)) _ (c .before .before .before .before .before .before .before .before .instances .ensures) _ (c .before .before .before .before .before .before .flat-stmts .ensures) (contentsIn (c .before .before .before .before .before .before .before .before .before .before .before .args .f .now) (c .before .before .before .before .before .before .before .before .before .before .before .args .s) .nodes) (c .before .before .before .before .before .before .before .before .before .before .before .args .rows .now) _ (c .before .before .before .flat-nodes .ensures .0) (c .if3 .taken), c .before .before .before .flat-nodes .ensures .1 .0 ∙ c .before .before .before .before .before .before .before .before .before .before .before .pre .3, c .before .before .before .flat-nodes .ensures .1 .2)
+returns-3 c = (over-nodes (fileIn (c .before .before .before .before .before .before .before .before .before .before .before .args .f .now) (c .before .before .before .before .before .before .before .before .before .before .before .args .s)) (c .before .before .before .before .before .before .before .before .before .before .before .args .m) (c .before .before .before .before .before .before .before .before .before .before .before .args .s .counts .models) (models-long (c .before .before .before .before .before .before .before .before .before .before .before .args .f .now) (c .before .before .before .before .before .before .before .before .before .before .before .args .s)) _ (c .before .before .before .before .before .before .before .before .instances .ensures) _ (c .before .before .before .before .before .before .flat-stmts .ensures) (contentsIn (c .before .before .before .before .before .before .before .before .before .before .before .args .f .now) (c .before .before .before .before .before .before .before .before .before .before .before .args .s) .nodes) (c .before .before .before .before .before .before .before .before .before .before .before .args .rows .now) _ (c .before .before .before .flat-nodes .ensures .0) (c .if3 .taken), omega (arith, c .before .before .before .flat-nodes .ensures .1 .0, c .before .before .before .before .before .before .before .before .before .before .before .pre .3), c .before .before .before .flat-nodes .ensures .1 .2)
 
 same-length-2 : tie.Need-same-length-2
 same-length-2 c = search needs
 
 returns-4 : tie.Need-returns-4
-returns-4 c = (sized (fileIn (c .before .before .before .before .before .before .before .before .before .before .before .args .f .now) (c .before .before .before .before .before .before .before .before .before .before .before .args .s)) (c .before .before .before .before .before .before .before .before .before .before .before .args .m) (c .before .before .before .before .before .before .before .before .before .before .before .args .s .counts .models) (models-long (c .before .before .before .before .before .before .before .before .before .before .before .args .f .now) (c .before .before .before .before .before .before .before .before .before .before .before .args .s)) _ (c .before .before .before .before .before .before .before .before .instances .ensures) _ (c .before .before .before .before .before .before .flat-stmts .ensures) (contentsIn (c .before .before .before .before .before .before .before .before .before .before .before .args .f .now) (c .before .before .before .before .before .before .before .before .before .before .before .args .s) .nodes) (c .before .before .before .before .before .before .before .before .before .before .before .args .rows .now) _ (c .before .before .before .flat-nodes .ensures .0) (c .before .before .before .before .before .before .before .if1 .left) (c .before .before .before .before .before .if2 .left) (c .if3 .left), c .before .before .before .flat-nodes .ensures .1 .0 ∙ c .before .before .before .before .before .before .before .before .before .before .before .pre .3, c .before .before .before .flat-nodes .ensures .1 .2)
+returns-4 c = (sized (fileIn (c .before .before .before .before .before .before .before .before .before .before .before .args .f .now) (c .before .before .before .before .before .before .before .before .before .before .before .args .s)) (c .before .before .before .before .before .before .before .before .before .before .before .args .m) (c .before .before .before .before .before .before .before .before .before .before .before .args .s .counts .models) (models-long (c .before .before .before .before .before .before .before .before .before .before .before .args .f .now) (c .before .before .before .before .before .before .before .before .before .before .before .args .s)) _ (c .before .before .before .before .before .before .before .before .instances .ensures) _ (c .before .before .before .before .before .before .flat-stmts .ensures) (contentsIn (c .before .before .before .before .before .before .before .before .before .before .before .args .f .now) (c .before .before .before .before .before .before .before .before .before .before .before .args .s) .nodes) (c .before .before .before .before .before .before .before .before .before .before .before .args .rows .now) _ (c .before .before .before .flat-nodes .ensures .0) (c .before .before .before .before .before .before .before .if1 .left) (c .before .before .before .before .before .if2 .left) (c .if3 .left), omega (arith, c .before .before .before .flat-nodes .ensures .1 .0, c .before .before .before .before .before .before .before .before .before .before .before .pre .3), c .before .before .before .flat-nodes .ensures .1 .2)
 
 pub size-spec : {M : Type 1} → statement M
 size-spec =

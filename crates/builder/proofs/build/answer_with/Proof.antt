@@ -1,0 +1,51 @@
+use mathlib.Core.Path.{sym, ap, _∙_}
+use Rattle.builder.specs.Root.{bytesIn}
+use Rattle.builder.proofs.Answers.{measured-refused, measured-sized, given-refused, used-refused}
+use borrow.Author.Needs.{needs}
+use Rattle.builder.proofs.build.answer_with.Statement.{statement}
+use Rattle.builder.proofs.build.answer_with.Tie as tie
+
+measure-requires : tie.Need-measure-requires
+measure-requires c κs = search needs
+
+enum-known-number : tie.Need-enum-known-number
+enum-known-number c = search needs
+
+enum-known-i : tie.Need-enum-known-i
+enum-known-i c = search needs
+
+rules-requires : tie.Need-rules-requires
+rules-requires c κs = search needs
+
+fill-requires : tie.Need-fill-requires
+fill-requires c κs = let z = measured-sized _ _ _ _ _ (sym (c .before .before .before .before .before .i .given .1) ∙ c .before .before .before .before .before .before .before .before .before .measure .ensures .0) in let p = c .before .before .before .before .before .before .before .before .before .before .before .before .before .before .pre in (record { opened = p .0; classes = p .2 .0; rules = c .before .before .before .rules .ensures; callees = p .2 .2 }, p .2 .1, p .1, (c .before .before .before .before .before .before .before .before .before .measure .ensures .1, c .before .before .before .before .before .before .before .before .before .measure .ensures .2), p .4, (z .0, z .1, z .2, z .3))
+
+same-length : tie.Need-same-length
+same-length c = search needs
+
+returns : tie.Need-returns
+returns c = (given-refused _ _ _ (measured-refused _ _ _ (sym (c .before .number .given .1) ∙ c .before .before .before .before .before .measure .ensures .0)), used-refused _)
+
+same-length-2 : tie.Need-same-length-2
+same-length-2 c = search needs
+
+same-length-3 : tie.Need-same-length-3
+same-length-3 c = search needs
+
+returns-2 : tie.Need-returns-2
+returns-2 c = (c .before .before .before .before .fill .ensures .0 ∙ sym (ap bytesIn (measured-sized _ _ _ _ _ (sym (c .before .before .before .before .before .before .before .before .before .before .i .given .1) ∙ c .before .before .before .before .before .before .before .before .before .before .before .before .before .before .measure .ensures .0) .4)), c .before .before .before .before .fill .ensures .1)
+
+pub answer-with-spec : {M : Type 1} → statement M
+answer-with-spec =
+    tie.close
+    (tie.spec
+    measure-requires
+    enum-known-number
+    enum-known-i
+    rules-requires
+    fill-requires
+    same-length
+    returns
+    same-length-2
+    same-length-3
+    returns-2)
