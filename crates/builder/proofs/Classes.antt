@@ -2,18 +2,16 @@
 use mathlib.Core.Path.{_≡_, refl, sym, _∙_, ap}
 use mathlib.Core.List.{List, [], _∷_}
 use mathlib.Core.Bool.{Bool, true, false, cond, _&&_, _||_}
-use Prim.Native.Nat.{ℕ, zero, suc, _+_, _-_, _≤_, _<_}
+use Prim.Native.Nat.{ℕ, suc, _+_, _-_, _≤_, _<_}
 use native.Mathlib.Omega.{arith}
 use borrow.Author.Tests.{leb-true}
 use lib.Dec.{eqb, leb, ltb}
 use lib.ListN.{length, take, drop, getD}
 use Rattle.functions.specs.Lists.{text, sameText, oneOf, all}
-use Rattle.functions.specs.declared.Rule.{Rule}
-use Rattle.functions.specs.declared.Rule.the-variants.{One, Two, Interp1d, Piecewise, Any}
 use Rattle.functions.proofs.Lists.{clash, and-both, drop-here, drop-past, every, every-from}
 use Rattle.functions.proofs.Texts.{same-text-equal, equal-same-text}
 use Rattle.builder.specs.Names.{textOf, spells, reserved, builtIns, isTime, isReserved, isBuiltIn, isNonNegative, isReal}
-use Rattle.builder.specs.Tables.{deciding, classFrom, classOf, ruleNumber, numbered}
+use Rattle.builder.specs.Tables.{deciding, classFrom, classOf}
 
 -- ---- where each text stands
 
@@ -181,47 +179,3 @@ module _ (names : List (List ℕ)) (n : ℕ) where
   pub class-real : eqb (classOf (textOf names n)) 7 ≡ isReal names n
   unfolding isReal spells
   class-real = of-class _ _ real-agrees ∙ one-text (textOf names n) (text "R")
-
-from-below : (ys : List (List ℕ)) (i : ℕ) (x : List ℕ) → classFrom i ys x ≤ i + length ys
-unfolding classFrom
-from-below [] i x = omega arith
-from-below (y ∷ ys) i x = go (sameText x y) (from-below ys (i + 1) x)
-  where
-    go : (b : Bool) → classFrom (i + 1) ys x ≤ i + 1 + length ys → cond b i (classFrom (i + 1) ys x) ≤ i + suc (length ys)
-    go true h = omega arith
-    go false h = omega arith
-
--- no class beyond 18
-pub class-below : (x : List ℕ) → classOf x ≤ 18
-unfolding classOf
-class-below x = omega (arith, from-below deciding 0 x, length-deciding)
-
--- ---- rules by number
-
--- a rule is found again by its number
-pub rule-back : (r : Rule) → numbered (ruleNumber r) ≡ r
-unfolding numbered ruleNumber
-rule-back One = refl
-rule-back Two = refl
-rule-back Interp1d = refl
-rule-back Piecewise = refl
-rule-back Any = refl
-
--- and a number by its rule
-pub number-back : (n : ℕ) → n ≤ 4 → ruleNumber (numbered n) ≡ n
-unfolding numbered ruleNumber
-number-back zero h = refl
-number-back (suc zero) h = refl
-number-back (suc (suc zero)) h = refl
-number-back (suc (suc (suc zero))) h = refl
-number-back (suc (suc (suc (suc zero)))) h = refl
-number-back (suc (suc (suc (suc (suc n))))) h = absurd (omega arith)
-
--- no number beyond 4
-pub rule-below : (r : Rule) → ruleNumber r ≤ 4
-unfolding ruleNumber
-rule-below One = omega arith
-rule-below Two = omega arith
-rule-below Interp1d = omega arith
-rule-below Piecewise = omega arith
-rule-below Any = omega arith

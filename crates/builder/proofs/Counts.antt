@@ -17,11 +17,6 @@ use Rattle.builder.specs.Variables.{declare, variableNames, numberOf, ke
 -- ---- sums
 
 module _ {A : Type 0} where
-  sum-add : (f g : A → ℕ) (xs : List A) → sumOf (λ x. f x + g x) xs ≡ sumOf f xs + sumOf g xs
-  unfolding sumOf
-  sum-add f g [] = refl
-  sum-add f g (x ∷ xs) = omega (arith, sum-add f g xs)
-
   pub length-each : {B : Type 0} (f : A → List B) (xs : List A) → length (each f xs) ≡ sumOf (λ x. length (f x)) xs
   unfolding each sumOf
   length-each f [] = refl

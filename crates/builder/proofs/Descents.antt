@@ -14,7 +14,7 @@ use lib.Seq.{getD-take, take-take}
 use Rattle.functions.specs.Lists.{each, sumOf}
 use Rattle.functions.proofs.Lists.{clash, drop-past}
 use Rattle.functions.proofs.Loops.{each-step}
-use Rattle.ast.specs.Tree.{Flat, Stmt, own, submodel, File, size, flatSize}
+use Rattle.ast.specs.Tree.{Flat, Stmt, File, size, flatSize}
 use Rattle.ast.specs.Subst.{Replacements}
 use Rattle.ast.specs.Words.{section}
 use Rattle.ast.specs.Nodes.{nameAt, opAt, sizeAt, isExpr, argsBefore}

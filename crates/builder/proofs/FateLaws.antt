@@ -7,8 +7,7 @@ use Prim.Native.Nat.{ℕ, zero, suc, _+_, _-_, _*_, _/_, _%_, _<_}
 use native.Mathlib.Omega.{arith}
 use borrow.Author.Tests.{eqb-true, eqb-false, eq-eqb, ne-eqb}
 use lib.Dec.{eqb, ltb}
-use lib.ListN.{length, take, getD, length-append}
-use lib.Seq.{length-take-le, getD-at}
+use lib.ListN.{length, take, getD}
 use Rattle.functions.specs.Lists.{any, keep, place, placeFrom, member, times, flag, plusOne}
 use Rattle.functions.proofs.Lists.{clash}
 use Rattle.ast.specs.Tree.{Flat, equation, rate, flatSize}
@@ -18,7 +17,6 @@ use Rattle.builder.specs.Roles.{Role, starts, rates, free}
 use Rattle.builder.specs.Allocate.{Fate, initial, held, replaced, leftOver, isRateOf, isFree, rateFate, fatesOf, numbersFrom, lacking, leftCount, pairedStates, isHeldBy, isInitialOf, heldBy, conditions}
 use Rattle.builder.specs.Answer.{fateNumber, fateVariable, flatWords, flatRecords}
 use Rattle.builder.specs.Tables.{roleNumber, lacksIn, lackingIn}
-use Rattle.builder.proofs.Sections.{Wide}
 use Rattle.builder.specs.Fating.{leftIn, fateIn, queueIn, fatesIn, withFate, fated, isFated}
 
 -- ---- tests of numbers
@@ -258,17 +256,3 @@ fated-flats first [] (q ∷ qs) (x ∷ fs) e h = clash (cc)
 fated-flats first (r ∷ rs) (q ∷ qs) (x ∷ fs) e h =
     let t : take 6 r ≡ take 6 (flatWords first q x) = cc in
     ap₂ _∷_ (with-fate first q x r t) (fated-flats (first + flatSize q) rs qs fs (cc) (omega arith))
-
-pair-of : (r : List ℕ) (x : ℕ × ℕ) → length r ≡ 8 → recordPair (withFate r x) ≡ x
-unfolding withFate wordOf
-pair-of r x h =
-    let l : length (take 6 r) ≡ 6 = length-take-le 6 r (omega arith) in
-    ap₂ (λ (a b : ℕ). (a, b)) (getD-at (take 6 r) (x .0) (x .1 ∷ []) 0 6 l) (ap (λ (ws : List ℕ). getD ws 7 0) (sym (append-assoc (take 6 r) (x .0 ∷ []) (x .1 ∷ []))) ∙ getD-at (take 6 r ++ x .0 ∷ []) (x .1) [] 0 7 (simp length-append (omega (arith, l))))
-
--- words 6 and 7 are then the fates
-pub fated-pairs : (rs : List (List ℕ)) (xs : List (ℕ × ℕ)) → Wide 8 rs → length rs ≡ length xs → map recordPair (fated rs xs) ≡ xs
-unfolding fated
-fated-pairs [] [] w h = refl
-fated-pairs [] (x ∷ xs) w h = absurd (omega arith)
-fated-pairs (r ∷ rs) [] w h = absurd (omega arith)
-fated-pairs (r ∷ rs) (x ∷ xs) w h = ap₂ _∷_ (pair-of r x (w .0)) (fated-pairs rs xs (w .1) (omega arith))

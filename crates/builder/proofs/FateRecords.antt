@@ -9,7 +9,7 @@ use Rattle.functions.proofs.Lists.{drop-here, drop-past}
 use Rattle.ast.specs.Words.{words, records, section, bytes4, bytesOf}
 use Rattle.ast.specs.Bytes.{putWord, front, put}
 use Rattle.ast.specs.Encode.{encode}
-use Rattle.ast.proofs.Fronts.{length-front, drop-front, word-behind, put-behind}
+use Rattle.ast.proofs.Fronts.{drop-front, word-behind, put-behind}
 use Rattle.ast.proofs.Encodes.{length-bytes, each-append}
 use Rattle.functions.specs.Lists.{each}
 use Rattle.builder.proofs.PutRecords.{itself}
@@ -157,9 +157,6 @@ module _ (d d′ : List ℕ) (p : ℕ) (x : ℕ × ℕ) (room : p + 32 ≤ lengt
 
   behind : drop (p + 32) d′ ≡ drop (p + 32) d
   behind = ap₂ drop (sym length-before) is-front ∙ drop-front d before ∙ ap (λ (k : ℕ). drop k d) length-before
-
-  pub put-length : length d′ ≡ length d
-  put-length = ap length is-front ∙ length-front d before (omega (arith, length-before))
 
   pub fated-step : (m : ℕ) (xs : List (ℕ × ℕ)) → put d p (encode (fated (section 8 (suc m) p d) (x ∷ xs))) ≡ put d′ (p + 32) (encode (fated (section 8 m (p + 32) d′) xs))
   unfolding fated encode each section before one

@@ -11,7 +11,7 @@ use lib.Dec.{eqb}
 use lib.ListN.{length, drop}
 use Rattle.functions.specs.Lists.{placeFrom, place, plusOne, sameText}
 use Rattle.functions.proofs.Lists.{drop-here, drop-past}
-use Rattle.ast.specs.Tree.{Stmt, own, submodel, Model, File}
+use Rattle.ast.specs.Tree.{Model, File}
 use Rattle.ast.specs.Words.{wordOf}
 use Rattle.ast.specs.Nodes.{nameAt}
 use Rattle.ast.specs.Records.{kindOfStmt, stmtOf}
@@ -83,12 +83,6 @@ module _ (f : List ℕ) (s : Sections) where
   named-below n = omega (arith, place-below (isNamed n) (fileIn f s .models) 0, models-long f s)
 
   -- ---- the model that a statement calls
-
-  -- a callee has a number
-  pub callee-below : (q : Stmt) → calleeOf (fileIn f s) q ≤ s .counts .models
-  unfolding calleeOf
-  callee-below (own q) = omega arith
-  callee-below (submodel n a c z) = named-below n
 
   -- an equation or a rate equation calls none
   own-calls : (g : File) (r : List ℕ) → (kindOfStmt r ≡ 3 → ⊥) → (1 ≤ kindOfStmt r) × (kindOfStmt r ≤ 3) → calleeOf g (stmtOf (contentsIn f s .nodes) r) ≡ 0

@@ -2,9 +2,9 @@
 use mathlib.Core.Path.{_≡_, refl, ap, _∙_}
 use Prim.Native.Nat.{ℕ}
 use mathlib.Core.List.{List, [], _∷_, _++_, map}
-use mathlib.Core.Option.{none, some}
+use mathlib.Core.Option.{some}
 use Rattle.functions.specs.Lists.{each}
-use Rattle.ast.specs.Tree.{Span, Args, Flat, own, submodel, File}
+use Rattle.ast.specs.Tree.{Span, Args, Flat, submodel, File}
 use Rattle.ast.specs.Subst.{Replacements, substFlat}
 use Rattle.ast.specs.Levels.{throughFlat}
 use Rattle.ast.proofs.OneWalk.{flat-subst, flat-none}
@@ -29,15 +29,7 @@ map-none [] = refl
 map-none (q ∷ qs) = rw (flat-none q, map-none qs) refl
 
 module _ (f : File) (sub : ℕ → List Flat) (levels : List Replacements) where
-  pub flats-own : (q : Flat) → map (throughFlat levels) (stmtFlats f sub (own q)) ≡ throughFlat levels q ∷ []
-  unfolding stmtFlats
-  flats-own q = refl
-
   module _ (n : ℕ) (a : Args) (c s : Span) where
-    pub flats-missing : modelNamed f n ≡ none → map (throughFlat levels) (stmtFlats f sub (submodel n a c s)) ≡ []
-    unfolding stmtFlats subFlats
-    flats-missing e = ap (λ o. map (throughFlat levels) (subFlats f sub a o)) e
-
     -- a submodel's statements come in one level deeper
     pub flats-found : (m : ℕ) → modelNamed f n ≡ some m
         → map (throughFlat levels) (stmtFlats f sub (submodel n a c s)) ≡ map (throughFlat (replacements (modelAt f m .unknowns) a ∷ levels)) (sub m)

@@ -2,7 +2,7 @@
 use mathlib.Core.Path.{_≡_, refl, sym, ap, _∙_}
 use mathlib.Core.Bool.{Bool, true, false, cond, _||_}
 use mathlib.Core.List.{List, [], _∷_, _++_, append-assoc, map}
-use mathlib.Core.Option.{none, some}
+use mathlib.Core.Option.{some}
 use Prim.Native.Nat.{ℕ, zero, suc, _+_, _-_, _*_, _≤_, _<_}
 use native.Mathlib.Omega.{arith}
 use borrow.Author.Tests.{ltb-true, lt-ltb}
@@ -18,7 +18,7 @@ use Rattle.ast.proofs.Encodes.{each-append, length-bytes}
 use Rattle.ast.proofs.Files.{all-at}
 use Rattle.ast.specs.Opens.{Open, fileIn}
 use Rattle.ast.specs.declared.sections.Sections.{Sections}
-use Rattle.builder.specs.Variables.{Variable, lastTime, timeIndex, numberOf, keptDeps, variableNames, variable, variablesOf, noVariable, at}
+use Rattle.builder.specs.Variables.{Variable, numberOf, keptDeps, variableNames, variable, variablesOf, noVariable, at}
 use Rattle.builder.specs.VariableTables.{wordsFrom, nextIn, DepsIn, TimeReached, unknownsIn, rosterIn, StartsOf}
 use Rattle.builder.proofs.Timing.{any-alike}
 use Rattle.builder.proofs.PutWords.{words-bytes, each-take, each-fits, kept-few}
@@ -154,8 +154,3 @@ module _ (f : List ℕ) (s : Sections) (o : Open f s) (m : ℕ) (starts d out : 
   model-reached table t v l =
       t .mark v l
       ∙ ap flag (reaches-alike (nextIn starts out) (λ j. at (variablesOf (fileIn f s .names) (unknownsIn f s m)) j .deps) (length (rosterIn f s m)) (length (rosterIn f s m)) v 0 model-next (model-deps-in .below) l)
-
-  -- the last t among the words of a variable is its time index
-  pub model-time-index : (v : ℕ) → v < length (rosterIn f s m) → lastTime 0 none (wordsFrom out (getD starts v 0) (getD starts (v + 1) 0)) ≡ timeIndex (at (variablesOf (fileIn f s .names) (unknownsIn f s m)) v)
-  unfolding timeIndex
-  model-time-index v l = ap (lastTime 0 none) (unfold nextIn in model-next v l)

@@ -1,20 +1,17 @@
 -- How long an answer and its records are: where each section of the area begins, and refusal 1.
-use mathlib.Core.Path.{_≡_, refl, sym, ap, _∙_}
-use Prim.Native.Nat.{ℕ, zero, suc, _+_, _-_, _*_}
+use mathlib.Core.Path.{_≡_, refl, ap, _∙_}
+use Prim.Native.Nat.{ℕ, suc, _+_, _*_}
 use native.Mathlib.Omega.{arith}
-use native.Mathlib.Nat.{sub-zero, zero-sub}
 use mathlib.Core.List.{List, [], _∷_, _++_, map}
-use lib.ListN.{length, take, drop, replicate, length-append, length-take, length-map}
+use lib.ListN.{length, take, length-append, length-take, length-map}
 use Rattle.functions.specs.Lists.{each, sumOf}
 use Rattle.ast.specs.Tree.{Flat, equation, rate, flatSize}
 use Rattle.ast.specs.Words.{wordOf}
 use Rattle.ast.specs.Encode.{nodes, flatNodes, encode}
-use Rattle.ast.specs.Bytes.{front}
 use Rattle.ast.proofs.Encodes.{length-bytes, eights, eights-append, Eights, length-nodes}
 use Rattle.builder.specs.Variables.{Error, Variable}
 use Rattle.builder.specs.Roles.{Role, starts, rates, free}
 use Rattle.builder.specs.Allocate.{Fate, fatesOf}
-use Rattle.builder.specs.Build.{accepted, resultArea}
 use Rattle.builder.specs.Answer.{Answer, boundsWords, flatWords, flatRecords, errorWords, variableWords, variableRecords, nodeCount, depsOf, header, areaOf, areaBytes, answerBytes}
 use Rattle.builder.specs.Area.{listedIn, nodesFrom, stmtsFrom, varsFrom, depsFrom, errorsFrom, areaEnd}
 use Rattle.builder.proofs.Sections.{Wide, length-wide}
@@ -127,20 +124,3 @@ module _ (a : Answer) where
     pub length-answer : length (answerBytes a) ≡ areaEnd (header a)
     unfolding answerBytes areaBytes areaOf areaEnd errorsFrom depsFrom varsFrom stmtsFrom nodesFrom header wordOf
     length-answer = simp length-append (omega (arith, bytes))
-
--- ---- the area afterwards: the answer at the front of zeros, or zeros only
-
-zeros : ℕ → List ℕ
-zeros n = replicate n 0
-
-drop-zeros : (n room : ℕ) → drop n (zeros room) ≡ zeros (room - n)
-unfolding zeros
-drop-zeros zero room = rw sub-zero refl
-drop-zeros (suc n) zero = ap zeros (sym (zero-sub (suc n)))
-drop-zeros (suc n) (suc room) =
-    let e : room - n ≡ suc room - suc n = omega arith in
-    drop-zeros n room ∙ ap zeros e
-
-pub area-front : (room : ℕ) (b : List ℕ) → resultArea room (accepted b) ≡ front (replicate room 0) b
-unfolding resultArea front zeros
-area-front room b = ap (λ (z : List ℕ). b ++ z) (sym (drop-zeros (length b) room))

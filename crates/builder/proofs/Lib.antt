@@ -38,7 +38,6 @@ pub mod Checks
 pub mod Calls
 pub mod Exprs
 pub mod Dependents
-pub mod Few
 pub mod Unknowns
 pub mod OpenStmts
 pub mod Replacing
@@ -57,13 +56,11 @@ pub mod Allocations
 pub mod ModelErrors
 pub mod ScopeTables
 pub mod Recording
-pub mod FatedRecords
 pub mod BoundLaws
 pub mod FateCases
 pub mod FateLaws
 pub mod FateLoops
 pub mod FateRecords
-pub mod FateSections
 pub mod PutRecords
 pub mod VarAnswers
 pub mod VarLaws

@@ -12,7 +12,7 @@ use lib.ListN.{length, take, drop, getD, take-append-drop}
 use lib.Seq.{take-suc, take-all}
 use Rattle.functions.specs.Lists.{unless, each, plusOne}
 use Rattle.functions.proofs.Lists.{clash, and-both, drop-here}
-use Rattle.ast.specs.Tree.{Span, Expr, Args, snoc, submodel, equation, rate, File}
+use Rattle.ast.specs.Tree.{Span, Expr, Args, snoc, submodel, File}
 use Rattle.ast.specs.Words.{wordOf}
 use Rattle.ast.specs.Nodes.{nameAt, opAt, sizeAt, spanAt}
 use Rattle.ast.specs.Records.{domainKind, domainName, domainFits, domainOf, unknownOf, spanOfUnknown, spanOfStmt}

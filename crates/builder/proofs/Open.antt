@@ -7,18 +7,16 @@ use native.Mathlib.Omega.{arith}
 use borrow.Author.Tests.{ltb-true, eqb-true, eqb-false}
 use lib.Dec.{ltb, leb, eqb}
 use lib.ListN.{length, take, drop, getD, length-map, List·getD-map}
-use Rattle.functions.specs.Lists.{all}
 use Rattle.functions.proofs.Lists.{clash, and-both}
-use Rattle.ast.specs.Tree.{equation, rate, Stmt, own, submodel, Unknown, Model}
+use Rattle.ast.specs.Tree.{Stmt, submodel, Unknown, Model}
 use Rattle.ast.specs.Words.{wordOf, spanFrom, inOrder}
-use Rattle.ast.specs.Nodes.{kindAt, nameAt, opAt, sizeAt, spanAt, treeAt, argsBefore, isExpr}
+use Rattle.ast.specs.Nodes.{nameAt, opAt, sizeAt, spanAt, argsBefore, isExpr}
 use Rattle.ast.specs.Records.{textOfName, nameOfUnknown, firstDep, depCount, unknownFits, unknownOf, domainFits, spanOfUnknown, kindOfStmt, leftTop, rightTop, spanOfStmt, topFits, stmtFits, stmtKindFits, submodelOf, stmtOf, spanOfModel, modelFits, modelOf}
-use Rattle.ast.specs.File.{namesAt, nodesAt, depsAt, unknownsAt, stmtsAt, modelsAt, contentsOf, fileOf}
+use Rattle.ast.specs.File.{namesAt, unknownsAt, stmtsAt, modelsAt, contentsOf, fileOf}
 use Rattle.ast.specs.declared.sections.Sections.{Sections}
 use Rattle.ast.specs.Opens.{Open, contentsIn, fileIn}
-use Rattle.ast.proofs.Fields.{length-section, length-deps}
-use Rattle.ast.proofs.Files.{all-at, unknown-fits, stmt-fits, model-fits, unknown-run, model-runs, model-at, unknown-at, stmt-at, unknown-count, stmt-count, dep-of, dep-count, top-is, equation-tops, rate-top, submodel-top, Parts, parts}
-use Rattle.ast.proofs.Fitting.{NodeOk, node-ok}
+use Rattle.ast.proofs.Fields.{length-section}
+use Rattle.ast.proofs.Files.{unknown-fits, stmt-fits, model-fits, model-runs, model-at, unknown-at, unknown-count, top-is, equation-tops, rate-top, submodel-top, Parts, parts}
 use Rattle.ast.proofs.Opened.{ranges}
 use Rattle.ast.proofs.Texts.{name-in, part-name}
 use Rattle.builder.specs.Names.{textOf}
@@ -54,14 +52,6 @@ module _ (names count : ℕ) (ns : List (List ℕ)) (first : ℕ) (r : List ℕ)
 
 -- what a statement's record says, by its kind
 module _ (ns : List (List ℕ)) (r : List ℕ) where
-  pub stmt-equation : wordOf r 0 ≡ 1 → stmtOf ns r ≡ own (equation (treeAt ns (wordOf r 2)) (treeAt ns (wordOf r 3)) (spanFrom r 4))
-  unfolding stmtOf
-  stmt-equation k = rw k refl
-
-  pub stmt-rate : wordOf r 0 ≡ 2 → stmtOf ns r ≡ own (rate (wordOf r 1) (treeAt ns (wordOf r 3)) (spanFrom r 4))
-  unfolding stmtOf
-  stmt-rate k = rw k refl
-
   pub stmt-submodel : wordOf r 0 ≡ 3
       → stmtOf ns r ≡ submodel (nameAt ns (wordOf r 3)) (argsBefore ns (wordOf r 3) (opAt ns (wordOf r 3)) (sizeAt ns (wordOf r 3) - 1)) (spanAt ns (wordOf r 3)) (spanFrom r 4)
   unfolding stmtOf submodelOf
@@ -83,10 +73,6 @@ module _ (f : List ℕ) (s : Sections) where
   pub name-records : length (contentsIn f s .names) ≡ s .counts .names
   unfolding contentsOf
   name-records = length-section 2 (s .counts .names) (namesAt (s .counts)) f
-
-  pub node-records : length (contentsIn f s .nodes) ≡ s .counts .nodes
-  unfolding contentsOf
-  node-records = length-section 8 (s .counts .nodes) (nodesAt (s .counts)) f
 
   pub unknown-records : length (contentsIn f s .unknowns) ≡ s .counts .unknowns
   unfolding contentsOf
@@ -112,19 +98,9 @@ module _ (f : List ℕ) (s : Sections) where
   -- ---- what every record of an open file keeps to
 
   module _ (o : Open f s) where
-    -- the dependents, each one word
-    pub dep-records : length (contentsIn f s .deps) ≡ s .counts .deps
-    unfolding contentsOf
-    dep-records = let a = ranges f s o in length-deps f (depsAt (s .counts)) (s .counts .deps) (rw (a .starts .deps) at (a .deps))
-
     -- the parts of the layout test
     pub open-parts : Parts (contentsIn f s)
     open-parts = parts (contentsIn f s) (o .fits)
-
-    -- node i, as the layout has it
-    pub open-node : (i : ℕ) → i < s .counts .nodes → NodeOk (s .counts .names) (contentsIn f s .nodes) i
-    unfolding contentsOf
-    open-node i h = node-ok (s .counts .names) (contentsIn f s .nodes) (s .counts .nodes) (open-parts .nodes) i h
 
     -- ---- names
 
@@ -140,13 +116,6 @@ module _ (f : List ℕ) (s : Sections) where
     name-part n a l h p q =
         part-name f (s .counts .text) (ranges f s o .text) (getD (contentsIn f s .names) n []) a l p q (name-within n h)
         ∙ sym (List·getD-map (textOfName (contentsIn f s .text)) (contentsIn f s .names) n [])
-
-    -- ---- dependents
-
-    -- dependent d is a name
-    pub dep-name : (d : ℕ) → d < s .counts .deps → getD (contentsIn f s .deps) d 0 < s .counts .names
-    unfolding contentsOf
-    dep-name d h = ltb-true _ _ (all-at (λ d. ltb d (s .counts .names)) (contentsIn f s .deps) 0 (open-parts .deps) d (omega (arith, dep-records)))
 
     -- ---- unknowns
 
@@ -164,10 +133,6 @@ module _ (f : List ℕ) (s : Sections) where
         let (e₃, _) = and-both _ _ e₂ in
         ltb-true _ _ (and-both _ _ e₃ .0)
 
-    -- its run of dependents lies in the section
-    pub unknown-deps : (u : ℕ) → u < s .counts .unknowns → wordOf (unknownRecord u) 1 + wordOf (unknownRecord u) 2 ≤ s .counts .deps
-    unknown-deps u h = let (first, e) = open-unknown u h in unknown-run (s .counts .names) (s .counts .deps) first (unknownRecord u) e
-
     -- its domain fits
     pub unknown-domain : (u : ℕ) → u < s .counts .unknowns → domainFits (s .counts .names) (unknownRecord u) ≡ true
     unfolding unknownFits
@@ -176,14 +141,6 @@ module _ (f : List ℕ) (s : Sections) where
         let r = unknownRecord u in
         let (e₁, _) = and-both _ (inOrder (spanOfUnknown r)) e in
         and-both (ltb (nameOfUnknown r) (s .counts .names) && eqb (firstDep r) first && leb (first + depCount r) (s .counts .deps)) _ e₁ .1
-
-    -- its dependents, as many as the record says, each by its number
-    module _ (u : ℕ) (h : u < s .counts .unknowns) where
-      pub unknown-deps-long : length (unknownOf (contentsIn f s .deps) (unknownRecord u) .deps) ≡ wordOf (unknownRecord u) 2
-      unknown-deps-long = dep-count (contentsIn f s) (unknownRecord u) (omega (arith, dep-records, unknown-deps u h))
-
-      pub unknown-dep : (j : ℕ) → j < wordOf (unknownRecord u) 2 → getD (unknownOf (contentsIn f s .deps) (unknownRecord u) .deps) j 0 ≡ getD (contentsIn f s .deps) (wordOf (unknownRecord u) 1 + j) 0
-      unknown-dep j l = dep-of (contentsIn f s) (unknownRecord u) j l
 
     -- ---- statements
 
@@ -210,23 +167,6 @@ module _ (f : List ℕ) (s : Sections) where
           let (at, t) = right-fits (s .counts .names) (s .counts .nodes) (contentsIn f s .nodes) first (stmtRecord q) e in
           open-top at (rightTop (stmtRecord q)) t
 
-      pub left-top : wordOf (stmtRecord q) 0 ≡ 1 → Top (wordOf (stmtRecord q) 2)
-      left-top k =
-          let (first, e) = open-stmt q h in
-          open-top first (leftTop (stmtRecord q)) (equation-tops (s .counts .names) (s .counts .nodes) (contentsIn f s .nodes) first (stmtRecord q) e k .0)
-
-      -- a rate equation's name is a name
-      pub rate-name : wordOf (stmtRecord q) 0 ≡ 2 → wordOf (stmtRecord q) 1 < s .counts .names
-      rate-name k =
-          let (first, e) = open-stmt q h in
-          ltb-true _ _ (rate-top (s .counts .names) (s .counts .nodes) (contentsIn f s .nodes) first (stmtRecord q) e k .0)
-
-      -- a submodel statement's right top is a call
-      pub submodel-call : wordOf (stmtRecord q) 0 ≡ 3 → kindAt (contentsIn f s .nodes) (wordOf (stmtRecord q) 3) ≡ 5
-      submodel-call k =
-          let (first, e) = open-stmt q h in
-          submodel-top (s .counts .names) (s .counts .nodes) (contentsIn f s .nodes) first (stmtRecord q) e k .1
-
     -- ---- models
 
     open-model : (m : ℕ) → m < s .counts .models → (u : ℕ) × (q : ℕ) × (modelFits (s .counts .names) (s .counts .unknowns) (s .counts .stmts) u q (modelRecord m) ≡ true)
@@ -248,9 +188,6 @@ module _ (f : List ℕ) (s : Sections) where
       pub unknown-run-in : wordOf (modelRecord m) 1 + wordOf (modelRecord m) 2 ≤ s .counts .unknowns
       unknown-run-in = let (u, q, e) = open-model m h in model-runs (s .counts .names) (s .counts .unknowns) (s .counts .stmts) u q (modelRecord m) e .0
 
-      pub stmt-run-in : wordOf (modelRecord m) 3 + wordOf (modelRecord m) 4 ≤ s .counts .stmts
-      stmt-run-in = let (u, q, e) = open-model m h in model-runs (s .counts .names) (s .counts .unknowns) (s .counts .stmts) u q (modelRecord m) e .1
-
   -- ---- the file's models by their records
 
   -- all unknowns and all statements of the file
@@ -263,9 +200,6 @@ module _ (f : List ℕ) (s : Sections) where
   pub all-unknowns-long : length allUnknowns ≡ s .counts .unknowns
   all-unknowns-long = simp length-map unknown-records
 
-  pub all-stmts-long : length allStmts ≡ s .counts .stmts
-  all-stmts-long = simp length-map stmt-records
-
   module _ (m : ℕ) (h : m < s .counts .models) where
     -- model m by its record: all of it, its name, its span
     pub model-is : modelAt (fileIn f s) m ≡ modelOf allUnknowns allStmts (modelRecord m)
@@ -276,19 +210,6 @@ module _ (f : List ℕ) (s : Sections) where
     unfolding modelOf
     model-name-is = ap (λ (x : Model). x .name) model-is
 
-    pub model-span-is : modelAt (fileIn f s) m .span ≡ spanFrom (modelRecord m) 5
-    unfolding modelOf
-    model-span-is = ap (λ (x : Model). x .span) model-is
-
-    -- its unknowns and statements, as runs of all
-    pub model-unknowns-are : modelAt (fileIn f s) m .unknowns ≡ take (wordOf (modelRecord m) 2) (drop (wordOf (modelRecord m) 1) allUnknowns)
-    unfolding modelOf
-    model-unknowns-are = ap (λ (x : Model). x .unknowns) model-is
-
-    pub model-stmts-are : modelAt (fileIn f s) m .stmts ≡ take (wordOf (modelRecord m) 4) (drop (wordOf (modelRecord m) 3) allStmts)
-    unfolding modelOf
-    model-stmts-are = ap (λ (x : Model). x .stmts) model-is
-
     module _ (o : Open f s) where
       -- how many they are, and each of them by its record
       pub model-unknowns-long : length (modelAt (fileIn f s) m .unknowns) ≡ wordOf (modelRecord m) 2
@@ -296,19 +217,8 @@ module _ (f : List ℕ) (s : Sections) where
           ap (λ (x : Model). length (x .unknowns)) model-is
           ∙ unknown-count (contentsIn f s) (modelRecord m) allUnknowns allStmts (omega (arith, all-unknowns-long, unknown-run-in o m h))
 
-      pub model-stmts-long : length (modelAt (fileIn f s) m .stmts) ≡ wordOf (modelRecord m) 4
-      model-stmts-long =
-          ap (λ (x : Model). length (x .stmts)) model-is
-          ∙ stmt-count (contentsIn f s) (modelRecord m) allUnknowns allStmts (omega (arith, all-stmts-long, stmt-run-in o m h))
-
       pub model-unknown : (i : ℕ) (d : Unknown) → i < wordOf (modelRecord m) 2
           → getD (modelAt (fileIn f s) m .unknowns) i d ≡ unknownOf (contentsIn f s .deps) (unknownRecord (wordOf (modelRecord m) 1 + i))
       model-unknown i d l =
           ap (λ (x : Model). getD (x .unknowns) i d) model-is
           ∙ unknown-at (contentsIn f s) (modelRecord m) allUnknowns allStmts i d refl l (omega (arith, unknown-records, unknown-run-in o m h))
-
-      pub model-stmt : (i : ℕ) (d : Stmt) → i < wordOf (modelRecord m) 4
-          → getD (modelAt (fileIn f s) m .stmts) i d ≡ stmtOf (contentsIn f s .nodes) (stmtRecord (wordOf (modelRecord m) 3 + i))
-      model-stmt i d l =
-          ap (λ (x : Model). getD (x .stmts) i d) model-is
-          ∙ stmt-at (contentsIn f s) (modelRecord m) allUnknowns allStmts i d refl l (omega (arith, stmt-records, stmt-run-in o m h))

@@ -10,7 +10,7 @@ use borrow.Author.Tests.{ltb-true, ltb-false}
 use lib.Dec.{eqb, ltb}
 use lib.ListN.{length, take, drop, getD, set, length-append, length-drop, take-append-drop}
 use lib.Seq.{take-suc, take-all, length-take-le, getD-set-same, getD-set-other}
-use Rattle.functions.specs.Lists.{each, all, plusOne, toList}
+use Rattle.functions.specs.Lists.{each, plusOne, toList}
 use Rattle.ast.specs.Tree.{Unknown}
 use Rattle.ast.specs.Words.{words, bytes4, bytesOf}
 use Rattle.ast.specs.File.{contentsOf}
@@ -139,11 +139,6 @@ below-one (suc v) h = rw (sub-one (suc v))
 unfoldable pub numbered : List ℕ → ℕ → List ℕ
 numbered table d = oneBelow (getD table d 0)
 
--- one run for each dependent
-pub kept-each : (table ds : List ℕ) → keptBy table ds ≡ each (numbered table) ds
-unfolding keptBy numbered
-kept-each table ds = refl
-
 below-plus : (o : Option ℕ) → oneBelow (plusOne o) ≡ toList o
 unfolding oneBelow plusOne toList
 below-plus none = refl
@@ -159,11 +154,6 @@ kept-numbered vs table (d ∷ ds) n h =
 -- of one unknown, where it declares the name
 unfoldable pub ofNamed : List ℕ → ℕ → Unknown → List ℕ
 ofNamed vs v u = cond (eqb (suc (u .name)) v) (each (λ d. toList (numberOf vs d)) (u .deps)) []
-
--- one run for each unknown
-pub kept-named : (vs : List ℕ) (us : List Unknown) (v : ℕ) → keptDeps vs us v ≡ each (ofNamed vs v) us
-unfolding keptDeps ofNamed
-kept-named vs us v = refl
 
 -- by the table
 pub named-kept : (vs table : List ℕ) (v : ℕ) (u : Unknown) → Numbers vs table → ((j : ℕ) → j < length (u .deps) → getD (u .deps) j 0 < 256) → cond (eqb (suc (u .name)) v) (keptBy table (u .deps)) [] ≡ ofNamed vs v u

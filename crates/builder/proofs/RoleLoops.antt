@@ -2,12 +2,12 @@
 use mathlib.Core.Path.{_≡_, refl, sym, ap, _∙_}
 use mathlib.Core.Bool.{Bool, true, false, cond, _||_}
 use mathlib.Core.List.{List, [], _∷_, _++_, append-nil}
-use Prim.Native.Nat.{ℕ, zero, suc, _+_, _-_, _*_, _≤_, _<_}
+use Prim.Native.Nat.{ℕ, _+_, _≤_, _<_}
 use native.Mathlib.Omega.{arith}
 use native.Mathlib.Numerals.{add-one}
 use lib.Dec.{eqb}
 use lib.ListN.{length, take, drop, getD, set}
-use lib.Seq.{length-take-le, getD-take, take-suc, take-suc-set}
+use lib.Seq.{length-take-le, getD-take, take-suc-set}
 use Rattle.functions.specs.Lists.{any, member, times, flag}
 use Rattle.functions.proofs.Lists.{drop-here, drop-past}
 use Rattle.builder.specs.Tables.{lacksIn, lackingIn}

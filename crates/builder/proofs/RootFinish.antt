@@ -14,7 +14,7 @@ use Rattle.ast.specs.declared.sections.Sections.{Sections}
 use Rattle.builder.specs.Variables.{fromZero, lastBounds}
 use Rattle.builder.specs.Flatten.{modelAt, instances, errorsOf}
 use Rattle.builder.specs.Allocate.{lacking, leftCount}
-use Rattle.builder.specs.Answer.{answerBytes, header, nodeCount, depsOf}
+use Rattle.builder.specs.Answer.{answerBytes, nodeCount, depsOf}
 use Rattle.builder.specs.Build.{answerFrom}
 use Rattle.builder.specs.Tables.{Classes}
 use Rattle.builder.specs.Places.{Small, stmtsAt, varsAt, depsAt, errorsAt}

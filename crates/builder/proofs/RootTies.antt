@@ -9,7 +9,7 @@ use lib.ListN.{length, take, getD, length-append}
 use lib.Seq.{getD-take}
 use Rattle.functions.specs.Lists.{each, times}
 use Rattle.ast.specs.Tree.{Flat, equation, rate, flatSize}
-use Rattle.ast.specs.Opens.{Open, fileIn}
+use Rattle.ast.specs.Opens.{fileIn}
 use Rattle.ast.specs.declared.sections.Sections.{Sections}
 use Rattle.builder.specs.Variables.{Variable, at, noVariable, variableNames, variable, variablesOf}
 use Rattle.builder.specs.Flatten.{modelAt, scopeOf}

@@ -4,13 +4,11 @@ use mathlib.Core.List.{List, map, append-assoc}
 use Prim.Native.Nat.{ℕ, _+_, _*_, min, _≤_}
 use native.Mathlib.Omega.{arith}
 use lib.ListN.{length, take}
-use Rattle.functions.specs.Lists.{each}
 use Rattle.ast.specs.Tree.{File}
 use Rattle.ast.specs.Words.{bytesOf, wordOf}
 use Rattle.ast.specs.Bytes.{put}
-use Rattle.ast.specs.Encode.{flatNodes, encode}
-use Rattle.ast.proofs.Encodes.{length-bytes}
-use Rattle.builder.specs.Answer.{flatRecords, variableRecords, errorWords, header, nodeCount, depsOf, areaOf, areaBytes, answerBytes}
+use Rattle.ast.specs.Encode.{encode}
+use Rattle.builder.specs.Answer.{flatRecords, variableRecords, errorWords, header, depsOf, areaOf, areaBytes, answerBytes}
 use Rattle.builder.specs.Build.{answerFrom}
 use Rattle.builder.specs.Places.{stmtsAt, varsAt, depsAt, errorsAt}
 use Rattle.builder.specs.Allocating.{ListsAt}
@@ -18,7 +16,6 @@ use Rattle.builder.specs.declared.places.Sizes.{Sizes}
 use Rattle.builder.specs.Root.{flatsOf, scopeAt, fatesAt, answerAt, SizesOf, part, Unfated, Fated, Varied}
 use Rattle.builder.proofs.Lengths.{Bytes, bytes}
 use Rattle.builder.proofs.PutRecords.{length-put}
-use Rattle.builder.proofs.ListedAt.{length-listedAt}
 use Rattle.builder.proofs.AreaParts.{part-put, part-before, part-behind, part-listed, part-errors, six-parts}
 use Rattle.builder.proofs.FlatsBack.{fates-count}
 
@@ -32,10 +29,6 @@ module _ (f : File) (m : ℕ) (z : Sizes) (k : SizesOf f m z) where
   lengths : Bytes (answerAt f m) answer-fates
   lengths = bytes (answerAt f m) answer-fates
 
-  nodes-long : length (encode (each flatNodes (flatsOf f m))) ≡ 32 * z .nodes
-  unfolding answerFrom nodeCount
-  nodes-long = omega (arith, lengths .nodes, k .nodes)
-
   stmts-long : length (encode (flatRecords 0 (flatsOf f m) (fatesAt f m))) ≡ 32 * z .stmts
   unfolding answerFrom
   stmts-long = omega (arith, lengths .stmts, k .stmts)
@@ -43,9 +36,6 @@ module _ (f : File) (m : ℕ) (z : Sizes) (k : SizesOf f m z) where
   vars-long : length (encode (variableRecords (answerAt f m) 0 0 (scopeAt f m .vars))) ≡ 48 * z .vars
   unfolding answerFrom
   vars-long = omega (arith, lengths .vars, k .vars)
-
-  deps-long : length (bytesOf (each (λ x. x .deps) (scopeAt f m .vars))) ≡ 4 * z .deps
-  deps-long = omega (arith, length-bytes (each (λ x. x .deps) (scopeAt f m .vars)), k .deps)
 
   pub room : errorsAt z + 4096 ≤ 55384
   unfolding errorsAt depsAt varsAt stmtsAt
@@ -94,9 +84,6 @@ module _ (f : File) (m : ℕ) (z : Sizes) (k : SizesOf f m z) where
 
     fits : errorsAt z + 4096 ≤ length b
     fits = omega (arith, room, u .0 .long)
-
-    pub long₁ : length b₁ ≡ 55384
-    long₁ = ap length (e₁ .1) ∙ length-listedAt (errorsAt z) b 0 (answerAt f m .errors) fits ∙ u .0 .long
 
     -- a part between the header and the errors
     inner : (at n : ℕ) → 40 ≤ at → at + n ≤ errorsAt z → part at n b₂ ≡ part at n b

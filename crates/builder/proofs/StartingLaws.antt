@@ -20,7 +20,7 @@ use Rattle.builder.specs.Variables.{Error, error}
 use Rattle.builder.specs.Flatten.{noModel, modelAt}
 use Rattle.builder.specs.Allocate.{countErrors}
 use Rattle.builder.specs.Places.{errorsAt}
-use Rattle.builder.specs.Allocating.{nodesIn, stmtsIn, Flattened, ListsAt}
+use Rattle.builder.specs.Allocating.{nodesIn, stmtsIn, ListsAt}
 use Rattle.builder.specs.Fating.{isFated}
 use Rattle.builder.specs.Starting.{rightSpanIn, heldErrorsIn, stateErrorsIn, startingIn, Righted}
 use Rattle.builder.specs.declared.places.Sizes.{Sizes}
@@ -137,7 +137,3 @@ starting-next z d d′ d″ model names v n r r′ w p q =
     let q′ : ListsAt (errorsAt z) d′ r (stateErrorsIn model (nodesIn d z) (stmtsIn d z) (getD names v 0) v) r′ d″ = rw (k .nodes, k .stmts) q in
     let l : errorsAt z ≤ length d = omega (arith, w .long) in
     (omega (arith, q .0, state-few model (nodesIn d′ z) (stmtsIn d′ z) (getD names v 0) v), rw (starting-turn model (nodesIn d z) (stmtsIn d z) names v) (then-at (errorsAt z) d d′ d″ n r r′ _ _ l p q′))
-
--- a flattened model's area with room for errors
-pub righted-flattened : (names : ℕ) (b : List ℕ) (z : Sizes) → Flattened names b z → errorsAt z + 4096 ≤ length b → Righted b z
-righted-flattened names b z f l = record { small = f .small; long = l; right = λ i h. f .right i h .0 }

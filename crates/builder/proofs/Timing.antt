@@ -159,10 +159,6 @@ module _ (starts deps : List ℕ) (vars : ℕ) where
         ∙ rw add-one;
   }
 
-  -- no variable yet
-  pub round-none : (old new : List ℕ) (v : ℕ) → v ≡ 0 → (w : ℕ) → w < v → getD new w 0 ≡ flag (any (leads old) (nextIn starts deps w))
-  round-none old new v e w h = absurd (omega arith)
-
   -- one variable more
   pub round-more : (old new : List ℕ) (v x : ℕ) → v < length new → x ≡ flag (any (leads old) (nextIn starts deps v))
       → ((w : ℕ) → w < v → getD new w 0 ≡ flag (any (leads old) (nextIn starts deps w)))

@@ -2,13 +2,11 @@
 use Prim.Native.Nat.{ℕ, _+_, _-_, _*_, _≤_}
 use mathlib.Core.Path.{_≡_}
 use mathlib.Core.List.{List, [], _∷_}
-use lib.ListN.{length, set}
+use lib.ListN.{length}
 use Rattle.functions.specs.Lists.{sumOf}
 use Rattle.ast.specs.Tree.{Flat, equation, rate, size, flatSize}
 use Rattle.ast.specs.Bytes.{put}
 use Rattle.ast.specs.Encode.{encode}
-use Rattle.builder.specs.Allocate.{Fate}
-use Rattle.builder.specs.Answer.{fateNumber, fateVariable}
 
 -- Kind, name, left, right, span, and 0 for fate and variable. Its trees, left before right, begin at node `first`.
 unfoldable pub unfatedWords : ℕ → Flat → List ℕ
@@ -18,15 +16,6 @@ unfatedWords first (rate n r s) = 2 ∷ n ∷ 0 ∷ (first + size r - 1) ∷ s .
 unfoldable pub unfated : ℕ → List Flat → List (List ℕ)
 unfated first [] = []
 unfated first (q ∷ qs) = unfatedWords first q ∷ unfated (first + flatSize q) qs
-
--- Records with their fates put in.
-unfoldable pub fatedWords : List ℕ → Fate → List ℕ
-fatedWords r x = set (set r 6 (fateNumber x)) 7 (fateVariable x)
-
-unfoldable pub fated : List (List ℕ) → List Fate → List (List ℕ)
-fated [] xs = []
-fated (r ∷ rs) [] = []
-fated (r ∷ rs) (x ∷ xs) = fatedWords r x ∷ fated rs xs
 
 -- There is room for the records of statements behind those done, in an area of so many bytes.
 abbrev pub RecordsFit : ℕ → ℕ → ℕ → List Flat → Type 0
