@@ -9,7 +9,7 @@ use native.Mathlib.Omega.{arith}
 use borrow.Author.Tests.{ltb-true}
 use lib.Dec.{eqb}
 use lib.ListN.{length, getD}
-use Rattle.functions.specs.Lists.{any, each, placeFrom, place, plusOne, flag, _>>=_}
+use Rattle.functions.specs.Lists.{any, each, placeFrom, place, plusOne, _>>=_}
 use Rattle.functions.proofs.Lists.{clash}
 use Rattle.ast.specs.Tree.{Span, Expr, name, number, binary, unary, call, Args, Flat, equation, rate}
 use Rattle.ast.specs.Words.{wordOf}
@@ -22,6 +22,7 @@ use Rattle.builder.specs.Tables.{roleNumber}
 use Rattle.builder.specs.declared.places.Sizes.{Sizes}
 use Rattle.builder.specs.Allocating.{flatAt, nodesIn, stmtIn, flatIn, flatsIn, Flattened, lessOne, entryBy, startBy, fewFor, shortCallBy, shortLeftBy, shortBy, startNumber, startErrorsBy, rateNumber, rateErrorsBy, roleBy, roleErrorsBy, Agree}
 use Rattle.builder.proofs.Flats.{flats-count, flat-at, flat-equation, flat-rate}
+use Rattle.builder.proofs.ListLaws.{flag-one}
 
 -- A statement whose names there are.
 abbrev pub FlatFormed : ℕ → Flat → Type 0
@@ -62,11 +63,6 @@ less-plus : (o : Option ℕ) → lessOne (plusOne o) ≡ o
 unfolding lessOne plusOne
 less-plus none = refl
 less-plus (some v) = refl
-
-flag-one : (b : Bool) → eqb (flag b) 1 ≡ b
-unfolding flag
-flag-one true = refl
-flag-one false = refl
 
 module _ (c : Scope) (time : Bounds) (numbers indexes rateTable : List ℕ) (lower : ℕ) (a : Agree c time numbers indexes rateTable lower) where
   -- ---- entries

@@ -6,10 +6,9 @@ use mathlib.Core.Option.{Option, none, some, Option·some-injective}
 use Prim.Native.Nat.{ℕ, zero, suc, _+_, _-_, _≤_, _<_}
 use native.Mathlib.Omega.{arith}
 use native.Mathlib.Numerals.{add-one, sub-one}
-use lib.Dec.{eqb}
 use lib.ListN.{length, take, getD, length-map}
 use lib.Seq.{take-suc, take-all}
-use Rattle.functions.specs.Lists.{placeFrom, place, each, sumOf, toList, plusOne}
+use Rattle.functions.specs.Lists.{placeFrom, each, sumOf, toList, plusOne}
 use Rattle.functions.proofs.Lists.{clash}
 use Rattle.ast.specs.Tree.{Span, Args, Flat, Stmt, own, submodel, File}
 use Rattle.ast.specs.Nodes.{nameOf, opOf, sizeOf, argsBefore}
@@ -65,17 +64,6 @@ module _ {A : Type 0} (p : A → Bool) where
   place-below k (x ∷ xs) i e = below-step k (length xs) i (p x) (placeFrom (suc k) p xs) e (place-below (suc k) xs i)
 
 module _ (f : File) where
-  found-within : (o : Option ℕ) → ((i : ℕ) → o ≡ some i → i < length (f .models)) → plusOne o ≤ length (f .models)
-  unfolding plusOne
-  found-within none g = omega arith
-  found-within (some i) g = omega (arith, g i refl)
-
-  -- is one of the file
-  pub callee-within : (q : Stmt) → calleeOf f q ≤ length (f .models)
-  unfolding calleeOf modelNamed place
-  callee-within (own q) = omega arith
-  callee-within (submodel x a z s) = found-within (modelNamed f x) (λ i g. omega (arith, place-below (λ m. eqb x (m .name)) 0 (f .models) i g))
-
   to-list-none : (o : Option ℕ) (c : ℕ) → c ≡ plusOne o → c ≡ 0 → toList o ≡ []
   unfolding plusOne toList
   to-list-none none c e z = refl

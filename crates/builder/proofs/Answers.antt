@@ -6,13 +6,11 @@ use mathlib.Core.Option.{Option, none, some}
 use Prim.Native.Nat.{ℕ, _-_, _≤_}
 use native.Mathlib.Omega.{arith}
 use lib.Dec.{eqb}
-use lib.ListN.{length, take, drop, getD, length-drop, length-append}
-use lib.Seq.{take-append-le}
+use lib.ListN.{length, take}
 use Rattle.functions.specs.Lists.{sumOf, plusOne}
 use Rattle.functions.proofs.Lists.{clash}
 use Rattle.ast.specs.Tree.{File, flatSize}
 use Rattle.ast.specs.File as file
-use Rattle.ast.specs.Rows.{RowsFit}
 use Rattle.ast.specs.declared.sections.Counts.{Counts}
 use Rattle.ast.specs.declared.open.Opened.the-variants as opens-as
 use Rattle.ast.specs.Opens.{outcome, opens}
@@ -106,10 +104,6 @@ given-within area ys last a r b h g l k =
     (k .0 ∙ ap told e, k .1 ∙ ap (λ (n : ℕ). resultArea n (fittedIn (length (ys ++ drop 55384 area)) (given a (ys ++ drop 55384 area)))) room ∙ ap (resultArea (length area)) e)
 
 -- ---- a build
-
--- no replacements
-pub none-fit : (ns : List (List ℕ)) (n : ℕ) (rows : List ℕ) → ((j : ℕ) → getD rows j 0 ≡ 0) → RowsFit ns n rows
-none-fit ns n rows z j h = absurd (omega (arith, z j, h))
 
 -- a number that is some place plus 1
 pub place-of : (o : Option ℕ) (k : ℕ) → k ≡ plusOne o → (k ≡ 0 → ⊥) → o ≡ some (k - 1)

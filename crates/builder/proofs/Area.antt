@@ -13,6 +13,7 @@ use Rattle.ast.specs.Words.{words, section, wordOf, bytesOf}
 use Rattle.ast.specs.Bytes.{wordAt}
 use Rattle.ast.specs.Encode.{flatNodes, encode}
 use Rattle.ast.proofs.Fields.{dep-at}
+use Rattle.ast.proofs.FromBytes.{words-bytes}
 use Rattle.builder.specs.Variables.{Variable}
 use Rattle.builder.specs.Roles.{roleOf}
 use Rattle.builder.specs.Allocate.{Fate}
@@ -22,8 +23,9 @@ use Rattle.builder.specs.Build.{Result, accepted, answerFrom, answer, bu
 use Rattle.builder.specs.Promise.{Demand}
 use Rattle.builder.proofs.Kept.{kept}
 use Rattle.builder.proofs.Accepted.{scope, time, flats, answered, answered-of, written-of}
-use Rattle.builder.proofs.Sections.{words-back, section-back, word-in}
+use Rattle.builder.proofs.Sections.{section-back, word-in}
 use Rattle.builder.proofs.Lengths.{nodes-wide, count-nodes, flats-wide, count-flats, errors-wide, variables-wide, count-variables, length-header, count-listed, bytes, length-answer, length-fates}
+use Rattle.builder.proofs.ListLaws.{element-below}
 
 -- ---- six sections one behind the other, and what comes before and after each
 
@@ -71,13 +73,13 @@ module _ (a : Answer) (rest : List ℕ) (same : length (a .fates) ≡ length (a 
   in-area =
       let z = bytes a same in
       record {
-        header-is = ap (λ (b : List ℕ). take 10 (words b)) (at-header headerBytes nodeBytes stmtBytes variableBytes depBytes errorBytes rest) ∙ ap (take 10) (words-back (header a) _) ∙ take-at (header a) _ 10 (length-header a);
+        header-is = ap (λ (b : List ℕ). take 10 (words b)) (at-header headerBytes nodeBytes stmtBytes variableBytes depBytes errorBytes rest) ∙ ap (take 10) (words-bytes (header a) _) ∙ take-at (header a) _ 10 (length-header a);
         nodes-are = ap (section 8 (nodeCount a) (nodesFrom (header a))) (at-header headerBytes nodeBytes stmtBytes variableBytes depBytes errorBytes rest) ∙ section-back 8 _ _ headerBytes _ _ (nodes-wide (a .stmts)) (count-nodes (a .stmts)) (z .header);
         stmts-are = ap (section 8 (length (a .stmts)) (stmtsFrom (header a))) (at-stmts headerBytes nodeBytes stmtBytes variableBytes depBytes errorBytes rest) ∙ section-back 8 _ _ (headerBytes ++ nodeBytes) _ _ (flats-wide 0 (a .stmts) (a .fates)) (count-flats 0 (a .stmts) (a .fates) same) (simp length-append (omega arith));
         vars-are = ap (section 12 (length (a .vars)) (varsFrom (header a))) (at-vars headerBytes nodeBytes stmtBytes variableBytes depBytes errorBytes rest) ∙ section-back 12 _ _ (headerBytes ++ nodeBytes ++ stmtBytes) _ _ (variables-wide a 0 0 (a .vars)) (count-variables a 0 0 (a .vars)) (simp length-append (omega arith));
         deps-are = ap (λ (b : List ℕ). take (length (depsOf a)) (words (drop (depsFrom (header a)) b))) (at-deps headerBytes nodeBytes stmtBytes variableBytes depBytes errorBytes rest)
             ∙ ap (λ (b : List ℕ). take (length (depsOf a)) (words b)) (drop-at (headerBytes ++ nodeBytes ++ stmtBytes ++ variableBytes) _ (depsFrom (header a)) (simp length-append (omega arith)))
-            ∙ ap (take (length (depsOf a))) (words-back (depsOf a) _) ∙ take-at (depsOf a) _ _ refl;
+            ∙ ap (take (length (depsOf a))) (words-bytes (depsOf a) _) ∙ take-at (depsOf a) _ _ refl;
         errors-are = ap (section 4 (listedIn (header a)) (errorsFrom (header a))) (at-errors headerBytes nodeBytes stmtBytes variableBytes depBytes errorBytes rest) ∙ section-back 4 _ _ (headerBytes ++ nodeBytes ++ stmtBytes ++ variableBytes ++ depBytes) _ _ (errors-wide (take 256 (a .errors))) (count-listed a) (simp length-append (omega arith));
         fits = rw length-append (omega (arith, length-answer a same));
       }
@@ -115,11 +117,6 @@ variable-at a j first (u ∷ vs) zero v h =
 variable-at a j first (u ∷ vs) (suc i) v h =
     variable-at a (suc j) (first + length (u .deps)) vs i v h ∙ ap₂ (λ (k m : ℕ). variableWords a k m v) (omega arith) (omega arith)
 
-some-below : {A : Type 0} (xs : List A) (i : ℕ) (x : A) → getElem? xs i ≡ some x → i < length xs
-some-below [] i x h = clash (cc)
-some-below (y ∷ xs) zero x h = omega arith
-some-below (y ∷ xs) (suc i) x h = omega (arith, some-below xs i x h)
-
 module _ (b : List ℕ) (a : Answer) (x : InArea b a) where
   -- of the header
   pub header-word : (k : ℕ) → k < 10 → wordAt b (4 * k) ≡ wordOf (header a) k
@@ -138,7 +135,7 @@ module _ (b : List ℕ) (a : Answer) (x : InArea b a) where
       → wordAt b (stmtsFrom (header a) + 4 * (i * 8 + k)) ≡ wordOf (flatWords (sumOf flatSize (take i (a .stmts))) q f) k
   unfolding areaEnd errorsFrom depsFrom varsFrom stmtsFrom nodesFrom wordOf header
   stmt-word i k q f hq hf hk =
-      let l : i < length (a .stmts) = some-below (a .stmts) i q hq in
+      let l : i < length (a .stmts) = element-below (a .stmts) i q hq in
       word-in 8 (length (a .stmts)) _ b _ (x .stmts-are) i k l hk (omega (arith, x .fits))
       ∙ ap (λ (r : List ℕ). wordOf r k) (flat-at 0 (a .stmts) (a .fates) i q f hq hf ∙ ap (λ (m : ℕ). flatWords m q f) (omega arith))
 
@@ -147,7 +144,7 @@ module _ (b : List ℕ) (a : Answer) (x : InArea b a) where
       → wordAt b (varsFrom (header a) + 4 * (i * 12 + k)) ≡ wordOf (variableWords a i (sumOf (λ u. length (u .deps)) (take i (a .vars))) v) k
   unfolding areaEnd errorsFrom depsFrom varsFrom stmtsFrom nodesFrom wordOf header
   variable-word i k v hv hk =
-      let l : i < length (a .vars) = some-below (a .vars) i v hv in
+      let l : i < length (a .vars) = element-below (a .vars) i v hv in
       word-in 12 (length (a .vars)) _ b _ (x .vars-are) i k l hk (omega (arith, x .fits))
       ∙ ap (λ (r : List ℕ). wordOf r k) (variable-at a 0 0 (a .vars) i v hv ∙ ap₂ (λ (j m : ℕ). variableWords a j m v) (omega arith) (omega arith))
 

@@ -3,12 +3,11 @@ use mathlib.Core.Path.{_≡_, refl, ap}
 use mathlib.Core.Bool.{Bool}
 use mathlib.Core.List.{List, [], _∷_}
 use mathlib.Core.Option.{Option, none, some}
-use Prim.Native.Nat.{ℕ, zero, suc, _-_, _≤_, _<_}
+use Prim.Native.Nat.{ℕ, suc, _-_, _≤_, _<_}
 use native.Mathlib.Omega.{arith}
 use native.Mathlib.Numerals.{sub-one}
-use lib.ListN.{length, getD, getElem?}
+use lib.ListN.{length, getD}
 use Rattle.functions.specs.Lists.{place, plusOne, toList}
-use Rattle.functions.proofs.Lists.{clash}
 use Rattle.functions.proofs.Places.{place-at}
 use Rattle.ast.specs.Tree.{Stmt, own, submodel, File}
 use Rattle.ast.specs.Nodes.{kindAt}
@@ -19,14 +18,9 @@ use Rattle.ast.specs.Opens.{Open, contentsIn, fileIn}
 use Rattle.ast.specs.declared.sections.Sections.{Sections}
 use Rattle.builder.proofs.Everywhere.{All, all-every, all-each}
 use Rattle.builder.proofs.OpenRecords.{long, stmt-equation, stmt-rate, by-stmt-kind, stmt-is}
+use Rattle.builder.proofs.ListLaws.{element-below}
 
 -- ---- the model that a statement stmtModels is one of the models
-
--- an element that is there has a place below the length
-element-below : {A : Type 0} (xs : List A) (j : ℕ) (x : A) → getElem? xs j ≡ some x → j < length xs
-element-below [] j x e = clash (cc)
-element-below (y ∷ xs) zero x e = omega arith
-element-below (y ∷ xs) (suc j) x e = omega (arith, element-below xs j x e)
 
 -- a place that is found is below the length
 pub place-below : {A : Type 0} (p : A → Bool) (xs : List A) (i : ℕ) → place p xs ≡ some i → i < length xs

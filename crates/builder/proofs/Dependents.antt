@@ -1,14 +1,14 @@
 -- Whether a name is that of a kept dependent of a variable: it is a variable, and an unknown of the variable's name lists it.
 use mathlib.Core.Path.{_≡_, refl, sym, ap, _∙_}
 use mathlib.Core.Bool.{Bool, true, false, cond, _&&_, _||_}
-use mathlib.Core.List.{List, [], _∷_, _++_, map, map-append}
+use mathlib.Core.List.{List, [], _∷_, map, map-append}
 use mathlib.Core.Option.{Option, none, some, Option·some-injective}
 use Prim.Native.Nat.{ℕ, zero, suc}
 use native.Mathlib.Omega.{arith}
-use borrow.Author.Tests.{eqb-true, eqb-false, eq-eqb, ne-eqb}
-use lib.Dec.{eqb}
+use borrow.Author.Tests.{eqb-true}
+use lib.Dec.{eqb, eqb·suc-suc}
 use lib.ListN.{getD, getElem?}
-use Rattle.functions.specs.Lists.{any, placeFrom, place, each, isSome, toList, member}
+use Rattle.functions.specs.Lists.{any, place, each, isSome, toList, member}
 use Rattle.functions.proofs.Lists.{clash}
 use Rattle.functions.proofs.Places.{place-at}
 use Rattle.ast.specs.Tree.{Unknown, Model, File}
@@ -16,22 +16,9 @@ use Rattle.builder.specs.Variables.{Variable, variable, variablesOf, var
 use Rattle.builder.specs.Check.{lookup, depNames}
 use Rattle.builder.specs.Flatten.{scopeOf}
 use Rattle.builder.specs.Checking.{keptNames}
+use Rattle.builder.proofs.ListLaws.{any-append, place-map}
 
 -- ---- lists
-
-any-append : {A : Type 0} (p : A → Bool) (xs ys : List A) → any p (xs ++ ys) ≡ (any p xs || any p ys)
-unfolding any
-any-append p [] ys = refl
-any-append p (x ∷ xs) ys = rw (any-append p xs ys) (or-assoc (p x) (any p xs) (any p ys))
-  where
-    or-assoc : (a b c : Bool) → a || (b || c) ≡ (a || b) || c
-    or-assoc true b c = refl
-    or-assoc false b c = refl
-
-place-map : {A B : Type 0} (f : A → B) (p : B → Bool) (k : ℕ) (xs : List A) → placeFrom k p (map f xs) ≡ placeFrom k (λ x. p (f x)) xs
-unfolding placeFrom
-place-map f p k [] = refl
-place-map f p k (x ∷ xs) = rw (place-map f p (suc k) xs) refl
 
 map-found : {A B : Type 0} (f : A → B) (xs : List A) (j : ℕ) (x : A) (d : B) → getElem? xs j ≡ some x → getD (map f xs) j d ≡ f x
 map-found f [] j x d e = clash (cc)
@@ -45,13 +32,6 @@ and-false false = refl
 and-or : (b c d : Bool) → b && (c || d) ≡ (b && c || b && d)
 and-or true c d = refl
 and-or false c d = refl
-
-eqb-suc : (a b : ℕ) → eqb (suc a) (suc b) ≡ eqb a b
-eqb-suc a b = go (eqb a b) refl
-  where
-    go : (t : Bool) → eqb a b ≡ t → eqb (suc a) (suc b) ≡ t
-    go true e = eq-eqb (suc a) (suc b) (omega (arith, eqb-true a b e))
-    go false e = ne-eqb (suc a) (suc b) (λ q. eqb-false a b e (omega arith))
 
 -- whether an unknown of the name x lists y
 abbrev pub listsAs : ℕ → ℕ → Unknown → Bool
@@ -98,7 +78,7 @@ module _ (names : List (List ℕ)) (us : List Unknown) where
 
       first : (o : Option ℕ) → numberOf vs d ≡ o → any (eqb (suc y)) (map named (toList o)) ≡ isSome (numberOf vs y) && eqb y d
       first none e = same none (eqb y d) e refl
-      first (some v) e = rw (var-named d v e, eqb-suc y d) (or-false (eqb y d) ∙ same (some v) (eqb y d) e refl)
+      first (some v) e = rw (var-named d v e, eqb·suc-suc y d) (or-false (eqb y d) ∙ same (some v) (eqb y d) e refl)
         where
           or-false : (b : Bool) → b || false ≡ b
           or-false true = refl
@@ -110,7 +90,7 @@ module _ (names : List (List ℕ)) (us : List Unknown) where
   kept-named x y (u ∷ xs) =
       ap (any (eqb (suc y))) (map-append named (cond (eqb (suc (u .name)) (suc x)) (each (λ d. toList (numberOf vs d)) (u .deps)) []) (keptDeps vs xs (suc x)))
       ∙ any-append (eqb (suc y)) (map named (cond (eqb (suc (u .name)) (suc x)) (each (λ d. toList (numberOf vs d)) (u .deps)) [])) (map named (keptDeps vs xs (suc x)))
-      ∙ rw (kept-named x y xs, eqb-suc (u .name) x, first (eqb (u .name) x)) (sym (and-or (isSome (numberOf vs y)) (eqb (u .name) x && any (eqb y) (u .deps)) (any (listsAs x y) xs)))
+      ∙ rw (kept-named x y xs, eqb·suc-suc (u .name) x, first (eqb (u .name) x)) (sym (and-or (isSome (numberOf vs y)) (eqb (u .name) x && any (eqb y) (u .deps)) (any (listsAs x y) xs)))
     where
       first : (b : Bool) → any (eqb (suc y)) (map named (cond b (each (λ d. toList (numberOf vs d)) (u .deps)) [])) ≡ isSome (numberOf vs y) && (b && any (eqb y) (u .deps))
       first true = deps-named y (u .deps)

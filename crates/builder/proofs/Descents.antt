@@ -30,6 +30,7 @@ use Rattle.builder.specs.Tables.{Callees}
 use Rattle.builder.specs.Descent.{flatAt, broughtAt, RowsIn, RowsKept}
 use Rattle.builder.proofs.Flattening.{map-each, flats-found}
 use Rattle.builder.proofs.OpenStmts.{nodes-pass, nodes-from, nodes-few, names-few, stmts-count, model-stmt, stmt-equation, stmt-rate, stmt-submodel, called-none, called-some}
+use Rattle.builder.proofs.ListLaws.{sum-append}
 
 -- ---- two tests at once
 
@@ -191,11 +192,6 @@ module _ (f : List ℕ) (s : Sections) (o : Open f s) (rows : List ℕ) (level q
       let ga : a ≡ atMost most (size (read (contentsIn f s .nodes) rows level (leftTop (getD (contentsIn f s .stmts) q [])))) = rw (nodes-from f s o, ei) at ea in
       let gb : b ≡ atMost (most - a) (size (read (contentsIn f s .nodes) rows level (rightTop (getD (contentsIn f s .stmts) q [])))) = rw (nodes-from f s o, ej) at eb in
       at-most-sum most _ _ a b ga gb ∙ ap (atMost most) (sym (own-equation f s rows level q sub k))
-
-pub sum-append : {A : Type 0} (g : A → ℕ) (xs ys : List A) → sumOf g (xs ++ ys) ≡ sumOf g xs + sumOf g ys
-unfolding sumOf
-sum-append g [] ys = omega arith
-sum-append g (x ∷ xs) ys = omega (arith, sum-append g xs ys)
 
 -- a loop over a model's statements counts: `total` so far, of the statements before number i
 module _ (f : List ℕ) (s : Sections) (k m : ℕ) (rows₀ : List ℕ) (level most : ℕ) where

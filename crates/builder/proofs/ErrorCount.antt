@@ -29,8 +29,9 @@ use Rattle.builder.proofs.Opened.{any-model, sum-take, sum-drop, model-
 use Rattle.builder.specs.Roles.{Start, startOf, atLower, startErrors, takesRate, rateErrors, roleErrors}
 use Rattle.builder.specs.Allocate.{Fate, numbersFrom, countErrors, isHeldBy, isInitialOf, conditions, noFlat, rightSpanAt, heldErrors, stateErrors, startingErrors}
 use Rattle.builder.proofs.SoundFile.{stmt-third}
+use Rattle.builder.proofs.ListLaws.{sum-append}
 
-length-unless : (b : Bool) (x : Error) → length (unless b x) ≤ 1
+pub length-unless : (b : Bool) (x : Error) → length (unless b x) ≤ 1
 unfolding unless
 length-unless true x = omega arith
 length-unless false x = omega arith
@@ -124,15 +125,10 @@ length-unknowns names (u ∷ us) = rw length-append (omega (arith, length-unknow
 
 -- ---- a model: `most` is what an instance of one has at most, by itself
 
-count-sizes : (a : Args) → count a ≤ sizes a
+pub count-sizes : (a : Args) → count a ≤ sizes a
 unfolding count sizes
 count-sizes empty = omega arith
 count-sizes (snoc a k e s) = omega (arith, count-sizes a)
-
-sum-append : {A : Type 0} (g : A → ℕ) (xs ys : List A) → sumOf g (xs ++ ys) ≡ sumOf g xs + sumOf g ys
-unfolding sumOf
-sum-append g [] ys = omega arith
-sum-append g (x ∷ xs) ys = omega (arith, sum-append g xs ys)
 
 module _ (f : File) (most : ℕ) (sub : ℕ → List Error) (n : ℕ → ℕ) (h : (m : ℕ) → length (sub m) ≤ most * n m) where
   length-sub : (k : ℕ) (a : Args) (s : Span) (o : Option ℕ) → length (subErrors f sub k a s o) ≤ 1 + count a + most * sumOf n (toList o)

@@ -100,9 +100,6 @@ unfolding unfated
 unfated-tells first [] = tt
 unfated-tells first (q ∷ qs) = ((0, 0, unfated-words first q), unfated-tells (first + flatSize q) qs)
 
-pub unfated-count : (first : ℕ) (qs : List Flat) → length (unfated first qs) ≡ length qs
-unfated-count first qs = tells-count first qs (unfated first qs) (unfated-tells first qs)
-
 pub unfated-wide : (first : ℕ) (qs : List Flat) → Wide 8 (unfated first qs)
 unfated-wide first qs = tells-wide first qs (unfated first qs) (unfated-tells first qs)
 

@@ -8,7 +8,7 @@ use lib.ListN.{length, take, drop, getD, length-drop}
 use lib.Seq.{length-take-le}
 use Rattle.functions.specs.Lists.{each, sumOf}
 use Rattle.ast.specs.Tree.{Flat, flatSize}
-use Rattle.ast.specs.Words.{section, wordOf, floatFrom, low, high, bytesOf}
+use Rattle.ast.specs.Words.{section, wordOf, floatFrom, bytesOf}
 use Rattle.ast.specs.Bytes.{put}
 use Rattle.ast.specs.Encode.{flatNodes, encode}
 use Rattle.ast.specs.Rows.{levelsOf}
@@ -16,6 +16,7 @@ use Rattle.ast.specs.Opens.{Open, fileIn}
 use Rattle.ast.specs.declared.sections.Sections.{Sections}
 use Rattle.ast.proofs.Encodes.{encode-one}
 use Rattle.ast.proofs.Fronts.{lent-put, put-zero}
+use Rattle.ast.proofs.UnknownsBack.{float-back}
 use Rattle.builder.specs.Variables.{Bounds, fromZero, lastBounds}
 use Rattle.builder.specs.Flatten.{modelAt, flatten}
 use Rattle.builder.specs.Answer.{boundsWords}
@@ -91,13 +92,9 @@ room-behind d d′ qs n e h g l =
 
 -- ---- time's lower bound
 
-halves : (x : ℕ) → low x + 4294967296 * high x ≡ x
-unfolding low high
-halves x = omega arith
-
 lower-first : (b : Bounds) → floatFrom (boundsWords b) 0 ≡ b .lower
 unfolding floatFrom wordOf boundsWords
-lower-first b = halves (b .lower)
+lower-first b = float-back (b .lower)
 
 bounds-four : (b : Bounds) → length (boundsWords b) ≡ 4
 unfolding boundsWords

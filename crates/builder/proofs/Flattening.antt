@@ -1,7 +1,7 @@
 -- Flattened statements as code brings them in: each model's own statements once, with the replacements of all levels applied.
 use mathlib.Core.Path.{_≡_, refl, ap, _∙_}
 use Prim.Native.Nat.{ℕ}
-use mathlib.Core.List.{List, [], _∷_, _++_, map}
+use mathlib.Core.List.{List, [], _∷_, _++_, map, map-append}
 use mathlib.Core.Option.{some}
 use Rattle.functions.specs.Lists.{each}
 use Rattle.ast.specs.Tree.{Span, Args, Flat, submodel, File}
@@ -9,10 +9,6 @@ use Rattle.ast.specs.Subst.{Replacements, substFlat}
 use Rattle.ast.specs.Levels.{throughFlat}
 use Rattle.ast.proofs.OneWalk.{flat-subst, flat-none}
 use Rattle.builder.specs.Flatten.{replacements, modelNamed, modelAt, stmtFlats, subFlats}
-
-map-append : {A B : Type 0} (f : A → B) (xs ys : List A) → map f (xs ++ ys) ≡ map f xs ++ map f ys
-map-append f [] ys = refl
-map-append f (x ∷ xs) ys = rw (map-append f xs ys) refl
 
 -- statement by statement
 pub map-each : {A B C : Type 0} (g : B → C) (h : A → List B) (xs : List A) → map g (each h xs) ≡ each (λ x. map g (h x)) xs

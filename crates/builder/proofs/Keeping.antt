@@ -21,6 +21,7 @@ use Rattle.functions.proofs.Lists.{clash}
 use Rattle.functions.proofs.Places.{each-nil, map-at, map-from, any-later, later-any, times-pos, place-found, place-at, place-exact, unless-nil}
 use Rattle.builder.specs.Promise.{IsStart, IsReplaced}
 use Rattle.builder.proofs.Roles.{starts-is, is-starts, rates-is, is-rates}
+use Rattle.builder.proofs.ListLaws.{element-below}
 
 -- ---- small facts
 
@@ -91,11 +92,6 @@ getD-at : {A : Type 0} (xs : List A) (i : ℕ) (d x : A) → getElem? xs i ≡ s
 getD-at [] i d x e = clash (cc)
 getD-at (y ∷ xs) zero d x e = Option·some-injective _ _ e
 getD-at (y ∷ xs) (suc i) d x e = getD-at xs i d x e
-
-below : {A : Type 0} (xs : List A) (i : ℕ) (x : A) → getElem? xs i ≡ some x → i < length xs
-below [] i x h = clash (cc)
-below (y ∷ xs) zero x h = omega arith
-below (y ∷ xs) (suc i) x h = omega (arith, below xs i x h)
 
 at-below : {A : Type 0} (xs : List A) (i : ℕ) → i < length xs → (x : A) × (getElem? xs i ≡ some x)
 at-below [] i h = absurd (omega arith)
@@ -192,7 +188,7 @@ module _ (c : Scope) (time : Bounds) (span : Span) (qs : List Flat) where
           → conditions fs v ≡ 0
       other-starts-none v h never =
           let (i, g) = state-holds v h in
-          let (q, e) = at-below qs i (omega (arith, below fs i (held v) g, fate-each)) in
+          let (q, e) = at-below qs i (omega (arith, element-below fs i (held v) g, fate-each)) in
           not-rate v i q g e (λ n r s k. never i n r s g (e ∙ ap some k))
 
     -- ---- fates

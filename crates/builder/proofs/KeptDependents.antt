@@ -1,7 +1,7 @@
 -- The dependents that were written, read back by their starts: those of each variable of the definitions.
 use mathlib.Core.Path.{_≡_, refl, sym, ap, _∙_}
 use mathlib.Core.Bool.{Bool, true, false, cond, _||_}
-use mathlib.Core.List.{List, [], _∷_, _++_, append-assoc, map}
+use mathlib.Core.List.{List, [], _∷_, _++_, append-assoc}
 use mathlib.Core.Option.{some}
 use Prim.Native.Nat.{ℕ, zero, suc, _+_, _-_, _*_, _≤_, _<_}
 use native.Mathlib.Omega.{arith}
@@ -22,6 +22,7 @@ use Rattle.builder.specs.Variables.{Variable, numberOf, keptDeps, variab
 use Rattle.builder.specs.VariableTables.{wordsFrom, nextIn, DepsIn, TimeReached, unknownsIn, rosterIn, StartsOf}
 use Rattle.builder.proofs.Timing.{any-alike}
 use Rattle.builder.proofs.PutWords.{words-bytes, each-take, each-fits, kept-few}
+use Rattle.builder.proofs.ListLaws.{getD-map}
 
 -- ---- a kept dependent is a variable
 
@@ -106,11 +107,6 @@ module _ (vs : List ℕ) (us : List Unknown) (starts d out : List ℕ) (h : Star
 
 -- ---- the variables of the definitions
 
-getD-mapped : (g : ℕ → Variable) (xs : List ℕ) (i : ℕ) (o : Variable) → i < length xs → getD (map g xs) i o ≡ g (getD xs i 0)
-getD-mapped g [] i o l = absurd (omega arith)
-getD-mapped g (x ∷ xs) zero o l = refl
-getD-mapped g (x ∷ xs) (suc i) o l = getD-mapped g xs i o (omega arith)
-
 module _ (names : List (List ℕ)) (us : List Unknown) where
   -- one for each name
   pub count-variables : length (variablesOf names us) ≡ length (variableNames names us)
@@ -120,7 +116,7 @@ module _ (names : List (List ℕ)) (us : List Unknown) where
   -- with its kept dependents
   pub variable-deps : (v : ℕ) → v < length (variableNames names us) → at (variablesOf names us) v .deps ≡ keptDeps (variableNames names us) us (getD (variableNames names us) v 0)
   unfolding at variablesOf variable
-  variable-deps v l = ap (λ (x : Variable). x .deps) (getD-mapped (variable names (variableNames names us) us) (variableNames names us) v noVariable l)
+  variable-deps v l = ap (λ (x : Variable). x .deps) (getD-map (variable names (variableNames names us) us) (variableNames names us) v 0 noVariable l)
 
 -- two graphs that agree below n, where each step stays below n
 pub reaches-alike : (next other : ℕ → List ℕ) (n k a b : ℕ) → ((v : ℕ) → v < n → next v ≡ other v) → ((v : ℕ) → v < n → all (λ d. ltb d n) (next v) ≡ true) → a < n → reaches next k a b ≡ reaches other k a b

@@ -1,4 +1,5 @@
 pub mod Promises
+pub mod ListLaws
 pub mod Accepted
 pub mod Kept
 pub mod Area

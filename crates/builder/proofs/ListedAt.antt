@@ -6,7 +6,7 @@ use Prim.Native.Nat.{ℕ, zero, suc, _+_, _-_, _*_, _≤_}
 use native.Mathlib.Omega.{arith}
 use native.Mathlib.Nat.{add-zero, suc-mul}
 use lib.ListN.{length, take, drop, length-append, length-drop, take-append-drop}
-use lib.Seq.{length-take-le, take-take, take-at, drop-at, take-all}
+use lib.Seq.{length-take-le, take-take, take-at, drop-at, take-all, take-nil}
 use Rattle.functions.specs.Lists.{unless}
 use Rattle.ast.specs.Words.{words, records, section}
 use Rattle.builder.specs.Variables.{Error}
@@ -18,14 +18,10 @@ use Rattle.builder.proofs.Listings.{listed-append, length-listed}
 
 -- ---- a section is read from its own bytes
 
-take-none : {A : Type 0} (n : ℕ) → _≡_ {A = List A} (take n []) []
-take-none zero = refl
-take-none (suc n) = refl
-
 drop-take : {A : Type 0} (a k : ℕ) (l : List A) → a ≤ k → drop a (take k l) ≡ take (k - a) (drop a l)
 drop-take zero k l h = let e : k - 0 ≡ k = omega arith in rw e refl
 drop-take (suc a) zero l h = absurd (omega arith)
-drop-take (suc a) (suc k) [] h = sym (take-none (suc k - suc a))
+drop-take (suc a) (suc k) [] h = sym (take-nil (suc k - suc a))
 drop-take (suc a) (suc k) (x ∷ l) h = let e : suc k - suc a ≡ k - a = omega arith in rw e (drop-take a k l (omega arith))
 
 -- m bytes from a place on, of a list cut behind them
@@ -58,7 +54,7 @@ unfolding section
 section-bytes w n at d h = records-front w n (words (drop at d)) ∙ ap (records w n) (sym (words-front (n * w) (drop at d) (simp length-drop (omega arith))))
 
 -- two lists with the same first k bytes have the same sections there
-section-kept : (w n at k : ℕ) (d d′ : List ℕ) → at + 4 * (n * w) ≤ k → k ≤ length d → k ≤ length d′ → take k d ≡ take k d′ → section w n at d ≡ section w n at d′
+pub section-kept : (w n at k : ℕ) (d d′ : List ℕ) → at + 4 * (n * w) ≤ k → k ≤ length d → k ≤ length d′ → take k d ≡ take k d′ → section w n at d ≡ section w n at d′
 section-kept w n at k d d′ h l l′ e =
     let m = 4 * (n * w) in
     let p : take m (drop at d) ≡ take m (drop at d′) = part-take at m k d h ∙ ap (λ (x : List ℕ). take m (drop at x)) e ∙ sym (part-take at m k d′ h) in

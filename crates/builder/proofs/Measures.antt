@@ -1,8 +1,8 @@
 -- How a root model is measured, in the code's terms: the refusals 6 to 8 in their order, and the counts that stop just above their mosts.
 use mathlib.Core.Path.{_≡_, refl, sym, ap, _∙_}
-use mathlib.Core.Bool.{Bool, true, false, cond, _||_}
+use mathlib.Core.Bool.{true, false, cond, _||_, or-true}
 use mathlib.Core.List.{List, map}
-use Prim.Native.Nat.{ℕ, _+_, _*_, _≤_, _<_}
+use Prim.Native.Nat.{ℕ, _+_, _≤_, _<_}
 use native.Mathlib.Omega.{arith}
 use borrow.Author.Tests.{lt-ltb, le-ltb, eq-eqb, ne-eqb}
 use lib.Dec.{ltb}
@@ -60,10 +60,6 @@ at-most-whole : (most i x : ℕ) → i ≡ atMost (most + 1) x → i ≤ most �
 unfolding atMost
 at-most-whole most i x e h = omega arith
 
-or-last : (a : Bool) → (a || true) ≡ true
-or-last true = refl
-or-last false = refl
-
 -- by three numbers: instances, statements and nodes
 abbrev sizing : ℕ → ℕ → ℕ → Measured
 sizing i q n = cond (ltb 1024 i || ltb 1024 n || ltb 256 q) (Refused overMost) (Sized i q n)
@@ -72,10 +68,10 @@ over-first : (i q n : ℕ) → 1024 < i → Refused overMost ≡ sizing i q n
 over-first i q n h = rw (lt-ltb 1024 i h) refl
 
 over-second : (i q n : ℕ) → 256 < q → Refused overMost ≡ sizing i q n
-over-second i q n h = rw (lt-ltb 256 q h, or-last (ltb 1024 i || ltb 1024 n)) refl
+over-second i q n h = rw (lt-ltb 256 q h, or-true (ltb 1024 i || ltb 1024 n)) refl
 
 over-third : (i q n : ℕ) → 1024 < n → Refused overMost ≡ sizing i q n
-over-third i q n h = rw (lt-ltb 1024 n h, or-last (ltb 1024 i)) refl
+over-third i q n h = rw (lt-ltb 1024 n h, or-true (ltb 1024 i)) refl
 
 over-none : (i q n : ℕ) → i ≤ 1024 → q ≤ 256 → n ≤ 1024 → Sized i q n ≡ sizing i q n
 over-none i q n hi hq hn = rw (le-ltb 1024 i hi, le-ltb 256 q hq, le-ltb 1024 n hn) refl
@@ -109,7 +105,3 @@ module _ (f : File) (m k : ℕ) (ek : length (f .models) ≡ k) where
             let aq : q ≡ length (flatten f k m) = at-most-whole 256 q _ eq hq in
             let an : n ≡ sumOf flatSize (flatten f k m) = at-most-whole 1024 n _ plain hn in
             over-none i q n hi hq hn ∙ ap (λ (x : ℕ). sizing x q n) ai ∙ ap (λ (x : ℕ). sizing (instances f k m) x n) aq ∙ ap (λ (x : ℕ). sizing (instances f k m) (length (flatten f k m)) x) an ∙ size-at
-
--- rows for all levels
-pub rows-room : (k l : ℕ) → 256 * k ≤ l → 256 * (0 + k) ≤ l
-rows-room k l h = omega arith

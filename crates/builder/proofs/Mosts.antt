@@ -7,7 +7,7 @@ use mathlib.Core.List.{List, map}
 use lib.ListN.{length, length-append}
 use borrow.Author.Tests.{ltb-false}
 use Rattle.functions.specs.Lists.{sumOf}
-use Rattle.ast.specs.Tree.{File, flatSize}
+use Rattle.ast.specs.Tree.{File, flatSize, Flat}
 use Rattle.ast.specs.Words.{wordOf}
 use Rattle.ast.specs.File.{openFile, opened}
 use Rattle.builder.specs.Flatten.{modelAt, scopeOf, instances}
@@ -28,14 +28,15 @@ few-bytes : (a : Answer) → length (a .fates) ≡ length (a .stmts) → nodeCou
 unfolding areaEnd errorsFrom depsFrom varsFrom stmtsFrom nodesFrom header wordOf
 few-bytes a e n q v d = omega (arith, length-answer a e)
 
-module _ (file : List ℕ) (f : File) (m : ℕ) (ho : openFile file ≡ opened f) where
-  few : tooBig f m (flats f m) ≡ false → (instances f (length (f .models)) m ≤ 1024) × (sumOf flatSize (flats f m) ≤ 1024) × (length (flats f m) ≤ 256)
-  unfolding tooBig
-  few h =
-      let (h₁, q) = or-false _ _ h in
-      let (i, n) = or-false _ _ h₁ in
-      (ltb-false _ _ i, ltb-false _ _ n, ltb-false _ _ q)
+-- instances, nodes and statements of a model that is not too big
+pub few-flats : (f : File) (m : ℕ) (qs : List Flat) → tooBig f m qs ≡ false → (instances f (length (f .models)) m ≤ 1024) × (sumOf flatSize qs ≤ 1024) × (length qs ≤ 256)
+unfolding tooBig
+few-flats f m qs h =
+    let (h₁, q) = or-false _ _ h in
+    let (i, n) = or-false _ _ h₁ in
+    (ltb-false _ _ i, ltb-false _ _ n, ltb-false _ _ q)
 
+module _ (file : List ℕ) (f : File) (m : ℕ) (ho : openFile file ≡ opened f) where
   error-count : instances f (length (f .models)) m ≤ 1024 → length (flats f m) ≤ 256 → length (answered f m .vars) ≤ 129 → length (answered f m .errors) < 2 ^ 32
   unfolding answerFrom
   error-count i q v =
@@ -55,7 +56,7 @@ module _ (file : List ℕ) (f : File) (m : ℕ) (ho : openFile file ≡ opened f
   within : tooBig f m (flats f m) ≡ false → WithinMosts (answered f m)
   unfolding answerFrom nodeCount depsOf scopeOf
   within h =
-      let (i, n, q) = few h in
+      let (i, n, q) = few-flats f m (flats f m) h in
       let v : length (answered f m .vars) ≤ 129 = omega (arith, length-variables (f .names) (modelAt f m .unknowns), model-unknowns file f ho m) in
       let d : length (depsOf (answered f m)) ≤ 1024 = omega (arith, length-kept (f .names) (modelAt f m .unknowns), model-listed file f ho m) in
       record { nodes = n; stmts = q; vars = v; deps = d; instances = i; errors = error-count i q v; bytes = few-bytes (answered f m) (each-fated f m) n q v d }

@@ -1,13 +1,13 @@
 -- An open file by number: its nodes, its models with their runs of unknowns and statements, and its statements.
 use mathlib.Core.Path.{_≡_, refl, sym, ap, _∙_}
 use mathlib.Core.Bool.{Bool, true, false, cond}
-use mathlib.Core.List.{List, [], _∷_, map}
+use mathlib.Core.List.{List, [], map}
 use mathlib.Core.Option.{Option, none, some}
-use Prim.Native.Nat.{ℕ, zero, suc, _+_, _-_, _≤_, _<_}
+use Prim.Native.Nat.{ℕ, _+_, _-_, _≤_, _<_}
 use native.Mathlib.Omega.{arith}
 use borrow.Author.Tests.{ltb-true, eqb-true}
 use lib.Dec.{eqb}
-use lib.ListN.{length, getD, getElem?, length-map}
+use lib.ListN.{length, getD, length-map}
 use Rattle.functions.specs.Lists.{place, plusOne}
 use Rattle.functions.proofs.Lists.{clash, and-both}
 use Rattle.functions.proofs.Places.{place-at}
@@ -23,6 +23,7 @@ use Rattle.ast.proofs.Files.{unknown-fits, stmt-fits, model-fits, model-runs, t
 use Rattle.ast.proofs.Opened.{ranges}
 use Rattle.builder.specs.Flatten.{noModel, modelNamed, modelAt}
 use Rattle.builder.specs.Tables.{calleeOf, Callees}
+use Rattle.builder.proofs.ListLaws.{element-below}
 
 unknown-name-below : (names limit first : ℕ) (r : List ℕ) → unknownFits names limit first r ≡ true → nameOfUnknown r < names
 unfolding unknownFits
@@ -73,11 +74,6 @@ plus-some : (o : Option ℕ) (c : ℕ) → plusOne o ≡ c → (c ≡ 0 → ⊥)
 unfolding plusOne
 plus-some none c e ne = absurd (ne (sym e))
 plus-some (some i) c e ne = ap some (omega arith)
-
-place-below : {A : Type 0} (xs : List A) (i : ℕ) (x : A) → getElem? xs i ≡ some x → i < length xs
-place-below [] i x e = clash (cc)
-place-below (y ∷ xs) zero x e = omega arith
-place-below (y ∷ xs) (suc i) x e = omega (arith, place-below xs i x e)
 
 -- ---- an open file
 
@@ -202,7 +198,7 @@ module _ (f : List ℕ) (s : Sections) (o : Open f s) where
   unfolding modelNamed place
   named-below n m e =
       let p = place-at (λ x. eqb n (x .name)) 0 (fileIn f s .models) m e in
-      omega (arith, p .2, place-below (fileIn f s .models) (p .0) (p .1) (p .3), models-count)
+      omega (arith, p .2, element-below (fileIn f s .models) (p .0) (p .1) (p .3), models-count)
 
   -- the model that submodel statement q calls, by the table of them
   module _ (q : ℕ) (l : q < s .counts .stmts) (calls : List ℕ) (t : Callees f s calls) (c : ℕ) (e : c ≡ getD calls q 0) (k : kindOfStmt (getD (contentsIn f s .stmts) q []) ≡ 3) where

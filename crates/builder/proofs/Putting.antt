@@ -23,7 +23,8 @@ use Rattle.ast.proofs.Seen.{size-respan, read-own}
 use Rattle.builder.specs.Flatten.{modelAt, stmtFlats, flatten}
 use Rattle.builder.specs.Descent.{flatAt, broughtAt, RowsIn, RowsKept}
 use Rattle.builder.proofs.OpenStmts.{nodes-pass, nodes-from, stmts-count, model-stmt, stmt-equation, stmt-rate}
-use Rattle.builder.proofs.Descents.{levels-kept, rest, rest-step, rest-end, rest-all, own-rate, own-equation, sum-append}
+use Rattle.builder.proofs.Descents.{levels-kept, rest, rest-step, rest-end, rest-all, own-rate, own-equation}
+use Rattle.builder.proofs.ListLaws.{sum-append}
 
 -- ---- puts
 

@@ -20,8 +20,9 @@ use Rattle.builder.specs.Flatten.{modelAt, stmtFlats, flatten}
 use Rattle.builder.specs.Descent.{flatAt, broughtAt, RowsIn, RowsKept}
 use Rattle.builder.specs.Unfated.{unfatedWords, unfated, RecordsFit, Recorded}
 use Rattle.builder.proofs.OpenStmts.{nodes-from, stmts-count, model-stmt, stmt-equation, stmt-rate}
-use Rattle.builder.proofs.Descents.{levels-kept, rest, rest-step, rest-end, rest-all, sum-append}
+use Rattle.builder.proofs.Descents.{levels-kept, rest, rest-step, rest-end, rest-all}
 use Rattle.builder.proofs.Putting.{length-put, put-none, put-put}
+use Rattle.builder.proofs.ListLaws.{sum-append}
 
 -- ---- records
 

@@ -1,6 +1,5 @@
 -- The errors of statements by number: of an equation by the answer for its left side, of a rate equation by its name's entries, and of all.
 use mathlib.Core.Path.{_≡_, refl, sym, ap, _∙_}
-use mathlib.Core.Bool.{Bool, true, false}
 use mathlib.Core.List.{List, [], _∷_, _++_, append-nil}
 use mathlib.Core.Option.{Option, none, some}
 use Prim.Native.Nat.{ℕ, suc, _+_, _-_, _≤_, _<_}
@@ -24,6 +23,7 @@ use Rattle.builder.specs.declared.allocate.Start.the-variants.{Nothing, 
 use Rattle.builder.specs.Allocating.{flatAt, nodesIn, stmtIn, flatIn, flatsIn, Flattened, entryBy, startBy, startErrorsBy, rateErrorsBy, roleErrorsBy, foundStart, startAt, CallFits}
 use Rattle.builder.proofs.LeftSides.{entry-none, entry-some, found-start}
 use Rattle.builder.proofs.Flats.{flats-count, flat-at, flat-equation, flat-rate}
+use Rattle.builder.proofs.ErrorCount.{length-unless}
 
 -- ---- by the answer for a left side
 
@@ -78,12 +78,6 @@ module _ (b : List ℕ) (z : Sizes) (names : ℕ) (o : Flattened names b z) (num
   unfolding roleErrorsBy
   errors-rate ne = ap (roleErrorsBy numbers indexes rates lower) (flat-rate b z i ne)
 
--- a statement has at most one
-unless-few : (b : Bool) (e : Error) → length (unless b e) ≤ 1
-unfolding unless
-unless-few true e = omega arith
-unless-few false e = omega arith
-
 -- whatever it is
 pub errors-few : (numbers indexes rates : List ℕ) (lower : ℕ) (q : Flat) → length (roleErrorsBy numbers indexes rates lower q) ≤ 1
 unfolding roleErrorsBy startErrorsBy rateErrorsBy
@@ -91,12 +85,12 @@ errors-few numbers indexes rates lower (equation l r s) = go (startBy numbers in
   where
     go : (o : Option roles.Start) → length (startErrorsBy lower o) ≤ 1
     go none = omega arith
-    go (some x) = unless-few _ _
+    go (some x) = length-unless _ _
 errors-few numbers indexes rates lower (rate n r s) = go (entryBy numbers n)
   where
     go : (o : Option ℕ) → length (rateErrorsBy rates n s o) ≤ 1
     go none = omega arith
-    go (some v) = unless-few _ _
+    go (some v) = length-unless _ _
 
 -- ---- of all statements, one more at a time
 

@@ -4,7 +4,6 @@ use mathlib.Core.Bool.{false}
 use mathlib.Core.List.{List}
 use Prim.Native.Nat.{ℕ, _+_, _*_, _≤_, _<_}
 use native.Mathlib.Omega.{arith}
-use borrow.Author.Tests.{ltb-false}
 use lib.ListN.{length, getD}
 use lib.Seq.{take-length}
 use Rattle.functions.specs.Lists.{each, sumOf}
@@ -16,7 +15,6 @@ use Rattle.ast.specs.Opens.{Open, fileIn}
 use Rattle.ast.specs.declared.sections.Sections.{Sections}
 use Rattle.ast.proofs.Encodes.{length-bytes}
 use Rattle.builder.specs.Variables.{Variable}
-use Rattle.builder.specs.Flatten.{instances}
 use Rattle.builder.specs.Build.{tooBig}
 use Rattle.builder.specs.Checking as checking
 use Rattle.builder.specs.VariableTables.{rosterIn, Listing}
@@ -26,29 +24,21 @@ use Rattle.builder.specs.Root.{flatsOf, scopeAt, TablesOf, SizesOf, Know
 use Rattle.builder.specs.declared.places.Sizes.{Sizes}
 use Rattle.builder.specs.declared.tables.Tables.{Tables}
 use Rattle.builder.specs.declared.variables.Roster.{Roster}
-use Rattle.builder.proofs.Counts.{or-false}
 use Rattle.builder.proofs.Sections.{length-wide}
 use Rattle.builder.proofs.PutWords.{kept-few}
 use Rattle.builder.proofs.Putting.{length-put, length-flats}
-use Rattle.builder.proofs.FlatsBack.{unfated-count, unfated-wide}
+use Rattle.builder.proofs.FlatsBack.{unfated-wide}
 use Rattle.builder.proofs.AreaParts.{part-put, part-before}
 use Rattle.builder.proofs.RootTables.{model-written, vars-count}
+use Rattle.builder.proofs.Recording.{count-unfated}
+use Rattle.builder.proofs.Mosts.{few-flats}
 
 -- ---- a model that is not too big
 
 module _ (F : File) (m : ℕ) where
-  -- instances, nodes and statements
-  pub few-flats : tooBig F m (flatsOf F m) ≡ false
-      → (instances F (length (F .models)) m ≤ 1024) × (sumOf flatSize (flatsOf F m) ≤ 1024) × (length (flatsOf F m) ≤ 256)
-  unfolding tooBig
-  few-flats h =
-      let (h₁, q) = or-false _ _ h in
-      let (i, n) = or-false _ _ h₁ in
-      (ltb-false _ _ i, ltb-false _ _ n, ltb-false _ _ q)
-
   -- bytes of the statements' records
   length-unfated : length (encode (unfated 0 (flatsOf F m))) ≡ 32 * length (flatsOf F m)
-  length-unfated = length-wide 8 (unfated 0 (flatsOf F m)) (unfated-wide 0 (flatsOf F m)) ∙ omega (arith, unfated-count 0 (flatsOf F m))
+  length-unfated = length-wide 8 (unfated 0 (flatsOf F m)) (unfated-wide 0 (flatsOf F m)) ∙ omega (arith, count-unfated 0 (flatsOf F m))
 
   module _ (n : ℕ) (b₀ b₁ : List ℕ) (en : n ≡ sumOf flatSize (flatsOf F m)) (hn : n ≤ 1024) (hq : length (flatsOf F m) ≤ 256) (l : length b₀ ≡ 55384)
       (e : b₁ ≡ put (put b₀ 40 (encode (each flatNodes (flatsOf F m)))) (40 + 32 * n) (encode (unfated 0 (flatsOf F m)))) where
@@ -112,14 +102,14 @@ module _ (f : List ℕ) (s : Sections) (m n q : ℕ) (r : Roster) (en : n ≡ su
       → b₁ ≡ put (put b₀ 40 (encode (each flatNodes (flatsOf (fileIn f s) m)))) (40 + 32 * n) (encode (unfated 0 (flatsOf (fileIn f s) m)))
       → 40 + 32 * n + 32 * q + 48 * r .count + 4096 ≤ length b₁
   deps-room b₀ b₁ l e =
-      let (i, hn, hq) = few-flats (fileIn f s) m h in
+      let (i, hn, hq) = few-flats (fileIn f s) m (flatsOf (fileIn f s) m) h in
       omega (arith, flats-length (fileIn f s) m n b₀ b₁ en (omega arith) hq l e, v .few)
 
   module _ (o : Open f s) (t : Tables) (w : TablesOf (scopeAt (fileIn f s) m) t) where
     -- the sizes
     pub sizes-known : SizesOf (fileIn f s) m (record { nodes = n; stmts = q; vars = r .count; deps = getD (t .starts) (r .count) 0 })
     sizes-known =
-        let (i, hn, hq) = few-flats (fileIn f s) m h in
+        let (i, hn, hq) = few-flats (fileIn f s) m (flatsOf (fileIn f s) m) h in
         let vs = scopeAt (fileIn f s) m .vars in
         let ev : r .count ≡ length vs = v .count ∙ sym (vars-count f s m) in
         let ed : getD (t .starts) (r .count) 0 ≡ length (each (λ (x : Variable). x .deps) vs) =

@@ -1,13 +1,12 @@
 -- What is known of a root model: its tables are those of its scope and of time's bounds, and t's name stands first.
-use mathlib.Core.Path.{_≡_, refl, sym, ap, _∙_}
-use mathlib.Core.Bool.{Bool, true, false, cond}
-use mathlib.Core.List.{List, [], _∷_, map}
+use mathlib.Core.Path.{_≡_, sym, ap, _∙_}
+use mathlib.Core.List.{List}
 use mathlib.Core.Option.{some}
-use Prim.Native.Nat.{ℕ, suc, _+_, _≤_}
+use Prim.Native.Nat.{ℕ, suc, _≤_}
 use native.Mathlib.Omega.{arith}
 use lib.Dec.{eqb}
 use lib.ListN.{length, getD}
-use Rattle.functions.specs.Lists.{placeFrom, place, plusOne}
+use Rattle.functions.specs.Lists.{place, plusOne}
 use Rattle.ast.specs.Opens.{fileIn}
 use Rattle.ast.specs.declared.sections.Sections.{Sections}
 use Rattle.builder.specs.Names.{timeName}
@@ -21,27 +20,14 @@ use Rattle.builder.specs.declared.places.Sizes.{Sizes}
 use Rattle.builder.proofs.Open.{names-long}
 use Rattle.builder.proofs.Rosters.{listing-name}
 use Rattle.builder.proofs.VarAnswers.{names-first, time-last}
+use Rattle.builder.proofs.ListLaws.{place-map}
+use Rattle.builder.proofs.SoundVariables.{place-small}
 
 -- ---- places
 
-place-mapped : {A B : Type 0} (g : A → B) (p : B → Bool) (k : ℕ) (xs : List A) → placeFrom k p (map g xs) ≡ placeFrom k (λ x. p (g x)) xs
-unfolding placeFrom
-place-mapped g p k [] = refl
-place-mapped g p k (x ∷ xs) = rw (place-mapped g p (suc k) xs) refl
-
--- one more than a place is no more than there are
-place-most : {A : Type 0} (p : A → Bool) (k : ℕ) (xs : List A) → plusOne (placeFrom k p xs) ≤ k + length xs
-unfolding placeFrom plusOne
-place-most p k [] = omega arith
-place-most p k (x ∷ xs) = go (p x) (place-most p (suc k) xs)
-  where
-    go : (b : Bool) → plusOne (placeFrom (suc k) p xs) ≤ suc k + length xs → plusOne (cond b (some k) (placeFrom (suc k) p xs)) ≤ k + suc (length xs)
-    go true h = omega arith
-    go false h = omega arith
-
 number-most : (vs : List ℕ) (n : ℕ) → plusOne (numberOf vs n) ≤ length vs
 unfolding numberOf place
-number-most vs n = omega (arith, place-most (eqb (suc n)) 0 vs)
+number-most vs n = omega (arith, place-small (eqb (suc n)) 0 vs)
 
 -- ---- of a root model
 
@@ -52,7 +38,7 @@ module _ (f : List ℕ) (s : Sections) (m : ℕ) where
   scope-number n =
       let us = modelAt (fileIn f s) m .unknowns in
       let vs = variableNames (fileIn f s .names) us in
-      place-mapped (variable (fileIn f s .names) vs us) _ 0 vs
+      place-map (variable (fileIn f s .names) vs us) _ 0 vs
 
   -- the names of its scope
   pub scope-names : length (scopeAt (fileIn f s) m .names) ≡ s .counts .names

@@ -1,11 +1,10 @@
 -- The tables of a root's variables as the code fills them: time indexes as words, starts, reaching t and rates, each as the definitions have it.
 use mathlib.Core.Path.{_≡_, refl, sym, ap, _∙_}
-use mathlib.Core.Bool.{Bool, true, false, not, _||_, _&&_}
+use mathlib.Core.Bool.{Bool, not, _||_, _&&_}
 use mathlib.Core.List.{List, [], _∷_, _++_, map}
 use mathlib.Core.Option.{Option, none, some}
 use Prim.Native.Nat.{ℕ, zero, suc, _+_, _-_, _%_, _≤_, _<_}
 use native.Mathlib.Omega.{arith}
-use borrow.Author.Tests.{lt-ltb, le-ltb}
 use lib.Dec.{eqb, ltb}
 use lib.ListN.{length, take, getD, length-append}
 use Rattle.functions.specs.Lists.{each, isEmpty, plusOne, flag, reaches}
@@ -21,6 +20,7 @@ use Rattle.builder.specs.Root.{scopeAt, TablesOf}
 use Rattle.builder.proofs.Timing.{length-from}
 use Rattle.builder.proofs.PutWords.{each-take, each-fits, kept-few}
 use Rattle.builder.proofs.KeptDependents.{model-deps-in, model-next, model-reached, count-variables, variable-deps}
+use Rattle.builder.proofs.ListLaws.{run-some, flag-one}
 
 -- ---- a time index is a word
 
@@ -60,18 +60,6 @@ module _ (g : ℕ → Variable) (k : ℕ → List ℕ) (e : (y : ℕ) → g y .d
   deps-mapped [] = refl
   deps-mapped (x ∷ xs) =
       ap (λ (l : List ℕ). l ++ each (λ (y : Variable). y .deps) (map g xs)) (e x) ∙ ap (λ (l : List ℕ). k x ++ l) (deps-mapped xs)
-
--- a mark is 1 where it is set
-flag-set : (b : Bool) → eqb (flag b) 1 ≡ b
-unfolding flag
-flag-set true = refl
-flag-set false = refl
-
--- a run has words where its end is behind its start
-run-some : (a b : ℕ) (ds : List ℕ) → b ≡ a + length ds → ltb a b ≡ not (isEmpty ds)
-unfolding isEmpty
-run-some a b [] h = le-ltb a b (omega arith)
-run-some a b (d ∷ ds) h = lt-ltb a b (omega arith)
 
 -- ---- in an open file's model
 
@@ -133,7 +121,7 @@ module _ (f : List ℕ) (s : Sections) (o : Open f s) (m : ℕ) (starts d out : 
         let next : ℕ → List ℕ = λ j. at (variablesOf (fileIn f s .names) us) j .deps in
         let q : getD reach v 0 ≡ flag (reaches next (length (rosterIn f s m)) v 0) = model-reached f s o m starts d out h e most room reach (rw count at t) v l in
         ap (λ (n : ℕ). eqb v 0 || eqb n 1) q
-        ∙ ap (λ (b : Bool). eqb v 0 || b) (flag-set (reaches next (length (rosterIn f s m)) v 0))
+        ∙ ap (λ (b : Bool). eqb v 0 || b) (flag-one (reaches next (length (rosterIn f s m)) v 0))
         ∙ ap (λ (n : ℕ). eqb v 0 || reaches next n v 0) (sym (count-variables (fileIn f s .names) us))
 
     -- the four tables

@@ -1,7 +1,7 @@
 -- What the code works out by the tables of a root model's variables is what the definitions say: roles, fates, variables' records and errors.
 use mathlib.Core.Path.{_≡_, refl, sym, ap, ap₂, _∙_}
 use mathlib.Core.Bool.{cond}
-use mathlib.Core.List.{List, [], _∷_, map}
+use mathlib.Core.List.{List, [], _∷_, map, map-map}
 use Prim.Native.Nat.{ℕ, zero, suc, _+_, _<_}
 use native.Mathlib.Omega.{arith}
 use lib.Dec.{eqb}
@@ -35,10 +35,6 @@ use Rattle.builder.proofs.FlatsBack.{nodes-read, unfated-stmts, fated-s
 use Rattle.builder.proofs.StartingTies.{records-pairs, starting-tie}
 use Rattle.builder.proofs.VarAnswers.{Agreeing, beginning, var-records-are, own-bounds}
 use Rattle.builder.proofs.RootShort.{agree}
-
-map-map : {A B C : Type 0} (g : B → C) (h : A → B) (xs : List A) → map (λ x. g (h x)) xs ≡ map g (map h xs)
-map-map g h [] = refl
-map-map g h (x ∷ xs) = ap₂ _∷_ refl (map-map g h xs)
 
 -- the words in front of the fate are the same before and after
 six-words : (first : ℕ) (q : Flat) (x : Fate) → take 6 (unfatedWords first q) ≡ take 6 (flatWords first q x)
@@ -104,7 +100,7 @@ module _ (f : List ℕ) (s : Sections) (m : ℕ) (classes names numbers starts i
     roles-tie =
         roles-same (scopeAt (fileIn f s) m) (timeAt (fileIn f s) m) numbers indexes rates lower (agree f s m classes names numbers starts indexes reach rates z k lower el) b z formed
         ∙ ap (map (λ q. roleNumber (roleOf (scopeAt (fileIn f s) m) (timeAt (fileIn f s) m) q))) (unfated-flats f s m z b (k .is-open) (k .sizes) u)
-        ∙ map-map roleNumber (roleOf (scopeAt (fileIn f s) m) (timeAt (fileIn f s) m)) (flatsOf (fileIn f s) m)
+        ∙ sym (map-map roleNumber (roleOf (scopeAt (fileIn f s) m) (timeAt (fileIn f s) m)) (flatsOf (fileIn f s) m))
 
     pub left-tie : times (eqb 0) (rolesBy b z numbers indexes rates lower) ≡ leftCount (rolesAt (fileIn f s) m)
     left-tie = ap (times (eqb 0)) roles-tie ∙ left-number (rolesAt (fileIn f s) m)

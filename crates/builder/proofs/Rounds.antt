@@ -1,7 +1,7 @@
 -- One round over the table of models reached: from at most k steps to one more.
 use mathlib.Core.Path.{_≡_, refl, sym, ap, _∙_}
-use mathlib.Core.Bool.{Bool, true, false, _||_, or-false, or-assoc}
-use mathlib.Core.List.{List, [], _∷_, _++_}
+use mathlib.Core.Bool.{Bool, false, _||_, or-false}
+use mathlib.Core.List.{List, [], _∷_}
 use mathlib.Core.Logic.{_⊎_, ⊎-elim}
 use Prim.Native.Nat.{ℕ, _+_, _-_, _*_, _≤_, _<_}
 use native.Mathlib.Omega.{arith}
@@ -20,12 +20,7 @@ use Rattle.ast.specs.Opens.{Open, contentsIn, fileIn}
 use Rattle.ast.specs.declared.sections.Sections.{Sections}
 use Rattle.builder.proofs.Everywhere.{All}
 use Rattle.builder.proofs.Calling.{callees-all, calls-none, calls-one}
-
--- of two lists in a row
-any-append : {A : Type 0} (p : A → Bool) (xs ys : List A) → any p (xs ++ ys) ≡ (any p xs || any p ys)
-unfolding any
-any-append p [] ys = refl
-any-append p (x ∷ xs) ys = rw (any-append p xs ys) (sym (or-assoc (p x) (any p xs) (any p ys)))
+use Rattle.builder.proofs.ListLaws.{any-append, flag-one}
 
 -- of lists in a row, list by list
 pub any-each : {A B : Type 0} (p : B → Bool) (g : A → List B) (xs : List A) → any p (each g xs) ≡ any (λ x. any p (g x)) xs
@@ -44,12 +39,6 @@ any-same P p q e (x ∷ xs) h = rw (e x (h .0), any-same P p q e xs (h .1)) refl
 -- a number below one more
 up-to : (x a : ℕ) → x < a + 1 → (x ≡ a) ⊎ (x < a)
 up-to x a h = let g : x ≤ a = omega arith in eq-or-lt-of-le g
-
--- an entry is 1 where the test passes
-flag-one : (b : Bool) → eqb (flag b) 1 ≡ b
-unfolding flag
-flag-one true = refl
-flag-one false = refl
 
 module _ (f : File) where
   -- one step on from model a, statement by statement

@@ -1,6 +1,6 @@
 -- The table of a scope's variables, unknown after unknown: which names are variables, and how many kept dependents each has.
 use mathlib.Core.Path.{_≡_, refl, sym, ap, _∙_}
-use mathlib.Core.Bool.{Bool, true, false, cond, not, _||_}
+use mathlib.Core.Bool.{Bool, true, false, cond, not, _||_, or-true, or-false}
 use mathlib.Core.List.{List, [], _∷_, _++_, append-nil, map}
 use mathlib.Core.Option.{Option, none, some}
 use Prim.Native.Nat.{ℕ, zero, suc, _+_, _-_, _*_, _≤_, _<_}
@@ -28,6 +28,7 @@ use Rattle.builder.specs.Checking.{scopeIn, unknownIn}
 use Rattle.builder.proofs.Classes.{class-time, class-reserved}
 use Rattle.builder.proofs.OpenRecords.{unknown-is, dep-below}
 use Rattle.builder.proofs.Amounts.{sum-next, place-below}
+use Rattle.builder.proofs.ListLaws.{any-append}
 
 -- ---- the first name that is t
 
@@ -55,25 +56,6 @@ module _ (names : List (List ℕ)) (cs : List ℕ) (h : Classes names cs) (n : �
   pub time-end : length names ≤ n → plusOne timeFrom ≡ 0
   unfolding placeFrom plusOne
   time-end l = ap (λ (xs : List (List ℕ)). plusOne (placeFrom n (sameText (text "t")) xs)) (drop-past names n l)
-
--- ---- members
-
-any-append : {A : Type 0} (p : A → Bool) (xs ys : List A) → any p (xs ++ ys) ≡ (any p xs || any p ys)
-unfolding any
-any-append p [] ys = refl
-any-append p (x ∷ xs) ys = go (p x) (any-append p xs ys)
-  where
-    go : (b : Bool) → any p (xs ++ ys) ≡ (any p xs || any p ys) → (b || any p (xs ++ ys)) ≡ ((b || any p xs) || any p ys)
-    go true e = refl
-    go false e = e
-
-or-false : (b : Bool) → (b || false) ≡ b
-or-false true = refl
-or-false false = refl
-
-or-true : (b : Bool) → (b || true) ≡ true
-or-true true = refl
-or-true false = refl
 
 -- ---- the names of variables, one unknown more
 

@@ -1,37 +1,29 @@
 -- Records written as bytes, one behind the other, and cut out again.
 use mathlib.Core.Path.{_≡_, refl, sym, ap, ap₂, _∙_}
 use mathlib.Core.List.{List, [], _∷_, _++_, append-assoc}
-use Prim.Native.Nat.{ℕ, suc, _+_, _*_, _/_, _%_, _≤_, _<_}
+use Prim.Native.Nat.{ℕ, suc, _+_, _*_, _≤_, _<_}
 use native.Mathlib.Omega.{arith}
 use native.Mathlib.Nat.{suc-mul, zero-mul}
 use lib.ListN.{length, getD, length-append}
 use lib.Seq.{take-at, drop-at}
 use Rattle.functions.specs.Lists.{each}
-use Rattle.ast.specs.Words.{words, records, section, wordOf, bytes4, bytesOf}
+use Rattle.ast.specs.Words.{words, records, section, wordOf, bytesOf}
 use Rattle.ast.specs.Bytes.{wordAt}
 use Rattle.ast.specs.Encode.{encode}
 use Rattle.ast.proofs.Encodes.{length-bytes}
 use Rattle.ast.proofs.Fields.{field-at}
+use Rattle.ast.proofs.FromBytes.{words-bytes}
 
 -- records of w words each
 abbrev pub Wide : ℕ → List (List ℕ) → Type 0
 Wide w [] = Unit {0}
 Wide w (r ∷ rs) = (length r ≡ w) × Wide w rs
 
-word-back : (w : ℕ) → w % 256 + 256 * (w / 256 % 256) + 65536 * (w / 65536 % 256) + 16777216 * (w / 16777216) ≡ w
-word-back w = omega arith
-
--- the words that bytes were written from
-pub words-back : (ws rest : List ℕ) → words (bytesOf ws ++ rest) ≡ ws ++ words rest
-unfolding words bytesOf each bytes4
-words-back [] rest = refl
-words-back (w ∷ ws) rest = ap₂ _∷_ (word-back w) (words-back ws rest)
-
 records-back : (w : ℕ) (rs : List (List ℕ)) (rest : List ℕ) → Wide w rs → records w (length rs) (words (encode rs ++ rest)) ≡ rs
 unfolding records encode each
 records-back w [] rest h = refl
 records-back w (r ∷ rs) rest h =
-    let e : words (encode (r ∷ rs) ++ rest) ≡ r ++ words (encode rs ++ rest) = ap words (append-assoc (bytesOf r) (encode rs) rest) ∙ words-back r (encode rs ++ rest) in
+    let e : words (encode (r ∷ rs) ++ rest) ≡ r ++ words (encode rs ++ rest) = ap words (append-assoc (bytesOf r) (encode rs) rest) ∙ words-bytes r (encode rs ++ rest) in
     ap (records w (suc (length rs))) e
     ∙ ap₂ _∷_ (take-at r _ w (h .0)) (ap (records w (length rs)) (drop-at r _ w (h .0)) ∙ records-back w rs rest (h .1))
 

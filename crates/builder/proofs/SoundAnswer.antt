@@ -29,6 +29,7 @@ use Rattle.builder.proofs.Accepted.{scope, time, flats, answered, answe
 use Rattle.builder.proofs.Counts.{some-variable, length-each}
 use Rattle.builder.proofs.Area.{fate-each}
 use Rattle.builder.proofs.Mosts.{within-mosts}
+use Rattle.builder.proofs.ErrorCount.{count-sizes}
 
 -- ---- sound
 
@@ -115,11 +116,6 @@ op-word o h =
 node-words : (k n o z : ℕ) (s : Span) (b : ℕ) → Word k → Word n → Word o → Word z → Spanned s → Double b → All Word (node k n o z s b)
 unfolding node low high
 node-words k n o z s b hk hn ho hz hs hb = (hk, (hn, (ho, (hz, (hs .0, (hs .1, (omega arith, (omega arith, tt))))))))
-
-count-sizes : (a : Args) → count a ≤ sizes a
-unfolding count sizes
-count-sizes empty = omega arith
-count-sizes (snoc a k e s) = omega (arith, count-sizes a)
 
 module _ (names : ℕ) (few : names ≤ 256) where
   name-word : (n : ℕ) → ltb n names ≡ true → Word n

@@ -21,6 +21,7 @@ use Rattle.builder.specs.Allocate.{Fate, numbersFrom, isHeldBy, isInitia
 use Rattle.builder.specs.Answer.{flatWords, flatRecords}
 use Rattle.builder.specs.Starting.{rightSpanIn, heldErrorsIn, stateErrorsIn, startingIn}
 use Rattle.builder.proofs.FateLaws.{fatePair, recordPair, held-place-in, initial-in}
+use Rattle.builder.proofs.Lengths.{length-flat-nodes}
 
 -- ---- the span of a tree's top node
 
@@ -75,11 +76,6 @@ flat-span (equation l r s) x before rest =
     ∙ expr-span r (before ++ nodes l) rest _ (omega (arith, length-append before (nodes l), length-nodes l, size-more r))
 flat-span (rate n r s) x before rest = expr-span r before rest _ (omega (arith, size-more r))
 
-flat-length : (q : Flat) → length (flatNodes q) ≡ flatSize q
-unfolding flatNodes flatSize
-flat-length (equation l r s) = length-append (nodes l) (nodes r) ∙ ap₂ _+_ (length-nodes l) (length-nodes r)
-flat-length (rate n r s) = length-nodes r
-
 -- fates and variables are those of the fates
 pub records-pairs : (first : ℕ) (qs : List Flat) (fs : List Fate) → length fs ≡ length qs → map recordPair (flatRecords first qs fs) ≡ map fatePair fs
 unfolding flatRecords
@@ -105,7 +101,7 @@ records-span before first (q ∷ qs) [] i e h l = absurd (omega arith)
 records-span before first (q ∷ qs) (x ∷ fs) zero e h l = rw e (flat-span q x before (each flatNodes qs))
 records-span before first (q ∷ qs) (x ∷ fs) (suc i) e h l =
     ap (λ (m : List (List ℕ)). spanAt m (wordOf (getD (flatRecords (first + flatSize q) qs fs) i []) 3)) (sym (append-assoc before (flatNodes q) (each flatNodes qs)))
-    ∙ records-span (before ++ flatNodes q) (first + flatSize q) qs fs i (omega (arith, length-append before (flatNodes q), flat-length q)) (omega arith) (omega arith)
+    ∙ records-span (before ++ flatNodes q) (first + flatSize q) qs fs i (omega (arith, length-append before (flatNodes q), length-flat-nodes q)) (omega arith) (omega arith)
 
 -- ---- no first element that passes, and one
 

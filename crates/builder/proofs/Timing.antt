@@ -19,6 +19,7 @@ use Rattle.ast.proofs.Fields.{dep-at, length-deps}
 use Rattle.ast.proofs.Files.{all-at}
 use Rattle.builder.specs.Variables.{lastTime}
 use Rattle.builder.specs.VariableTables.{wordsFrom, nextIn, DepsIn, leads, Round, TimeReached}
+use Rattle.builder.proofs.ListLaws.{flag-one}
 
 -- ---- words from `first` up to `end`
 
@@ -128,12 +129,6 @@ any-alike p q n [] h e = refl
 any-alike p q n (x ∷ xs) h e =
     let (a, b) = and-both (ltb x n) _ h in
     rw (e x (ltb-true x n a), any-alike p q n xs b e)
-
--- a mark is 1 where it is set
-flag-one : (b : Bool) → eqb (flag b) 1 ≡ b
-unfolding flag
-flag-one true = refl
-flag-one false = refl
 
 -- a bound that is wider
 pub all-wider : (m n : ℕ) (xs : List ℕ) → m ≤ n → all (λ d. ltb d m) xs ≡ true → all (λ d. ltb d n) xs ≡ true

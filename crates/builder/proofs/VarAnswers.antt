@@ -5,7 +5,7 @@ use mathlib.Core.List.{List, [], _∷_, _++_, map, append-assoc, append-nil}
 use Prim.Native.Nat.{ℕ, zero, suc, _+_, _-_, _<_}
 use native.Mathlib.Omega.{arith}
 use native.Mathlib.Numerals.{add-one}
-use borrow.Author.Tests.{eq-eqb, ne-eqb, lt-ltb, le-ltb, ltb-true, ltb-false}
+use borrow.Author.Tests.{eq-eqb, ne-eqb, ltb-true, ltb-false}
 use lib.Dec.{eqb, ltb}
 use lib.ListN.{length, drop, getD, length-drop, length-append, length-map, List·getD-append}
 use lib.Seq.{getD-drop, drop-drop, getD-at}
@@ -18,6 +18,7 @@ use Rattle.builder.specs.Variables.{Bounds, Variable, fromZero, unbounde
 use Rattle.builder.specs.Answer.{Answer, variableWords, variableRecords, nodeCount, depsOf, header}
 use Rattle.builder.specs.VarRecords.{leadWords, varBounds, varWords, varRecords, headWords}
 use Rattle.builder.proofs.FateLaws.{recordPair, fatePair, held-in, conditions-in, Beginning}
+use Rattle.builder.proofs.ListLaws.{getD-map, run-some}
 
 -- ---- the header
 
@@ -30,14 +31,6 @@ head-is a z errors instances b n s v d e i t = rw (n, s, v, d, e, i, t) refl
 pub time-last : (texts : List (List ℕ)) (us : List Unknown) → lastBounds texts (timeName texts) fromZero us ≡ timeBounds texts us
 unfolding timeBounds
 time-last texts us = refl
-
--- ---- states
-
--- a variable has dependents if the next ones begin later
-begins : (first end : ℕ) (ds : List ℕ) → end ≡ first + length ds → ltb first end ≡ not (isEmpty ds)
-unfolding isEmpty
-begins first end [] e = le-ltb first end (omega arith)
-begins first end (d ∷ ds) e = lt-ltb first end (omega arith)
 
 -- ---- what the tables say of an answer's variables
 
@@ -53,7 +46,7 @@ pub record Agreeing (a : Answer) (texts : List (List ℕ)) (us : List Unknown) (
 -- Where the dependents begin says which variables are states.
 pub beginning : (vs : List Variable) (firsts : List ℕ) → ((v : ℕ) → v < length vs → getD firsts (v + 1) 0 ≡ getD firsts v 0 + length (at vs v .deps)) → Beginning vs firsts
 unfolding isState
-beginning vs firsts h = record { states = λ v l. begins (getD firsts v 0) (getD firsts (v + 1) 0) (at vs v .deps) (h v l) }
+beginning vs firsts h = record { states = λ v l. run-some (getD firsts v 0) (getD firsts (v + 1) 0) (at vs v .deps) (h v l) }
 
 -- variable i stands first from i on
 at-drop : (vs : List Variable) (i : ℕ) (x : Variable) (ws : List Variable) → drop i vs ≡ x ∷ ws → at vs i ≡ x
@@ -69,7 +62,7 @@ module _ (a : Answer) (texts : List (List ℕ)) (us : List Unknown) (stmts : Lis
   words-are v h =
       let n = agree .name v h in
       let e : getD firsts (v + 1) 0 - getD firsts v 0 ≡ length (at (a .vars) v .deps) = omega (arith, agree .next v h) in
-      let s : ltb (getD firsts v 0) (getD firsts (v + 1) 0) ≡ not (isEmpty (at (a .vars) v .deps)) = begins (getD firsts v 0) (getD firsts (v + 1) 0) (at (a .vars) v .deps) (agree .next v h) in
+      let s : ltb (getD firsts v 0) (getD firsts (v + 1) 0) ≡ not (isEmpty (at (a .vars) v .deps)) = run-some (getD firsts v 0) (getD firsts (v + 1) 0) (at (a .vars) v .deps) (agree .next v h) in
       rw (n, e, s, agree .index v h, agree .time v h, held-in stmts (a .fates) (agree .fates) v, conditions-in stmts (a .fates) (agree .fates) v, agree .bounds v h) refl
 
   -- those before i, then the answer's from i on
@@ -148,11 +141,6 @@ pub names-first : (texts : List (List ℕ)) (us : List Unknown) → FirstOnly (t
 unfolding variableNames
 names-first texts us =
     declared-first texts (timeName texts) us (timeName texts ∷ []) (record { some = omega arith; first = refl; others = λ v p h g. omega arith })
-
-getD-map : {A B : Type 0} (f : A → B) (xs : List A) (i : ℕ) (d : A) (b : B) → i < length xs → getD (map f xs) i b ≡ f (getD xs i d)
-getD-map f [] i d b l = absurd (omega arith)
-getD-map f (x ∷ xs) zero d b l = refl
-getD-map f (x ∷ xs) (suc i) d b l = getD-map f xs i d b (omega arith)
 
 -- Variable v's bounds by its number and name.
 pub own-bounds : (texts : List (List ℕ)) (us : List Unknown) (v : ℕ) → v < length (variablesOf texts us) → varBounds texts us v (at (variablesOf texts us) v .name) ≡ at (variablesOf texts us) v .bounds

@@ -1,16 +1,16 @@
 -- The variables' records written one behind the other, with the statements' records in front of them as they were.
-use mathlib.Core.Path.{_≡_, refl, sym, ap, ap₂, _∙_}
+use mathlib.Core.Path.{_≡_, refl, sym, ap, _∙_}
 use mathlib.Core.Bool.{Bool, true, false}
 use mathlib.Core.List.{List, [], _∷_, _++_}
 use Prim.Native.Nat.{ℕ, zero, suc, _+_, _*_, _≤_}
 use native.Mathlib.Omega.{arith}
 use native.Mathlib.Numerals.{add-one}
 use borrow.Author.Tests.{eq-eqb, ne-eqb}
-use lib.ListN.{length, take, drop, length-append, length-drop}
-use lib.Seq.{length-take-le, take-append-le, drop-append-le, take-nil}
+use lib.ListN.{length, take, drop, length-append}
+use lib.Seq.{length-take-le, take-at}
 use Rattle.functions.specs.Lists.{each}
 use Rattle.ast.specs.Tree.{Unknown}
-use Rattle.ast.specs.Words.{words, records, section, bytesOf}
+use Rattle.ast.specs.Words.{section, bytesOf}
 use Rattle.ast.specs.Bytes.{put}
 use Rattle.ast.specs.Encode.{encode}
 use Rattle.ast.proofs.Encodes.{length-bytes, encode-append, encode-one}
@@ -18,46 +18,18 @@ use Rattle.builder.specs.Variables.{Bounds, lastBounds}
 use Rattle.builder.specs.Answer.{boundsWords}
 use Rattle.builder.specs.Bounding.{boundsFrom}
 use Rattle.builder.specs.VarRecords.{leadWords, varBounds, varWords, varRecords}
-use Rattle.builder.proofs.FateRecords.{words-drop}
 use Rattle.builder.proofs.PutRecords.{put-more, put-again}
+use Rattle.builder.proofs.ListedAt.{section-kept}
 
 -- ---- what stands in front of a place is not changed there
-
-words-take : (k : ℕ) (xs : List ℕ) → take k (words xs) ≡ words (take (4 * k) xs)
-unfolding words
-words-take zero xs = refl
-words-take (suc k) [] = ap words (sym (take-nil (4 * suc k)))
-words-take (suc k) (a ∷ []) = let e : suc (suc (suc (suc (4 * k)))) ≡ 4 * suc k = omega arith in ap (λ (j : ℕ). words (take j (a ∷ []))) e
-words-take (suc k) (a ∷ b ∷ []) = let e : suc (suc (suc (suc (4 * k)))) ≡ 4 * suc k = omega arith in ap (λ (j : ℕ). words (take j (a ∷ b ∷ []))) e
-words-take (suc k) (a ∷ b ∷ c ∷ []) = let e : suc (suc (suc (suc (4 * k)))) ≡ 4 * suc k = omega arith in ap (λ (j : ℕ). words (take j (a ∷ b ∷ c ∷ []))) e
-words-take (suc k) (a ∷ b ∷ c ∷ d ∷ r) =
-    let e : suc (suc (suc (suc (4 * k)))) ≡ 4 * suc k = omega arith in
-    ap (λ (ws : List ℕ). (a + 256 * b + 65536 * c + 16777216 * d) ∷ ws) (words-take k r) ∙ ap (λ (j : ℕ). words (take j (a ∷ b ∷ c ∷ d ∷ r))) e
-
-records-front : (n : ℕ) (q r : List ℕ) → 32 * n ≤ length q → records 8 n (words (q ++ r)) ≡ records 8 n (words q)
-unfolding records
-records-front zero q r h = refl
-records-front (suc n) q r h =
-    let l : 32 ≤ length q = omega arith in
-    let k : 32 * n ≤ length (drop 32 q) = simp length-drop (omega arith) in
-    ap₂ _∷_
-    (words-take 8 (q ++ r) ∙ ap words (take-append-le 32 q r l) ∙ sym (words-take 8 q))
-    (ap (records 8 n) (words-drop 8 (q ++ r) ∙ ap words (drop-append-le 32 q r l)) ∙ records-front n (drop 32 q) r k ∙ sym (ap (records 8 n) (words-drop 8 q)))
-
-section-front : (n at : ℕ) (q r : List ℕ) → at + 32 * n ≤ length q → section 8 n at (q ++ r) ≡ section 8 n at q
-unfolding section
-section-front n at q r h =
-    let l : 32 * n ≤ length (drop at q) = simp length-drop (omega arith) in
-    ap (λ (xs : List ℕ). records 8 n (words xs)) (drop-append-le at q r (omega arith)) ∙ records-front n (drop at q) r l
 
 -- a section of records of 8 words in front of what is put
 pub section-before : (n at : ℕ) (d e : List ℕ) (p : ℕ) → at + 32 * n ≤ p → p ≤ length d → section 8 n at (put d p e) ≡ section 8 n at d
 unfolding put
 section-before n at d e p h l =
-    let t : at + 32 * n ≤ length (take p d) = omega (arith, length-take-le p d l) in
-    section-front n at (take p d) (e ++ drop (p + length e) d) t
-    ∙ sym (section-front n at (take p d) (drop p d) t)
-    ∙ ap (section 8 n at) (lib.ListN.take-append-drop p d)
+    let t = length-take-le p d l in
+    let k : p ≤ length (take p d ++ (e ++ drop (p + length e) d)) = rw length-append (omega arith) in
+    section-kept 8 n at p (take p d ++ (e ++ drop (p + length e) d)) d (omega arith) k l (take-at (take p d) (e ++ drop (p + length e) d) p t)
 
 -- ---- bounds of a variable
 

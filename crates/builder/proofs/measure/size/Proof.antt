@@ -2,8 +2,9 @@ use native.Mathlib.Omega.{arith}
 use lib.ListN.{length}
 use Rattle.ast.specs.Opens.{contentsIn, fileIn}
 use Rattle.builder.proofs.Open.{models-long}
-use Rattle.builder.proofs.Measures.{over-instances, over-stmts, over-nodes, sized, rows-room}
+use Rattle.builder.proofs.Measures.{over-instances, over-stmts, over-nodes, sized}
 use borrow.Author.Needs.{needs}
+use Rattle.builder.proofs.FlatsLaid.{rows-room}
 use Rattle.builder.proofs.measure.size.Statement.{statement}
 use Rattle.builder.proofs.measure.size.Tie as tie
 
@@ -29,7 +30,7 @@ add-flat-nodes : tie.Need-add-flat-nodes
 add-flat-nodes c = search needs
 
 flat-nodes-requires : tie.Need-flat-nodes-requires
-flat-nodes-requires c κs = let p = c .before .before .before .before .before .before .before .pre in (p .0, p .1, p .2, (omega (arith, p .0 .laid .within .models), rows-room (c .before .before .before .before .before .before .before .args .s .counts .models) (length (c .before .before .before .before .before .before .before .args .rows .now)) (p .3), p .4))
+flat-nodes-requires c κs = let p = c .before .before .before .before .before .before .before .pre in let r = rows-room (c .before .before .before .before .before .before .before .args .f .now) (c .before .before .before .before .before .before .before .args .s) (c .before .before .before .before .before .before .before .args .rows .now) (c .before .before .before .before .before .before .before .args .m) (p .0) (p .3) in (p .0, p .1, p .2, (r .0, r .1, p .4))
 
 same-length : tie.Need-same-length
 same-length c = search needs

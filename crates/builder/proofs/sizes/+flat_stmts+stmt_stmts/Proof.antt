@@ -13,7 +13,8 @@ use Rattle.ast.proofs.records.model.Reads as model-reads
 use Rattle.ast.proofs.records.stmt.Reads as stmt-reads
 use Rattle.builder.specs.Flatten.{modelAt}
 use Rattle.builder.proofs.OpenFile.{stmtIn, models-count, stmts-within, is-submodel, own-stmt}
-use Rattle.builder.proofs.Amounts.{broughtIn, at-most-add, sum-none, callee-within, brought-own, brought-none, brought-called, flatten-zero, flatten-more, run-next, run-end}
+use Rattle.builder.proofs.Amounts.{broughtIn, at-most-add, sum-none, brought-own, brought-none, brought-called, flatten-zero, flatten-more, run-next, run-end}
+use Rattle.builder.proofs.Calling.{callee-below}
 use Rattle.builder.proofs.sizes.+flat_stmts+stmt_stmts.{statement}
 use Rattle.builder.proofs.sizes.+flat_stmts+stmt_stmts.Tie.{close}
 use Rattle.builder.proofs.sizes.flat_stmts.Reads as flat-stmts
@@ -107,7 +108,7 @@ stmt-stmts-element-copy-out-c : (t : ℕ) → stmt-stmts-lts.Need-element-copy-o
 stmt-stmts-element-copy-out-c t c = let p = c .before .before .before .before .pre .1 in omega (arith, p .0 .laid .within .stmts)
 
 stmt-stmts-cast-c : (t : ℕ) → stmt-stmts-lts.Need-cast-c (stmt-reads.Asked, stmt-reads.Learnt, flat-stmts-below t, flat-stmts.Post) (stmt-stmts-at t) stmt-stmts.Post
-stmt-stmts-cast-c t c = let p = c .before .before .before .before .before .pre .1 in let e = p .1 .callee (c .before .before .before .before .before .args .q) (p .2) in omega (arith, e, callee-within (fileIn (c .before .before .before .before .before .args .f .now) (c .before .before .before .before .before .args .s)) (stmtIn (c .before .before .before .before .before .args .f .now) (c .before .before .before .before .before .args .s) (c .before .before .before .before .before .args .q)), models-count (c .before .before .before .before .before .args .f .now) (c .before .before .before .before .before .args .s), p .0 .laid .within .models)
+stmt-stmts-cast-c t c = let p = c .before .before .before .before .before .pre .1 in let e = p .1 .callee (c .before .before .before .before .before .args .q) (p .2) in omega (arith, e, callee-below (fileIn (c .before .before .before .before .before .args .f .now) (c .before .before .before .before .before .args .s)) (stmtIn (c .before .before .before .before .before .args .f .now) (c .before .before .before .before .before .args .s) (c .before .before .before .before .before .args .q)), models-count (c .before .before .before .before .before .args .f .now) (c .before .before .before .before .before .args .s), p .0 .laid .within .models)
 
 stmt-stmts-returns-3 : (t : ℕ) → stmt-stmts-lts.Need-returns-3 (stmt-reads.Asked, stmt-reads.Learnt, flat-stmts-below t, flat-stmts.Post) (stmt-stmts-at t) stmt-stmts.Post
 stmt-stmts-returns-3 t c = let p = c .before .before .before .before .before .before .pre .1 in let e = p .1 .callee (c .before .before .before .before .before .before .args .q) (p .2) in let x = is-submodel _ _ (sym (c .before .before .before .stmt .ensures .0) ∙ c .before .before .if2 .left) in at-most-none _ _ (brought-none (fileIn (c .before .before .before .before .before .before .args .f .now) (c .before .before .before .before .before .before .args .s)) (c .before .before .before .before .before .before .args .k) _ _ _ _ (stmtIn (c .before .before .before .before .before .before .args .f .now) (c .before .before .before .before .before .before .args .s) (c .before .before .before .before .before .before .args .q)) _ x e (c .if3 .taken))
@@ -116,7 +117,7 @@ stmt-stmts-sub-flat-stmts : (t : ℕ) → stmt-stmts-lts.Need-sub-flat-stmts (st
 stmt-stmts-sub-flat-stmts t c = omega arith
 
 stmt-stmts-flat-stmts-requires : (t : ℕ) → stmt-stmts-lts.Need-flat-stmts-requires (stmt-reads.Asked, stmt-reads.Learnt, flat-stmts-below t, flat-stmts.Post) (stmt-stmts-at t) stmt-stmts.Post
-stmt-stmts-flat-stmts-requires t c κs = let p = c .before .before .before .before .before .before .pre .1 in let e = p .1 .callee (c .before .before .before .before .before .before .args .q) (p .2) in let b = callee-within (fileIn (c .before .before .before .before .before .before .args .f .now) (c .before .before .before .before .before .before .args .s)) (stmtIn (c .before .before .before .before .before .before .args .f .now) (c .before .before .before .before .before .before .args .s) (c .before .before .before .before .before .before .args .q)) in (omega arith, (p .0, p .1, omega (arith, e, c .if3 .left, models-count (c .before .before .before .before .before .before .args .f .now) (c .before .before .before .before .before .before .args .s)), omega arith, omega arith))
+stmt-stmts-flat-stmts-requires t c κs = let p = c .before .before .before .before .before .before .pre .1 in let e = p .1 .callee (c .before .before .before .before .before .before .args .q) (p .2) in let b = callee-below (fileIn (c .before .before .before .before .before .before .args .f .now) (c .before .before .before .before .before .before .args .s)) (stmtIn (c .before .before .before .before .before .before .args .f .now) (c .before .before .before .before .before .before .args .s) (c .before .before .before .before .before .before .args .q)) in (omega arith, (p .0, p .1, omega (arith, e, c .if3 .left, models-count (c .before .before .before .before .before .before .args .f .now) (c .before .before .before .before .before .before .args .s)), omega arith, omega arith))
 
 stmt-stmts-returns-4 : (t : ℕ) → stmt-stmts-lts.Need-returns-4 (stmt-reads.Asked, stmt-reads.Learnt, flat-stmts-below t, flat-stmts.Post) (stmt-stmts-at t) stmt-stmts.Post
 stmt-stmts-returns-4 t c = let p = c .before .before .before .before .before .before .before .pre .1 in let e = p .1 .callee (c .before .before .before .before .before .before .before .args .q) (p .2) in c .flat-stmts .ensures ∙ ap (atMost (c .before .before .before .before .before .before .before .args .most)) (sym (brought-called (fileIn (c .before .before .before .before .before .before .before .args .f .now) (c .before .before .before .before .before .before .before .args .s)) (c .before .before .before .before .before .before .before .args .k) (stmtIn (c .before .before .before .before .before .before .before .args .f .now) (c .before .before .before .before .before .before .before .args .s) (c .before .before .before .before .before .before .before .args .q)) _ e (c .before .if3 .left)))

@@ -12,7 +12,8 @@ use Rattle.ast.proofs.Capped.{at-most-le, at-most-zero, at-most-none, at-most-o
 use Rattle.ast.proofs.records.model.Reads as model-reads
 use Rattle.builder.specs.Flatten.{modelAt}
 use Rattle.builder.proofs.OpenFile.{stmtIn, models-count, stmts-within}
-use Rattle.builder.proofs.Amounts.{calledInstances, at-most-add, sum-none, callee-within, called-none, called-one, instances-zero, instances-more, run-next, run-end}
+use Rattle.builder.proofs.Amounts.{calledInstances, at-most-add, sum-none, called-none, called-one, instances-zero, instances-more, run-next, run-end}
+use Rattle.builder.proofs.Calling.{callee-below}
 use Rattle.builder.proofs.sizes.+instances+stmt_instances.{statement}
 use Rattle.builder.proofs.sizes.+instances+stmt_instances.Tie.{close}
 use Rattle.builder.proofs.sizes.instances.Reads as instances
@@ -107,7 +108,7 @@ stmt-instances-element-copy-out-c : (t : ℕ) → stmt-instances-lts.Need-elemen
 stmt-instances-element-copy-out-c t c = let p = c .before .pre .1 in omega (arith, p .0 .laid .within .stmts)
 
 stmt-instances-cast-c : (t : ℕ) → stmt-instances-lts.Need-cast-c (instances-below t, instances.Post) (stmt-instances-at t) stmt-instances.Post
-stmt-instances-cast-c t c = let p = c .before .before .pre .1 in let e = p .1 .callee (c .before .before .args .q) (p .2) in omega (arith, e, callee-within (fileIn (c .before .before .args .f .now) (c .before .before .args .s)) (stmtIn (c .before .before .args .f .now) (c .before .before .args .s) (c .before .before .args .q)), models-count (c .before .before .args .f .now) (c .before .before .args .s), p .0 .laid .within .models)
+stmt-instances-cast-c t c = let p = c .before .before .pre .1 in let e = p .1 .callee (c .before .before .args .q) (p .2) in omega (arith, e, callee-below (fileIn (c .before .before .args .f .now) (c .before .before .args .s)) (stmtIn (c .before .before .args .f .now) (c .before .before .args .s) (c .before .before .args .q)), models-count (c .before .before .args .f .now) (c .before .before .args .s), p .0 .laid .within .models)
 
 stmt-instances-returns : (t : ℕ) → stmt-instances-lts.Need-returns (instances-below t, instances.Post) (stmt-instances-at t) stmt-instances.Post
 stmt-instances-returns t c = let p = c .before .before .before .pre .1 in let e = p .1 .callee (c .before .before .before .args .q) (p .2) in at-most-none _ _ (called-none (fileIn (c .before .before .before .args .f .now) (c .before .before .before .args .s)) (c .before .before .before .args .k) (stmtIn (c .before .before .before .args .f .now) (c .before .before .before .args .s) (c .before .before .before .args .q)) _ e (c .if1 .taken))
@@ -116,7 +117,7 @@ stmt-instances-sub-instances : (t : ℕ) → stmt-instances-lts.Need-sub-instanc
 stmt-instances-sub-instances t c = omega arith
 
 stmt-instances-instances-requires : (t : ℕ) → stmt-instances-lts.Need-instances-requires (instances-below t, instances.Post) (stmt-instances-at t) stmt-instances.Post
-stmt-instances-instances-requires t c κs = let p = c .before .before .before .pre .1 in let e = p .1 .callee (c .before .before .before .args .q) (p .2) in let b = callee-within (fileIn (c .before .before .before .args .f .now) (c .before .before .before .args .s)) (stmtIn (c .before .before .before .args .f .now) (c .before .before .before .args .s) (c .before .before .before .args .q)) in (omega arith, (p .0, p .1, omega (arith, e, c .if1 .left, models-count (c .before .before .before .args .f .now) (c .before .before .before .args .s)), omega arith, omega arith))
+stmt-instances-instances-requires t c κs = let p = c .before .before .before .pre .1 in let e = p .1 .callee (c .before .before .before .args .q) (p .2) in let b = callee-below (fileIn (c .before .before .before .args .f .now) (c .before .before .before .args .s)) (stmtIn (c .before .before .before .args .f .now) (c .before .before .before .args .s) (c .before .before .before .args .q)) in (omega arith, (p .0, p .1, omega (arith, e, c .if1 .left, models-count (c .before .before .before .args .f .now) (c .before .before .before .args .s)), omega arith, omega arith))
 
 stmt-instances-returns-2 : (t : ℕ) → stmt-instances-lts.Need-returns-2 (instances-below t, instances.Post) (stmt-instances-at t) stmt-instances.Post
 stmt-instances-returns-2 t c = let p = c .before .before .before .before .pre .1 in let e = p .1 .callee (c .before .before .before .before .args .q) (p .2) in c .instances .ensures ∙ ap (atMost (c .before .before .before .before .args .most)) (sym (called-one (fileIn (c .before .before .before .before .args .f .now) (c .before .before .before .before .args .s)) (c .before .before .before .before .args .k) (stmtIn (c .before .before .before .before .args .f .now) (c .before .before .before .before .args .s) (c .before .before .before .before .args .q)) _ e (c .before .if1 .left)))

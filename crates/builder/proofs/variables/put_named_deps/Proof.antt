@@ -1,0 +1,38 @@
+use mathlib.Core.Path.{_≡_, sym}
+use Prim.Native.Nat.{suc, _*_}
+use native.Mathlib.Omega.{arith}
+use mathlib.Core.Bool.{true, false}
+use lib.Dec.{eqb}
+use borrow.Author.Tests.{eq-eqb, ne-eqb}
+use Rattle.builder.specs.VariableTables.{unknownIn}
+use Rattle.builder.proofs.OpenUnknowns.{unknown-name}
+use Rattle.builder.proofs.PutWords.{put-none}
+use borrow.Author.Needs.{needs}
+use Rattle.builder.proofs.variables.put_named_deps.Statement.{statement}
+use Rattle.builder.proofs.variables.put_named_deps.Tie as tie
+
+unknown-requires : tie.Need-unknown-requires
+unknown-requires c κs = search needs
+
+add-if1 : tie.Need-add-if1
+add-if1 c = search needs
+
+put-unknown-deps-requires : tie.Need-put-unknown-deps-requires
+put-unknown-deps-requires c κs = let e : eqb (suc (unknownIn (c .before .before .before .before .before .args .f .now) (c .before .before .before .before .before .args .s) (c .before .before .before .before .before .args .u) .name)) (c .before .before .before .before .before .args .name) ≡ true = eq-eqb (suc (unknownIn (c .before .before .before .before .before .args .f .now) (c .before .before .before .before .before .args .s) (c .before .before .before .before .before .args .u) .name)) (c .before .before .before .before .before .args .name) (omega (arith, unknown-name (c .before .before .before .before .before .args .f .now) (c .before .before .before .before .before .args .s) (c .before .before .before .before .before .pre .0) (c .before .before .before .before .before .args .u) (c .before .before .before .before .before .pre .1), c .before .before .unknown .ensures .0, c .before .if1 .taken)) in
+    (c .before .before .before .before .before .pre .0, c .before .before .before .before .before .pre .1, rw e at (c .before .before .before .before .before .pre .2))
+
+same-length : tie.Need-same-length
+same-length c = search needs
+
+returns : tie.Need-returns
+returns c = let e : eqb (suc (unknownIn (c .before .before .before .before .before .before .before .before .args .f .now) (c .before .before .before .before .before .before .before .before .args .s) (c .before .before .before .before .before .before .before .before .args .u) .name)) (c .before .before .before .before .before .before .before .before .args .name) ≡ true = eq-eqb (suc (unknownIn (c .before .before .before .before .before .before .before .before .args .f .now) (c .before .before .before .before .before .before .before .before .args .s) (c .before .before .before .before .before .before .before .before .args .u) .name)) (c .before .before .before .before .before .before .before .before .args .name) (omega (arith, unknown-name (c .before .before .before .before .before .before .before .before .args .f .now) (c .before .before .before .before .before .before .before .before .args .s) (c .before .before .before .before .before .before .before .before .pre .0) (c .before .before .before .before .before .before .before .before .args .u) (c .before .before .before .before .before .before .before .before .pre .1), c .before .before .before .before .before .unknown .ensures .0, c .before .before .before .before .if1 .taken)) in
+    (rw e (c .before .before .put-unknown-deps .ensures .0), rw e (c .before .before .put-unknown-deps .ensures .1))
+
+returns-2 : tie.Need-returns-2
+returns-2 c = let e : eqb (suc (unknownIn (c .before .before .before .before .args .f .now) (c .before .before .before .before .args .s) (c .before .before .before .before .args .u) .name)) (c .before .before .before .before .args .name) ≡ false = ne-eqb (suc (unknownIn (c .before .before .before .before .args .f .now) (c .before .before .before .before .args .s) (c .before .before .before .before .args .u) .name)) (c .before .before .before .before .args .name) (λ q. c .if1 .left (omega (arith, unknown-name (c .before .before .before .before .args .f .now) (c .before .before .before .before .args .s) (c .before .before .before .before .pre .0) (c .before .before .before .before .args .u) (c .before .before .before .before .pre .1), c .before .unknown .ensures .0, q))) in
+    (rw e (omega arith), rw e (sym (put-none (c .before .before .before .before .args .out .now) (4 * c .before .before .before .before .args .done))))
+
+pub put-named-deps-spec : {M : Type 1} → statement M
+put-named-deps-spec =
+    tie.close
+    (tie.spec unknown-requires add-if1 put-unknown-deps-requires same-length returns returns-2)
