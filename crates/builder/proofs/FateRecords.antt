@@ -12,8 +12,8 @@ use Rattle.ast.specs.Encode.{encode}
 use Rattle.ast.proofs.Fronts.{drop-front, word-behind, put-behind}
 use Rattle.ast.proofs.Encodes.{length-bytes, each-append}
 use Rattle.functions.specs.Lists.{each}
-use Rattle.builder.proofs.PutRecords.{itself}
 use Rattle.builder.specs.Fating.{fateIn, queueIn, fatesIn, withFate, fated}
+use Rattle.builder.proofs.Puts.{itself}
 
 -- ---- words of bytes
 

@@ -26,9 +26,10 @@ use Rattle.builder.specs.Bounding.{boundsFrom}
 use Rattle.builder.specs.Root.{flatsOf}
 use Rattle.builder.proofs.Flattening.{map-none}
 use Rattle.builder.proofs.Open.{models-long}
-use Rattle.builder.proofs.Putting.{length-put, length-flats}
+use Rattle.builder.proofs.Putting.{length-flats}
 use Rattle.builder.proofs.Recording.{fits-same}
 use Rattle.builder.proofs.Sections.{section-back}
+use Rattle.builder.proofs.Puts.{length-put}
 
 -- ---- a lent rest
 

@@ -62,7 +62,7 @@ pub mod FateCases
 pub mod FateLaws
 pub mod FateLoops
 pub mod FateRecords
-pub mod PutRecords
+pub mod Puts
 pub mod VarAnswers
 pub mod VarLaws
 pub mod StartingLaws

@@ -6,18 +6,18 @@ use Prim.Native.Nat.{ℕ, zero, suc, _+_, _*_, _≤_, _<_}
 use native.Mathlib.Omega.{arith}
 use native.Mathlib.Nat.{add-zero}
 use lib.Dec.{ltb}
-use lib.ListN.{length, take, length-append, length-drop, take-append-drop}
-use lib.Seq.{length-take-le}
+use lib.ListN.{length, take, length-append}
 use borrow.Author.Tests.{lt-ltb, le-ltb}
 use Rattle.functions.specs.Lists.{each, unless}
 use Rattle.ast.specs.Words.{bytes4, bytesOf}
-use Rattle.ast.specs.Bytes.{putWord, front, put}
+use Rattle.ast.specs.Bytes.{front, put}
 use Rattle.ast.specs.Encode.{encode}
-use Rattle.ast.proofs.Fronts.{word-behind, put-behind, front-none}
+use Rattle.ast.proofs.Fronts.{put-behind, front-none}
 use Rattle.ast.proofs.Encodes.{each-append, length-bytes}
 use Rattle.builder.specs.Variables.{Error, error}
 use Rattle.builder.specs.Answer.{errorWords}
 use Rattle.builder.specs.Listing.{spanned, putError, listed, Lists, Room}
+use Rattle.builder.proofs.Puts.{length-put}
 
 -- ---- one behind the other
 
@@ -30,12 +30,6 @@ listed-append d n (e ∷ a) b =
 
 -- ---- the length stays
 
-length-put : (d : List ℕ) (k : ℕ) (e : List ℕ) → k + length e ≤ length d → length (put d k e) ≡ length d
-unfolding put
-length-put d k e h =
-    let l : length (take k d) ≡ k = length-take-le k d (omega arith) in
-    simp (length-append, length-drop) (omega (arith, l))
-
 length-error : (e : Error) → length (bytesOf (errorWords e)) ≡ 16
 unfolding errorWords
 length-error e = length-bytes (errorWords e)
@@ -45,7 +39,7 @@ unfolding putError
 length-putError d n e h = go (ltb n 256) refl
   where
     go : (b : Bool) → ltb n 256 ≡ b → length (cond b (put d (16 * n) (bytesOf (errorWords e))) d) ≡ length d
-    go true t = let l : n < 256 = borrow.Author.Tests.ltb-true n 256 t in length-put d (16 * n) (bytesOf (errorWords e)) (omega (arith, length-error e))
+    go true t = let l : n < 256 = borrow.Author.Tests.ltb-true n 256 t in length-put d (bytesOf (errorWords e)) (16 * n) (omega (arith, length-error e))
     go false t = refl
 
 pub length-listed : (d : List ℕ) (n : ℕ) (es : List Error) → 4096 ≤ length d → length (listed d n es) ≡ length d
@@ -90,25 +84,6 @@ pub listed-section : (d : List ℕ) (es : List Error) → listed d 0 es ≡ fron
 listed-section d es = listed-front d es ∙ ap (front d) (encoded (take 256 es))
 
 -- ---- one error's four words
-
-front-take : (d : List ℕ) (k : ℕ) → k ≤ length d → d ≡ front d (take k d)
-unfolding front
-front-take d k h =
-    let l : length (take k d) ≡ k = length-take-le k d h in
-    rw l (sym (take-append-drop k d))
-
-pub four-words : (d d₁ d₂ d₃ d₄ : List ℕ) (k w₀ w₁ w₂ w₃ : ℕ) → k + 16 ≤ length d → d₁ ≡ putWord d k w₀ → d₂ ≡ putWord d₁ (k + 4) w₁ → d₃ ≡ putWord d₂ (k + 8) w₂
-    → d₄ ≡ putWord d₃ (k + 12) w₃ → d₄ ≡ put d k (bytesOf (w₀ ∷ w₁ ∷ w₂ ∷ w₃ ∷ []))
-unfolding put front bytesOf each bytes4
-four-words d d₁ d₂ d₃ d₄ k w₀ w₁ w₂ w₃ h e₁ e₂ e₃ e₄ =
-    let p = take k d in
-    let l : length p ≡ k = length-take-le k d (omega arith) in
-    let f₀ = front-take d k (omega arith) in
-    let f₁ = e₁ ∙ word-behind d p d w₀ k (sym l) (omega arith) f₀ in
-    let f₂ = e₂ ∙ word-behind d (p ++ bytes4 w₀) d₁ w₁ (k + 4) (simp length-append (omega arith)) (omega arith) f₁ in
-    let f₃ = e₃ ∙ word-behind d (p ++ bytes4 w₀ ++ bytes4 w₁) d₂ w₂ (k + 8) (simp length-append (omega arith)) (omega arith) f₂ in
-    let f₄ = e₄ ∙ word-behind d (p ++ bytes4 w₀ ++ bytes4 w₁ ++ bytes4 w₂) d₃ w₃ (k + 12) (simp length-append (omega arith)) (omega arith) f₃ in
-    f₄ ∙ simp (append-assoc, length-append, l)
 
 -- an error among the first 256
 pub error-listed : (d d′ : List ℕ) (n k a b c : ℕ) → n < 256 → d′ ≡ put d (16 * n) (bytesOf (k ∷ a ∷ b ∷ c ∷ [])) → d′ ≡ listed d n (error k (spanned a b) c ∷ [])

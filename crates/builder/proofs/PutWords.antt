@@ -1,72 +1,29 @@
 -- Words put one run after the other behind those there are: the kept dependents of an unknown, of a name and of all variables.
 use mathlib.Core.Path.{_≡_, refl, sym, ap, _∙_}
 use mathlib.Core.Bool.{Bool, true, false, cond}
-use mathlib.Core.List.{List, [], _∷_, _++_, append-assoc, append-nil, map}
+use mathlib.Core.List.{List, [], _∷_, _++_, append-nil, map}
 use mathlib.Core.Option.{Option, none, some}
 use Prim.Native.Nat.{ℕ, zero, suc, _+_, _-_, _*_, _/_, _%_, _^_, _≤_, _<_}
 use native.Mathlib.Numerals.{add-one, sub-one}
 use native.Mathlib.Omega.{arith}
 use borrow.Author.Tests.{ltb-true, ltb-false}
 use lib.Dec.{eqb, ltb}
-use lib.ListN.{length, take, drop, getD, set, length-append, length-drop, take-append-drop}
-use lib.Seq.{take-suc, take-all, length-take-le, getD-set-same, getD-set-other}
+use lib.ListN.{length, take, drop, getD, set, length-append, take-append-drop}
+use lib.Seq.{take-suc, take-all, getD-set-same, getD-set-other}
 use Rattle.functions.specs.Lists.{each, plusOne, toList}
 use Rattle.ast.specs.Tree.{Unknown}
 use Rattle.ast.specs.Words.{words, bytes4, bytesOf}
 use Rattle.ast.specs.File.{contentsOf}
 use Rattle.ast.specs.Opens.{Open, contentsIn, fileIn}
 use Rattle.ast.specs.declared.sections.Sections.{Sections}
-use Rattle.ast.specs.Bytes.{putWord, front, put}
-use Rattle.ast.proofs.Fronts.{word-behind, put-behind}
+use Rattle.ast.specs.Bytes.{put}
 use Rattle.ast.proofs.Encodes.{each-append, length-bytes}
 use Rattle.builder.specs.Variables.{numberOf, keptDeps, variableNames, variable, variablesOf}
 use Rattle.builder.specs.VariableTables.{Numbers, oneBelow, keptBy, unknownsIn, rosterIn}
 use Rattle.builder.specs.Flatten.{modelAt}
 use Rattle.builder.proofs.Counts.{length-kept}
 use Rattle.builder.proofs.Opened.{contents-listed}
-
--- ---- words at a place
-
--- no words change nothing
-pub put-none : (d : List ℕ) (k : ℕ) → put d k (bytesOf []) ≡ d
-unfolding put bytesOf each
-put-none d k = let z : k + 0 ≡ k = omega arith in rw z (take-append-drop k d)
-
--- a write at a place, with what stands before it, is one at the front
-put-front : (d e : List ℕ) (k : ℕ) → k ≤ length d → put d k e ≡ front d (take k d ++ e)
-unfolding put front
-put-front d e k h =
-    let l : length (take k d ++ e) ≡ k + length e = simp length-append (rw (length-take-le k d h)) in
-    rw (l, append-assoc (take k d) e)
-
--- the length stays
-pub length-put : (d e : List ℕ) (k : ℕ) → k + length e ≤ length d → length (put d k e) ≡ length d
-unfolding put
-length-put d e k h = simp (length-append, length-drop) (omega (arith, length-take-le k d (omega arith)))
-
-front-same : (d : List ℕ) (k : ℕ) → length (take k d) ≡ k → d ≡ front d (take k d)
-unfolding front
-front-same d k l = rw l (sym (take-append-drop k d))
-
--- a word put at a place
-pub word-put : (d : List ℕ) (k w : ℕ) → k + 4 ≤ length d → putWord d k w ≡ put d k (bytesOf (w ∷ []))
-unfolding bytesOf each bytes4
-word-put d k w h =
-    let l : length (take k d) ≡ k = length-take-le k d (omega arith) in
-    word-behind d (take k d) d w k (sym l) h (front-same d k l) ∙ sym (put-front d (bytes4 w) k (omega arith))
-
-bytes-append : (ws xs : List ℕ) → bytesOf (ws ++ xs) ≡ bytesOf ws ++ bytesOf xs
-unfolding bytesOf
-bytes-append ws xs = each-append bytes4 ws xs
-
--- a run behind the words put
-pub words-more : (d d′ d″ ws xs : List ℕ) (k n : ℕ) → n ≡ k + 4 * length ws → k ≤ length d → d′ ≡ put d k (bytesOf ws) → d″ ≡ put d′ n (bytesOf xs) → d″ ≡ put d k (bytesOf (ws ++ xs))
-words-more d d′ d″ ws xs k n en h e′ e″ =
-    let l : n ≡ length (take k d ++ bytesOf ws) = simp length-append (omega (arith, length-take-le k d h, length-bytes ws)) in
-    let f : d′ ≡ front d (take k d ++ bytesOf ws) = e′ ∙ put-front d (bytesOf ws) k h in
-    e″ ∙ put-behind d (take k d ++ bytesOf ws) (bytesOf xs) d′ n l f
-    ∙ ap (front d) (append-assoc (take k d) (bytesOf ws) (bytesOf xs) ∙ ap (λ (e : List ℕ). take k d ++ e) (sym (bytes-append ws xs)))
-    ∙ sym (put-front d (bytesOf (ws ++ xs)) k h)
+use Rattle.builder.proofs.Puts.{words-none, length-put, put-more}
 
 -- ---- one run for each element of a list
 
@@ -91,7 +48,7 @@ module _ {A : Type 0} (g : A → List ℕ) (xs : List A) where
     -- none is put yet
     pub runs-first : Runs d₀ done 0 d₀ done
     unfolding each
-    runs-first = record { sum = omega arith; bytes = sym (put-none d₀ (4 * done)) }
+    runs-first = record { sum = omega arith; bytes = sym (words-none d₀ (4 * done)) }
 
     module _ (i : ℕ) (d : List ℕ) (total : ℕ) (r : Runs d₀ done i d total) where
       -- the length stays
@@ -114,7 +71,7 @@ module _ {A : Type 0} (g : A → List ℕ) (xs : List A) where
           let q : each g (take (i + 1) xs) ≡ each g (take i xs) ++ g x = each-take o i h ∙ ap (λ (y : A). each g (take i xs) ++ g y) (sym e) in
           record {
             sum = rw (q, length-append) (omega (arith, r .sum));
-            bytes = rw q (words-more d₀ d d′ (each g (take i xs)) (g x) (4 * done) (4 * total) (omega (arith, r .sum)) (omega arith) (r .bytes) ed);
+            bytes = rw q (ed ∙ put-more d₀ d (each g (take i xs)) (4 * done) (4 * total) (omega (arith, r .sum)) (r .bytes) (g x) (omega arith));
           }
 
       -- all are put

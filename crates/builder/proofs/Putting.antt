@@ -1,11 +1,10 @@
 -- Flattened statements written as nodes, each behind those before it.
 use mathlib.Core.Path.{_≡_, refl, sym, ap, _∙_}
 use mathlib.Core.Bool.{true}
-use mathlib.Core.List.{List, [], _∷_, _++_, map, append-assoc, append-nil}
+use mathlib.Core.List.{List, [], _∷_, _++_, map, append-nil}
 use Prim.Native.Nat.{ℕ, _+_, _-_, _*_, _≤_, _<_}
 use native.Mathlib.Omega.{arith}
-use lib.ListN.{length, take, drop, getD, length-append, length-drop, take-append-drop}
-use lib.Seq.{length-take-le, take-at, drop-at, drop-drop}
+use lib.ListN.{length, take, drop, getD, length-append}
 use Rattle.functions.specs.Lists.{each, sumOf}
 use Rattle.ast.specs.Tree.{Expr, Flat, equation, rate, size, flatSize}
 use Rattle.ast.specs.Words.{section, wordOf}
@@ -25,35 +24,7 @@ use Rattle.builder.specs.Descent.{flatAt, broughtAt, RowsIn, RowsKept}
 use Rattle.builder.proofs.OpenStmts.{nodes-pass, nodes-from, stmts-count, model-stmt, stmt-equation, stmt-rate}
 use Rattle.builder.proofs.Descents.{levels-kept, rest, rest-step, rest-end, rest-all, own-rate, own-equation}
 use Rattle.builder.proofs.ListLaws.{sum-append}
-
--- ---- puts
-
-pub length-put : (d e : List ℕ) (n : ℕ) → n + length e ≤ length d → length (put d n e) ≡ length d
-unfolding put
-length-put d e n h =
-    let l : length (take n d) ≡ n = length-take-le n d (omega arith) in
-    simp (length-append, length-drop) (omega (arith, l))
-
-pub put-none : (d : List ℕ) (n : ℕ) → put d n [] ≡ d
-unfolding put
-put-none d n =
-    let z : n + 0 ≡ n = omega arith in
-    rw z (take-append-drop n d)
-
--- a put directly behind another
-pub put-put : (d e f : List ℕ) (n m : ℕ) → n ≤ length d → m ≡ n + length e → put (put d n e) m f ≡ put d n (e ++ f)
-unfolding put
-put-put d e f n m h em =
-    let p = take n d ++ e in
-    let r = drop (n + length e) d in
-    let l : length p ≡ n + length e = length-append (take n d) e ∙ ap (λ (x : ℕ). x + length e) (length-take-le n d h) in
-    let j : take n d ++ (e ++ r) ≡ p ++ r = sym (append-assoc (take n d) e r) in
-    let t : take (n + length e) (take n d ++ (e ++ r)) ≡ p = ap (take (n + length e)) j ∙ take-at p r (n + length e) l in
-    let b : drop (n + length e) (take n d ++ (e ++ r)) ≡ r = ap (drop (n + length e)) j ∙ drop-at p r (n + length e) l in
-    let g : drop (n + length e + length f) (take n d ++ (e ++ r)) ≡ drop (n + length e + length f) d =
-    sym (drop-drop (length f) (n + length e) (take n d ++ (e ++ r))) ∙ ap (drop (length f)) b ∙ drop-drop (length f) (n + length e) d in
-    let z : n + length (e ++ f) ≡ n + length e + length f = omega (arith, length-append e f) in
-    rw (em, t, g, z) (append-assoc (take n d) e (f ++ drop (n + length e + length f) d) ∙ ap (λ (x : List ℕ). take n d ++ x) (sym (append-assoc e f (drop (n + length e + length f) d))))
+use Rattle.builder.proofs.Puts.{length-put, put-none, put-again}
 
 -- ---- nodes of statements
 
@@ -144,7 +115,7 @@ module _ (f : List ℕ) (s : Sections) (rows : List ℕ) (level q : ℕ) (sub : 
         let x = nodes (read ns rows level i) in
         let y = nodes (read ns rows level j) in
         let z : 32 * a ≡ 32 * done + length (encode x) = omega (arith, length-tree (read ns rows level i)) in
-        let g : d″ ≡ put d (32 * done) (encode x ++ encode y) = ed′ ∙ ap (λ (w : List ℕ). put w (32 * a) (encode y)) ed ∙ put-put d (encode x) (encode y) (32 * done) (32 * a) h z in
+        let g : d″ ≡ put d (32 * done) (encode x ++ encode y) = ed′ ∙ put-again d d′ (encode x) (encode y) (32 * done) (32 * a) z h ed in
         let w : x ++ y ≡ each flatNodes brought = rw (ei, ej) (sym (equation-nodes k)) in
         (omega (arith, equation-room i j k ei ej), g ∙ ap (put d (32 * done)) (sym (encode-append x y)) ∙ ap (λ (v : List (List ℕ)). put d (32 * done) (encode v)) w)
 
@@ -217,8 +188,7 @@ module _ (f : List ℕ) (s : Sections) (k m : ℕ) (rows₀ : List ℕ) (level :
             room = ap length (g .1) ∙ length-put out (encode (each flatNodes next)) (32 * total) p ∙ h .room;
             sum = omega (arith, g .0, sum-next);
             written =
-                ap (λ (x : List ℕ). put x (32 * r) (encode (each flatNodes y))) (g .1)
-                ∙ put-put out (encode (each flatNodes next)) (encode (each flatNodes y)) (32 * total) (32 * r) c e
+                put-again out out′ (encode (each flatNodes next)) (encode (each flatNodes y)) (32 * total) (32 * r) e c (g .1)
                 ∙ ap (put out (32 * total)) (sym (flats-append next y) ∙ ap (λ (x : List Flat). encode (each flatNodes x)) (sym rest-next))
                 ∙ h .written;
           }

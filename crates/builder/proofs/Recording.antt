@@ -21,8 +21,8 @@ use Rattle.builder.specs.Descent.{flatAt, broughtAt, RowsIn, RowsKept}
 use Rattle.builder.specs.Unfated.{unfatedWords, unfated, RecordsFit, Recorded}
 use Rattle.builder.proofs.OpenStmts.{nodes-from, stmts-count, model-stmt, stmt-equation, stmt-rate}
 use Rattle.builder.proofs.Descents.{levels-kept, rest, rest-step, rest-end, rest-all}
-use Rattle.builder.proofs.Putting.{length-put, put-none, put-put}
 use Rattle.builder.proofs.ListLaws.{sum-append}
+use Rattle.builder.proofs.Puts.{length-put, put-none, put-again}
 
 -- ---- records
 
@@ -254,9 +254,8 @@ module _ (f : List ℕ) (s : Sections) (k m : ℕ) (rows₀ : List ℕ) (level :
             count = omega (arith, g .0, count-next);
             sum = omega (arith, g .1, sum-next);
             written =
-                ap (λ (v : List ℕ). put v (32 * stmts′) (encode (unfated nodes′ later))) (g .2)
-                ∙ ap (λ (n : ℕ). put (put out (32 * stmts) x) (32 * stmts′) (encode (unfated n later))) (g .1)
-                ∙ put-put out x (encode (unfated (nodes + sumOf flatSize next) later)) (32 * stmts) (32 * stmts′) c e
+                ap (λ (n : ℕ). put out′ (32 * stmts′) (encode (unfated n later))) (g .1)
+                ∙ put-again out out′ x (encode (unfated (nodes + sumOf flatSize next) later)) (32 * stmts) (32 * stmts′) e c (g .2)
                 ∙ ap (put out (32 * stmts)) (sym (encode-append (unfated nodes next) (unfated (nodes + sumOf flatSize next) later)) ∙ ap encode (sym (unfated-append nodes next later)) ∙ ap (λ (v : List Flat). encode (unfated nodes v)) (sym rest-next))
                 ∙ h .written;
           }

@@ -26,12 +26,13 @@ use Rattle.builder.specs.declared.tables.Tables.{Tables}
 use Rattle.builder.specs.declared.variables.Roster.{Roster}
 use Rattle.builder.proofs.Sections.{length-wide}
 use Rattle.builder.proofs.PutWords.{kept-few}
-use Rattle.builder.proofs.Putting.{length-put, length-flats}
+use Rattle.builder.proofs.Putting.{length-flats}
 use Rattle.builder.proofs.FlatsBack.{unfated-wide}
 use Rattle.builder.proofs.AreaParts.{part-put, part-before}
 use Rattle.builder.proofs.RootTables.{model-written, vars-count}
 use Rattle.builder.proofs.Recording.{count-unfated}
 use Rattle.builder.proofs.Mosts.{few-flats}
+use Rattle.builder.proofs.Puts.{length-put}
 
 -- ---- a model that is not too big
 

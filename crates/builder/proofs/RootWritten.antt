@@ -15,9 +15,9 @@ use Rattle.builder.specs.Allocating.{ListsAt}
 use Rattle.builder.specs.declared.places.Sizes.{Sizes}
 use Rattle.builder.specs.Root.{flatsOf, scopeAt, fatesAt, answerAt, SizesOf, part, Unfated, Fated, Varied}
 use Rattle.builder.proofs.Lengths.{Bytes, bytes}
-use Rattle.builder.proofs.PutRecords.{length-put}
 use Rattle.builder.proofs.AreaParts.{part-put, part-before, part-behind, part-listed, part-errors, six-parts}
 use Rattle.builder.proofs.FlatsBack.{fates-count}
+use Rattle.builder.proofs.Puts.{length-put}
 
 module _ (f : File) (m : ℕ) (z : Sizes) (k : SizesOf f m z) where
   -- ---- lengths of the sections

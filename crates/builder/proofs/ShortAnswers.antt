@@ -23,11 +23,11 @@ use Rattle.builder.specs.Allocating.{flatsIn, Flattened, Tabled, shortBy
 use Rattle.builder.specs.Root.{flatsOf, scopeAt, timeAt, answerAt, Known, Laid, Unfated, given, usedIn, bytesIn}
 use Rattle.builder.specs.declared.places.Sizes.{Sizes}
 use Rattle.builder.specs.declared.filling.Answered.the-variants as is
-use Rattle.builder.proofs.Putting.{length-put}
 use Rattle.builder.proofs.Allocations.{shorts-same}
 use Rattle.builder.proofs.AreaParts.{part-behind}
 use Rattle.builder.proofs.FlatsBack.{unfated-flats, unfated-flattened}
 use Rattle.builder.proofs.RootShort.{scope-names, agree, tabled, first-bounds}
+use Rattle.builder.proofs.Puts.{length-put}
 
 -- ---- bounds in the header
 

@@ -18,7 +18,7 @@ use Rattle.builder.specs.Variables.{Bounds, lastBounds}
 use Rattle.builder.specs.Answer.{boundsWords}
 use Rattle.builder.specs.Bounding.{boundsFrom}
 use Rattle.builder.specs.VarRecords.{leadWords, varBounds, varWords, varRecords}
-use Rattle.builder.proofs.PutRecords.{put-more, put-again}
+use Rattle.builder.proofs.Puts.{put-more, put-again}
 use Rattle.builder.proofs.ListedAt.{section-kept}
 
 -- ---- what stands in front of a place is not changed there
@@ -72,7 +72,7 @@ module _ (texts : List (List ℕ)) (us : List Unknown) (stmts : List (List ℕ))
       → put d′ (base + 48 * n) (bytesOf (varWords texts us stmts names firsts indexes reach n)) ≡ put d base (encode (varRecords texts us stmts names firsts indexes reach (n + 1)))
   vars-next d d′ base n h e =
       let l : base + 48 * n ≡ base + length (encode (varRecords texts us stmts names firsts indexes reach n)) = omega (arith, length-vars n) in
-      put-again d d′ (encode (varRecords texts us stmts names firsts indexes reach n)) (bytesOf (varWords texts us stmts names firsts indexes reach n)) base (base + 48 * n) l h e
+      put-again d d′ (encode (varRecords texts us stmts names firsts indexes reach n)) (bytesOf (varWords texts us stmts names firsts indexes reach n)) base (base + 48 * n) l (omega arith) e
       ∙ ap (put d base) (sym (records-more n))
 
 -- ---- a record's two parts

@@ -5,8 +5,8 @@ use lib.Ieee.{binary64, toBits}
 use Rattle.ast.specs.Words.{low, high}
 use Rattle.builder.specs.Answer.{boundsWords}
 use Rattle.builder.specs.Bounding.{bitsOf}
-use Rattle.builder.proofs.PutRecords.{put-more}
 use borrow.Author.Needs.{needs}
+use Rattle.builder.proofs.Puts.{put-more}
 use Rattle.builder.proofs.bounds.put_bounds.Statement.{statement}
 use Rattle.builder.proofs.bounds.put_bounds.Tie as tie
 

@@ -1,8 +1,8 @@
 use native.Mathlib.Omega.{arith}
 use mathlib.Core.Path.{refl, _∙_}
-use Rattle.builder.proofs.PutRecords.{put-four}
 use Rattle.builder.proofs.BoundLaws.{range-four}
 use borrow.Author.Needs.{needs}
+use Rattle.builder.proofs.Puts.{put-four}
 use Rattle.builder.proofs.bounds.put_range.Statement.{statement}
 use Rattle.builder.proofs.bounds.put_range.Tie as tie
 

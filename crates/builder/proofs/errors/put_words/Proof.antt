@@ -1,6 +1,6 @@
 -- `builder::errors::put_words` meets its contract: the four words stand one behind the other from a place on. Assumes nothing.
-use Rattle.builder.proofs.Listings.{four-words}
 use borrow.Author.Needs.{needs}
+use Rattle.builder.proofs.Puts.{put-four}
 use Rattle.builder.proofs.errors.put_words.Statement.{statement}
 use Rattle.builder.proofs.errors.put_words.Tie as tie
 
@@ -29,7 +29,7 @@ same-length : tie.Need-same-length
 same-length c = search needs
 
 returns : tie.Need-returns
-returns c = four-words _ _ _ _ _ _ _ _ _ _ (c .before .before .before .before .before .before .before .before .before .before .before .before .before .before .before .before .before .pre) (c .before .before .before .before .before .before .before .before .before .before .before .before .before .before .put-word .ensures) (c .before .before .before .before .before .before .before .before .before .before .put-word2 .ensures) (c .before .before .before .before .before .before .put-word3 .ensures) (c .before .before .put-word4 .ensures)
+returns c = put-four _ _ _ _ _ _ _ _ _ _ (c .before .before .before .before .before .before .before .before .before .before .before .before .before .before .before .before .before .pre) (c .before .before .before .before .before .before .before .before .before .before .before .before .before .before .put-word .ensures) (c .before .before .before .before .before .before .before .before .before .before .put-word2 .ensures) (c .before .before .before .before .before .before .put-word3 .ensures) (c .before .before .put-word4 .ensures)
 
 pub put-words-spec : {M : Type 1} → statement M
 put-words-spec =

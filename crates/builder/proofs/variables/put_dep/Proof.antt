@@ -1,13 +1,14 @@
 use mathlib.Core.Path.{refl, sym, _∙_}
 use Prim.Native.Nat.{_-_, _*_}
 use native.Mathlib.Omega.{arith}
-use Rattle.builder.proofs.PutWords.{put-none, word-put, below-none, below-one}
+use Rattle.builder.proofs.PutWords.{below-none, below-one}
 use borrow.Author.Needs.{needs}
+use Rattle.builder.proofs.Puts.{words-none, put-first}
 use Rattle.builder.proofs.variables.put_dep.Statement.{statement}
 use Rattle.builder.proofs.variables.put_dep.Tie as tie
 
 returns : tie.Need-returns
-returns c = let e = below-none (c .before .before .args .v) (c .if1 .taken) in (rw e (omega arith), rw e (sym (put-none (c .before .before .args .out .now) (4 * c .before .before .args .done))))
+returns c = let e = below-none (c .before .before .args .v) (c .if1 .taken) in (rw e (omega arith), rw e (sym (words-none (c .before .before .args .out .now) (4 * c .before .before .args .done))))
 
 mul-put-word : tie.Need-mul-put-word
 mul-put-word c = search needs
@@ -25,7 +26,7 @@ same-length : tie.Need-same-length
 same-length c = search needs
 
 returns-2 : tie.Need-returns-2
-returns-2 c = let e = below-one (c .before .before .before .before .before .before .args .v) (c .before .before .before .before .if1 .left) in (rw e refl, rw e (c .before .before .put-word .ensures ∙ word-put (c .before .before .before .before .before .before .args .out .now) (4 * c .before .before .before .before .before .before .args .done) (c .before .before .before .before .before .before .args .v - 1) (omega (arith, rw e at (c .before .before .before .before .before .before .pre)))))
+returns-2 c = let e = below-one (c .before .before .before .before .before .before .args .v) (c .before .before .before .before .if1 .left) in (rw e refl, rw e (c .before .before .put-word .ensures ∙ put-first (c .before .before .before .before .before .before .args .out .now) (4 * c .before .before .before .before .before .before .args .done) (c .before .before .before .before .before .before .args .v - 1) (omega (arith, rw e at (c .before .before .before .before .before .before .pre)))))
 
 pub put-dep-spec : {M : Type 1} → statement M
 put-dep-spec =

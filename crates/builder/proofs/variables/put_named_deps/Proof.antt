@@ -6,8 +6,8 @@ use lib.Dec.{eqb}
 use borrow.Author.Tests.{eq-eqb, ne-eqb}
 use Rattle.builder.specs.VariableTables.{unknownIn}
 use Rattle.builder.proofs.OpenUnknowns.{unknown-name}
-use Rattle.builder.proofs.PutWords.{put-none}
 use borrow.Author.Needs.{needs}
+use Rattle.builder.proofs.Puts.{words-none}
 use Rattle.builder.proofs.variables.put_named_deps.Statement.{statement}
 use Rattle.builder.proofs.variables.put_named_deps.Tie as tie
 
@@ -30,7 +30,7 @@ returns c = let e : eqb (suc (unknownIn (c .before .before .before .before .befo
 
 returns-2 : tie.Need-returns-2
 returns-2 c = let e : eqb (suc (unknownIn (c .before .before .before .before .args .f .now) (c .before .before .before .before .args .s) (c .before .before .before .before .args .u) .name)) (c .before .before .before .before .args .name) ≡ false = ne-eqb (suc (unknownIn (c .before .before .before .before .args .f .now) (c .before .before .before .before .args .s) (c .before .before .before .before .args .u) .name)) (c .before .before .before .before .args .name) (λ q. c .if1 .left (omega (arith, unknown-name (c .before .before .before .before .args .f .now) (c .before .before .before .before .args .s) (c .before .before .before .before .pre .0) (c .before .before .before .before .args .u) (c .before .before .before .before .pre .1), c .before .unknown .ensures .0, q))) in
-    (rw e (omega arith), rw e (sym (put-none (c .before .before .before .before .args .out .now) (4 * c .before .before .before .before .args .done))))
+    (rw e (omega arith), rw e (sym (words-none (c .before .before .before .before .args .out .now) (4 * c .before .before .before .before .args .done))))
 
 pub put-named-deps-spec : {M : Type 1} → statement M
 put-named-deps-spec =

@@ -1,6 +1,6 @@
 use Rattle.builder.specs.VarRecords.{leadWords}
-use Rattle.builder.proofs.PutRecords.{put-eight}
 use borrow.Author.Needs.{needs}
+use Rattle.builder.proofs.Puts.{put-eight}
 use Rattle.builder.proofs.vars.put_lead.Statement.{statement}
 use Rattle.builder.proofs.vars.put_lead.Tie as tie
 

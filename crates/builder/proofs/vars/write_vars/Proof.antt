@@ -1,6 +1,6 @@
 use Rattle.builder.specs.Places.{stmtsAt, varsAt, depsAt}
 use native.Mathlib.Omega.{arith}
-use mathlib.Core.Path.{_≡_, refl, ap, _∙_}
+use mathlib.Core.Path.{_≡_, refl, sym, ap, _∙_}
 use Prim.Native.Nat.{_+_, _*_, _-_, _≤_}
 use lib.ListN.{length}
 use Rattle.ast.specs.Words.{section}
@@ -9,8 +9,8 @@ use Rattle.ast.specs.Encode.{encode}
 use Rattle.ast.specs.Opens.{fileIn}
 use Rattle.builder.specs.Flatten.{modelAt}
 use Rattle.builder.specs.VarRecords.{varRecords}
-use Rattle.builder.proofs.PutRecords.{put-none}
 use Rattle.builder.proofs.VarLaws.{section-before, vars-none, vars-next}
+use Rattle.builder.proofs.Puts.{words-none}
 use Rattle.builder.proofs.vars.write_vars.Statement.{statement}
 use Rattle.builder.proofs.vars.write_vars.Tie as tie
 
@@ -23,7 +23,7 @@ abbrev μ-loop : tie.MeasureT-loop
 
 loop-holds : tie.Need-loop-holds Inv-loop μ-loop
 unfolding stmtsAt varsAt depsAt
-loop-holds c = let l : varsAt (c .before .before .before .before .before .before .before .args .z) ≤ length (c .before .before .before .before .before .before .before .args .area .now) = omega (arith, c .before .before .before .before .before .before .before .pre .5) in (omega arith, refl, rw (vars-none (fileIn (c .before .before .before .before .before .before .before .args .f .now) (c .before .before .before .before .before .before .before .args .s) .names) (modelAt (fileIn (c .before .before .before .before .before .before .before .args .f .now) (c .before .before .before .before .before .before .before .args .s)) (c .before .before .before .before .before .before .before .args .m) .unknowns) (section 8 (c .before .before .before .before .before .before .before .args .z .stmts) (stmtsAt (c .before .before .before .before .before .before .before .args .z)) (c .before .before .before .before .before .before .before .args .area .now)) (c .before .before .before .before .before .before .before .args .names .now) (c .before .before .before .before .before .before .before .args .starts .now) (c .before .before .before .before .before .before .before .args .indexes .now) (c .before .before .before .before .before .before .before .args .reach .now)) (put-none (c .before .before .before .before .before .before .before .args .area .now) (varsAt (c .before .before .before .before .before .before .before .args .z)) l))
+loop-holds c = (omega arith, refl, rw (vars-none (fileIn (c .before .before .before .before .before .before .before .args .f .now) (c .before .before .before .before .before .before .before .args .s) .names) (modelAt (fileIn (c .before .before .before .before .before .before .before .args .f .now) (c .before .before .before .before .before .before .before .args .s)) (c .before .before .before .before .before .before .before .args .m) .unknowns) (section 8 (c .before .before .before .before .before .before .before .args .z .stmts) (stmtsAt (c .before .before .before .before .before .before .before .args .z)) (c .before .before .before .before .before .before .before .args .area .now)) (c .before .before .before .before .before .before .before .args .names .now) (c .before .before .before .before .before .before .before .args .starts .now) (c .before .before .before .before .before .before .before .args .indexes .now) (c .before .before .before .before .before .before .before .args .reach .now)) (sym (words-none (c .before .before .before .before .before .before .before .args .area .now) (varsAt (c .before .before .before .before .before .before .before .args .z)))))
 
 write-var-requires : tie.Need-write-var-requires Inv-loop μ-loop
 write-var-requires c κs = (c .before .before .before .before .before .before .before .before .before .before .before .pre .0, c .before .before .before .before .before .before .before .before .before .before .before .pre .1, c .before .before .before .before .before .before .before .before .before .before .before .pre .2, c .before .before .before .before .before .before .before .before .before .before .before .pre .3, c .before .before .before .before .before .before .before .before .before .before .before .pre .4, omega (arith, c .before .before .before .before .before .before .before .before .before .before .before .pre .5, c .before .before .before .loop .inv .1), c .before .before .before .before .before .before .before .before .before .before .before .pre .6, c .before .if1 .taken)

@@ -1,4 +1,4 @@
--- Words put one behind the other from a place on.
+-- Bytes and words put at a place: nothing, one behind the other, and the words of a record.
 use mathlib.Core.Path.{_≡_, refl, sym, ap, _∙_}
 use mathlib.Core.List.{List, [], _∷_, _++_, append-assoc}
 use Prim.Native.Nat.{ℕ, _+_, _*_, _≤_}
@@ -26,23 +26,31 @@ length-put d e p h =
     let t : length (take p d) ≡ p = length-take-le p d (omega arith) in
     ap length (put-front d e p (omega arith)) ∙ length-front d (take p d ++ e) (simp length-append (omega arith))
 
--- no words
-pub put-none : (d : List ℕ) (p : ℕ) → p ≤ length d → d ≡ put d p (bytesOf [])
-unfolding put bytesOf each
-put-none d p h =
+-- nothing put changes nothing
+pub put-none : (d : List ℕ) (p : ℕ) → put d p [] ≡ d
+unfolding put
+put-none d p =
     let z : p + 0 ≡ p = omega arith in
-    sym (rw z (lib.ListN.take-append-drop p d))
+    rw z (lib.ListN.take-append-drop p d)
+
+pub words-none : (d : List ℕ) (p : ℕ) → put d p (bytesOf []) ≡ d
+unfolding bytesOf each
+words-none d p = put-none d p
+
+-- bytes behind those that are put
+pub put-again : (d d′ e f : List ℕ) (p n : ℕ) → n ≡ p + length e → p ≤ length d → d′ ≡ put d p e → put d′ n f ≡ put d p (e ++ f)
+put-again d d′ e f p n at h g =
+    let t : length (take p d) ≡ p = length-take-le p d h in
+    let l : n ≡ length (take p d ++ e) = simp length-append (omega (arith, t)) in
+    put-behind d (take p d ++ e) f d′ n l (g ∙ put-front d e p h)
+    ∙ ap (front d) (append-assoc (take p d) e f)
+    ∙ sym (put-front d (e ++ f) p h)
 
 module _ (d d′ ws : List ℕ) (p n : ℕ) (at : n ≡ p + 4 * length ws) (e : d′ ≡ put d p (bytesOf ws)) where
   -- words behind those that are put
-  pub put-more : (vs : List ℕ) → n ≤ length d → put d′ n (bytesOf vs) ≡ put d p (bytesOf (ws ++ vs))
+  pub put-more : (vs : List ℕ) → p ≤ length d → put d′ n (bytesOf vs) ≡ put d p (bytesOf (ws ++ vs))
   unfolding bytesOf
-  put-more vs h =
-      let t : length (take p d) ≡ p = length-take-le p d (omega arith) in
-      let l : n ≡ length (take p d ++ bytesOf ws) = simp length-append (omega (arith, t, length-bytes ws)) in
-      put-behind d (take p d ++ bytesOf ws) (bytesOf vs) d′ n l (e ∙ put-front d (bytesOf ws) p (omega arith))
-      ∙ ap (front d) (append-assoc (take p d) (bytesOf ws) (bytesOf vs) ∙ ap (λ (b : List ℕ). take p d ++ b) (sym (each-append bytes4 ws vs)))
-      ∙ sym (put-front d (bytesOf (ws ++ vs)) p (omega arith))
+  put-more vs h = put-again d d′ (bytesOf ws) (bytesOf vs) p n (omega (arith, length-bytes ws)) h e ∙ ap (put d p) (sym (each-append bytes4 ws vs))
 
   -- one word
   pub put-next : (w : ℕ) → n + 4 ≤ length d → putWord d′ n w ≡ put d p (bytesOf (ws ++ w ∷ []))
@@ -56,7 +64,7 @@ module _ (d d′ ws : List ℕ) (p n : ℕ) (at : n ≡ p + 4 * length ws) (e : 
 
 -- a first word
 pub put-first : (d : List ℕ) (p w : ℕ) → p + 4 ≤ length d → putWord d p w ≡ put d p (bytesOf (w ∷ []))
-put-first d p w h = put-next d d [] p p (omega arith) (put-none d p (omega arith)) w h
+put-first d p w h = put-next d d [] p p (omega arith) (sym (words-none d p)) w h
 
 -- four words
 pub put-four : (d d₁ d₂ d₃ d₄ : List ℕ) (p w₀ w₁ w₂ w₃ : ℕ) → p + 16 ≤ length d → d₁ ≡ putWord d p w₀ → d₂ ≡ putWord d₁ (p + 4) w₁ → d₃ ≡ putWord d₂ (p + 8) w₂ → d₄ ≡ putWord d₃ (p + 12) w₃
@@ -84,12 +92,3 @@ module _ (d d₁ d₂ d₃ d₄ d₅ d₆ : List ℕ) (p w₀ w₁ w₂ w₃ w�
       e₈ ∙ put-next d d₇ (w₀ ∷ w₁ ∷ w₂ ∷ w₃ ∷ w₄ ∷ w₅ ∷ w₆ ∷ []) p (p + 28) refl
       (e₇ ∙ put-next d d₆ (w₀ ∷ w₁ ∷ w₂ ∷ w₃ ∷ w₄ ∷ w₅ ∷ []) p (p + 24) refl (put-six (omega arith)) w₆ (omega arith))
       w₇ (omega arith)
-
--- bytes behind those that are put
-pub put-again : (d d′ e f : List ℕ) (p n : ℕ) → n ≡ p + length e → n ≤ length d → d′ ≡ put d p e → put d′ n f ≡ put d p (e ++ f)
-put-again d d′ e f p n at h g =
-    let t : length (take p d) ≡ p = length-take-le p d (omega arith) in
-    let l : n ≡ length (take p d ++ e) = simp length-append (omega (arith, t)) in
-    put-behind d (take p d ++ e) f d′ n l (g ∙ put-front d e p (omega arith))
-    ∙ ap (front d) (append-assoc (take p d) e f)
-    ∙ sym (put-front d (e ++ f) p (omega arith))
