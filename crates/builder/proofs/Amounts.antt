@@ -11,15 +11,15 @@ use lib.Seq.{take-suc, take-all}
 use Rattle.functions.specs.Lists.{placeFrom, each, sumOf, toList, plusOne}
 use Rattle.functions.proofs.Lists.{clash}
 use Rattle.ast.specs.Tree.{Span, Args, Flat, Stmt, own, submodel, File}
-use Rattle.ast.specs.Nodes.{nameOf, opOf, sizeOf, argsBefore}
-use Rattle.ast.specs.Records.{submodelOf, firstStmt, stmtCount}
+use Rattle.ast.specs.Records.{firstStmt, stmtCount}
 use Rattle.ast.specs.Rows.{atMost}
 use Rattle.ast.specs.Opens.{Open, fileIn}
 use Rattle.ast.specs.declared.sections.Sections.{Sections}
 use Rattle.builder.specs.Flatten.{modelNamed, modelAt, subFlats, stmtFlats, stmtModels, submodels, flatten, instances}
 use Rattle.builder.specs.Tables.{calleeOf}
 use Rattle.builder.proofs.Counts.{length-each}
-use Rattle.builder.proofs.OpenFile.{modelRecord, stmtIn, stmts-count, stmt-by-number}
+use Rattle.builder.proofs.Open.{modelRecord, stmtIn}
+use Rattle.builder.proofs.OpenRecords.{model-is}
 
 -- ---- counts with a most
 
@@ -129,9 +129,9 @@ module _ (f : File) where
   sub-one-model k a (some i) c e n = let g : i ≡ c - 1 = omega arith in simp length-map (ap (λ (j : ℕ). length (flatten f k j)) g)
 
   -- a submodel statement whose model is missing
-  pub brought-none : (k : ℕ) (ns : List (List ℕ)) (i : ℕ) (r : List ℕ) (s : Span) (q : Stmt) (c : ℕ) → q ≡ submodelOf ns i r s → c ≡ calleeOf f q → c ≡ 0 → 0 ≡ broughtIn k q
-  unfolding stmtFlats calleeOf submodelOf
-  brought-none k ns i r s q c g e z = rw g (sub-none k (argsBefore ns i (opOf r) (sizeOf r - 1)) (modelNamed f (nameOf r)) c (rw g at e) z)
+  pub brought-none : (k n : ℕ) (a : Args) (y s : Span) (q : Stmt) (c : ℕ) → q ≡ submodel n a y s → c ≡ calleeOf f q → c ≡ 0 → 0 ≡ broughtIn k q
+  unfolding stmtFlats calleeOf
+  brought-none k n a y s q c g e z = rw g (sub-none k a (modelNamed f n) c (rw g at e) z)
 
   pub brought-called : (k : ℕ) (q : Stmt) (c : ℕ) → c ≡ calleeOf f q → (c ≡ 0 → ⊥) → broughtIn k q ≡ length (flatten f k (c - 1))
   unfolding stmtFlats calleeOf
@@ -158,8 +158,8 @@ module _ (f : List ℕ) (s : Sections) (o : Open f s) (m : ℕ) (h : m < s .coun
   pub run-next : (i : ℕ) → i < stmtCount (modelRecord f s m) → before (i + 1) ≡ before i + g (stmtIn f s (firstStmt (modelRecord f s m) + i))
   run-next i l =
       let d = stmtIn f s (firstStmt (modelRecord f s m) + i) in
-      let w : i < length (modelAt (fileIn f s) m .stmts) = omega (arith, stmts-count f s o m h) in
-      sum-next g (modelAt (fileIn f s) m .stmts) i d w ∙ ap (λ (q : Stmt). before i + g q) (stmt-by-number f s o m h i d l)
+      let w : i < length (modelAt (fileIn f s) m .stmts) = omega (arith, model-is f s o m h .stmts-long) in
+      sum-next g (modelAt (fileIn f s) m .stmts) i d w ∙ ap (λ (q : Stmt). before i + g q) (model-is f s o m h .stmt i d l)
 
   pub run-end : (i : ℕ) → stmtCount (modelRecord f s m) ≤ i → before i ≡ sumOf g (modelAt (fileIn f s) m .stmts)
-  run-end i l = ap (sumOf g) (take-all i (modelAt (fileIn f s) m .stmts) (omega (arith, stmts-count f s o m h)))
+  run-end i l = ap (sumOf g) (take-all i (modelAt (fileIn f s) m .stmts) (omega (arith, model-is f s o m h .stmts-long)))

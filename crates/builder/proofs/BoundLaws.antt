@@ -23,7 +23,8 @@ use Rattle.builder.specs.Variables.{Bounds, infinity, minusInfinity, fro
 use Rattle.builder.specs.Flatten.{modelAt}
 use Rattle.builder.specs.Answer.{boundsWords}
 use Rattle.builder.specs.Bounding.{boundsFrom, floats, bitsOf, caseBounds, unknownBounds, declaredBounds, LastDeclared}
-use Rattle.builder.proofs.Open.{modelRecord, unknownRecord, unknown-domain, unknown-run-in, model-unknowns-long, model-unknown}
+use Rattle.builder.proofs.Open.{modelRecord, unknownRecord}
+use Rattle.builder.proofs.OpenRecords.{unknown-is, model-is}
 
 -- ---- the floats from 0 or without bounds
 
@@ -106,12 +107,12 @@ module _ (f : List ℕ) (s : Sections) (u : ℕ) where
     pub unknown-floats : caseBounds (domainValue (domainOf (unknownRecord f s u))) (isTime (fileIn f s .names) (wordOf (unknownRecord f s u) 0)) (eqb (wordOf (unknownRecord f s u) 3) 2 && isNonNegative (fileIn f s .names) (wordOf (unknownRecord f s u) 4))
         ≡ floats (unknownBounds f s u)
     unfolding unknownBounds
-    unknown-floats = case-floats (s .counts .names) (unknownRecord f s u) (unknown-domain f s o u h) (fileIn f s .names) (wordOf (unknownRecord f s u) 0)
+    unknown-floats = case-floats (s .counts .names) (unknownRecord f s u) (unknown-is f s o u h .domain-fits) (fileIn f s .names) (wordOf (unknownRecord f s u) 0)
 
     -- the floats of one that has no range: numbers, whose bits are the bounds
     pub closed : (wordOf (unknownRecord f s u) 3 ≡ 1 → ⊥) → (b : Bool) × (unknownBounds f s u ≡ boundsFrom b)
     unfolding unknownBounds
-    closed k = no-range (s .counts .names) (unknownRecord f s u) (unknown-domain f s o u h) (fileIn f s .names) (wordOf (unknownRecord f s u) 0) k
+    closed k = no-range (s .counts .names) (unknownRecord f s u) (unknown-is f s o u h .domain-fits) (fileIn f s .names) (wordOf (unknownRecord f s u) 0) k
 
     pub closed-numbers : (wordOf (unknownRecord f s u) 3 ≡ 1 → ⊥) → (x : declared.Bounds) → x ≡ floats (unknownBounds f s u) → T (not (isNan (x .lower))) × T (not (isNan (x .upper)))
     closed-numbers k x e = let (b, g) = closed k in rw (e, g) (from-numbers b)
@@ -148,7 +149,7 @@ module _ (f : List ℕ) (s : Sections) (o : Open f s) (m : ℕ) (h : m < s .coun
 
   pub decided-all : (i : ℕ) → i ≡ wordOf (modelRecord f s m) 2 → DecidedBy i
   decided-all i e b =
-      sym (ap (lastBounds (fileIn f s .names) name b) (take-all i (modelAt (fileIn f s) m .unknowns) (omega (arith, model-unknowns-long f s m h o))))
+      sym (ap (lastBounds (fileIn f s .names) name b) (take-all i (modelAt (fileIn f s) m .unknowns) (omega (arith, model-is f s o m h .unknowns-long))))
 
   pub decided-none : (i : ℕ) → i ≡ 0 → DecidedBy i → LastDeclared f s m name 0
   unfolding declaredBounds
@@ -167,8 +168,8 @@ module _ (f : List ℕ) (s : Sections) (o : Open f s) (m : ℕ) (h : m < s .coun
         let j : i - 1 < wordOf (modelRecord f s m) 2 = omega arith in
         let none = unknownOf [] [] in
         ap (λ (x : ℕ). take x (modelAt (fileIn f s) m .unknowns)) (sym n)
-        ∙ take-suc (modelAt (fileIn f s) m .unknowns) (i - 1) none (omega (arith, model-unknowns-long f s m h o))
-        ∙ ap (λ (u : Unknown). take (i - 1) (modelAt (fileIn f s) m .unknowns) ++ u ∷ []) (model-unknown f s m h o (i - 1) none j ∙ ap (λ (x : ℕ). unknownOf (contentsIn f s .deps) (unknownRecord f s x)) k)
+        ∙ take-suc (modelAt (fileIn f s) m .unknowns) (i - 1) none (omega (arith, model-is f s o m h .unknowns-long))
+        ∙ ap (λ (u : Unknown). take (i - 1) (modelAt (fileIn f s) m .unknowns) ++ u ∷ []) (model-is f s o m h .unknown (i - 1) none j ∙ ap (λ (x : ℕ). unknownOf (contentsIn f s .deps) (unknownRecord f s x)) k)
 
     its-name : last .name ≡ w
     unfolding last unknownOf
@@ -185,7 +186,7 @@ module _ (f : List ℕ) (s : Sections) (o : Open f s) (m : ℕ) (h : m < s .coun
     decided-found k =
         let t : eqb (suc w) name ≡ true = eq-eqb (suc w) name (sym (add-one w) ∙ k) in
         let z : eqb (first + i) 0 ≡ false = ne-eqb (first + i) 0 (λ q. omega arith) in
-        record { within = omega (arith, unknown-run-in f s o m h); bounds = λ b. decided-here b ∙ rw (t, z) refl }
+        record { within = omega (arith, model-is f s o m h .unknowns-within); bounds = λ b. decided-here b ∙ rw (t, z) refl }
 
     pub decided-next : (w + 1 ≡ name → ⊥) → DecidedBy (i - 1)
     decided-next k b =

@@ -29,8 +29,9 @@ use Rattle.builder.specs.Flatten.{replacements, modelNamed, modelAt, sub
 use Rattle.builder.specs.Tables.{Callees}
 use Rattle.builder.specs.Descent.{flatAt, broughtAt, RowsIn, RowsKept}
 use Rattle.builder.proofs.Flattening.{map-each, flats-found}
-use Rattle.builder.proofs.OpenStmts.{nodes-pass, nodes-from, nodes-few, names-few, stmts-count, model-stmt, stmt-equation, stmt-rate, stmt-submodel, called-none, called-some}
+use Rattle.builder.proofs.OpenStmts.{nodes-from, nodes-few, names-few, called-none, called-some}
 use Rattle.builder.proofs.ListLaws.{sum-append}
+use Rattle.builder.proofs.OpenRecords.{stmt-equation, stmt-rate, stmt-submodel, passes, model-is}
 
 -- ---- two tests at once
 
@@ -58,7 +59,7 @@ readable f s o i j e h = rw (e, nodes-from f s o) h
 -- nodes of an open file can be read at the levels of the rows
 pub ready : (f : List ℕ) (s : Sections) → Open f s → (rows : List ℕ) → RowsIn f s rows → Ready f (s .starts .nodes) (s .counts .nodes) rows
 ready f s o rows fit =
-    (ranges f s o .nodes, nodes-few f s o, (s .counts .names, names-few f s o, rw (nodes-from f s o) (nodes-pass f s o)), rw (nodes-from f s o) fit)
+    (ranges f s o .nodes, nodes-few f s o, (s .counts .names, names-few f s o, rw (nodes-from f s o) (passes f s o .nodes)), rw (nodes-from f s o) fit)
 
 pub kept-at : (a b : List ℕ) (n j : ℕ) → take n a ≡ take n b → j < n → getD a j 0 ≡ getD b j 0
 kept-at a b n j e h = sym (getD-take n a j 0 h) ∙ ap (λ (x : List ℕ). getD x j 0) e ∙ getD-take n b j 0 h
@@ -236,8 +237,8 @@ module _ (f : List ℕ) (s : Sections) (k m : ℕ) (rows₀ : List ℕ) (level m
         let L = levelsOf (contentsIn f s .nodes) rows₀ level in
         let d = stmtOf [] [] in
         let x = sumOf flatSize (map (throughFlat L) (stmtFlats (fileIn f s) (λ j. flatten (fileIn f s) (k - 1) j) (getD (modelAt (fileIn f s) m .stmts) i d))) in
-        let e : r ≡ atMost (most - total) x = rw (levels-kept (contentsIn f s .nodes) rows₀ rows level (h .kept), ef, ← model-stmt f s o m l i d b) at (g .0) in
-        let c : i < length (modelAt (fileIn f s) m .stmts) = rw (stmts-count f s o m l) b in
+        let e : r ≡ atMost (most - total) x = rw (levels-kept (contentsIn f s .nodes) rows₀ rows level (h .kept), ef, ← model-is f s o m l .stmt i d b) at (g .0) in
+        let c : i < length (modelAt (fileIn f s) m .stmts) = rw (model-is f s o m l .stmts-long) b in
         let y = sumOf flatSize (rest (fileIn f s) L (k - 1) m (i + 1)) in
         let z : sumOf flatSize (rest (fileIn f s) L (k - 1) m i) ≡ x + y = ap (sumOf flatSize) (rest-step (fileIn f s) L (k - 1) m i d c) ∙ sum-append flatSize _ (rest (fileIn f s) L (k - 1) m (i + 1)) in
         let p = capped-step total r x y (h .below) e in
@@ -255,7 +256,7 @@ module _ (f : List ℕ) (s : Sections) (k m : ℕ) (rows₀ : List ℕ) (level m
     unfolding sumOf
     counting-end b =
         let L = levelsOf (contentsIn f s .nodes) rows₀ level in
-        let c : length (modelAt (fileIn f s) m .stmts) ≤ i = rw (stmts-count f s o m l) b in
+        let c : length (modelAt (fileIn f s) m .stmts) ≤ i = rw (model-is f s o m l .stmts-long) b in
         sym (capped-end total _ (ap (sumOf flatSize) (rest-end (fileIn f s) L (k - 1) m i c))) ∙ h .counted
 
 pub nothing-counted : (most : ℕ) (qs : List Flat) → qs ≡ [] → 0 ≡ atMost most (sumOf flatSize qs)

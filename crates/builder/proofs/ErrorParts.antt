@@ -24,6 +24,7 @@ use Rattle.builder.proofs.ListedAt.{Kept, kept-listed, kept-flats, kept
 use Rattle.builder.proofs.OpenRecords.{long}
 use Rattle.builder.proofs.RoleErrors.{errors-few}
 use Rattle.builder.proofs.StartingLaws.{righted-listed}
+use Rattle.builder.proofs.Open.{models-long}
 
 -- ---- the roles' errors: at most one a statement
 
@@ -35,23 +36,19 @@ few-roles numbers indexes rates lower (q ∷ qs) = rw length-append (omega (arit
 -- ---- the errors of building a model, listed into the area's lent rest
 
 module _ (f : List ℕ) (s : Sections) (o : Open f s) where
-  -- a file has as many models as its counts say
-  pub models-many : length (fileIn f s .models) ≡ s .counts .models
-  models-many = long f s o .file-models
-
   -- there is room for them
   pub built-room : (d : List ℕ) (k m : ℕ) → k + 4096 ≤ length d → length (errorsOf (fileIn f s) (length (fileIn f s .models)) m) < 2 ^ 32
       → Room (take (length d - k) (drop k d)) 0 (errorsOf (fileIn f s) (s .counts .models) m)
   built-room d k m h few =
       let l : length (drop k d) ≡ length d - k = length-drop k d in
       let a : take (length d - k) (drop k d) ≡ drop k d = take-all (length d - k) (drop k d) (omega (arith, l)) in
-      let e : length (errorsOf (fileIn f s) (s .counts .models) m) < 2 ^ 32 = rw models-many at few in
+      let e : length (errorsOf (fileIn f s) (s .counts .models) m) < 2 ^ 32 = rw (models-long f s) at few in
       record { long = rw a (omega (arith, l, h)); few = omega (arith, e) }
 
   -- the area then
   pub built-listed : (d ys : List ℕ) (k m r : ℕ) → k ≤ length d → Lists (take (length d - k) (drop k d)) 0 (errorsOf (fileIn f s) (s .counts .models) m) r ys
       → ListsAt k d 0 (errorsOf (fileIn f s) (length (fileIn f s .models)) m) r (take k d ++ (ys ++ drop (length d - k) (drop k d)))
-  built-listed d ys k m r h p = rw models-many (p .0, lent-listed d ys k 0 (errorsOf (fileIn f s) (s .counts .models) m) h (p .1))
+  built-listed d ys k m r h p = rw (models-long f s) (p .0, lent-listed d ys k 0 (errorsOf (fileIn f s) (s .counts .models) m) h (p .1))
 
 -- ---- an area after a part
 

@@ -21,7 +21,8 @@ use Rattle.builder.specs.Names.{textOf, spells}
 use Rattle.builder.specs.Flatten.{noModel, modelAt, modelNamed}
 use Rattle.builder.specs.Build.{rootOf}
 use Rattle.builder.specs.Tables.{calleeOf}
-use Rattle.builder.proofs.Open.{modelRecord, stmtRecord, models-long, model-name-is, kind-of-stmt, stmt-submodel}
+use Rattle.builder.proofs.Open.{modelRecord, stmtRecord, models-long, model-name-is}
+use Rattle.builder.proofs.OpenRecords.{stmt-submodel, stmt-is}
 
 -- ---- the first that passes, plus 1
 
@@ -96,7 +97,7 @@ module _ (f : List ℕ) (s : Sections) where
 
   -- the same of statement q
   pub callee-none : (q : ℕ) → Open f s → q < s .counts .stmts → (wordOf (stmtRecord f s q) 0 ≡ 3 → ⊥) → calleeOf (fileIn f s) (stmtOf (contentsIn f s .nodes) (stmtRecord f s q)) ≡ 0
-  callee-none q o h n = own-calls (fileIn f s) (stmtRecord f s q) n (kind-of-stmt f s o q h)
+  callee-none q o h n = own-calls (fileIn f s) (stmtRecord f s q) n (stmt-is f s o q h .kinds)
 
   -- a submodel statement calls the model that its call names
   pub callee-some : (q : ℕ) → wordOf (stmtRecord f s q) 0 ≡ 3

@@ -26,7 +26,6 @@ pub mod Classes
 pub mod Open
 pub mod Filled
 pub mod Finding
-pub mod OpenFile
 pub mod Amounts
 pub mod RoleLoops
 pub mod OpenRecords

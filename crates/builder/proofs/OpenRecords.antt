@@ -1,4 +1,4 @@
--- An open file by number: how many records each section has, and what each model, unknown and statement is by its record.
+-- Every record of an open file: how many each section has, that each keeps the layout, and what each model, unknown and statement is by its record.
 use mathlib.Core.Path.{_≡_, refl, ap, _∙_}
 use mathlib.Core.Bool.{Bool, true, false, cond}
 use mathlib.Core.List.{List, [], map}
@@ -9,18 +9,19 @@ use lib.Dec.{ltb, eqb}
 use lib.ListN.{length, getD, length-map}
 use Rattle.functions.specs.Lists.{all}
 use Rattle.functions.proofs.Lists.{clash, and-both}
-use Rattle.ast.specs.Tree.{Unknown, Stmt, own, submodel, equation, rate, Model}
+use Rattle.ast.specs.Tree.{Unknown, Stmt, own, submodel, equation, rate, Model, Flat}
 use Rattle.ast.specs.Nodes.{kindAt, nameAt, opAt, sizeAt, spanAt, isExpr, nodesFit, treeAt, argsBefore, argsFit}
 use Rattle.ast.specs.Words.{inOrder}
-use Rattle.ast.specs.Records.{nameOfUnknown, firstDep, depCount, spanOfUnknown, domainFits, unknownFits, unknownsFit, unknownOf, kindOfStmt, nameOfStmt, leftTop, rightTop, spanOfStmt, stmtKindFits, stmtFits, stmtsFit, submodelOf, stmtOf, nameOfModel, firstUnknown, unknownCount, firstStmt, stmtCount, spanOfModel, modelFits, modelsFit, modelOf}
-use Rattle.ast.specs.File.{depsAt, contentsOf, fileOf}
+use Rattle.ast.specs.Records.{nameOfUnknown, firstDep, depCount, spanOfUnknown, domainFits, unknownFits, unknownsFit, unknownOf, kindOfStmt, nameOfStmt, leftTop, rightTop, spanOfStmt, stmtKindFits, stmtFits, stmtsFit, submodelOf, stmtOf, nameOfModel, firstUnknown, unknownCount, firstStmt, stmtCount, spanOfModel, modelFits, modelsFit}
+use Rattle.ast.specs.File.{depsAt, contentsOf}
 use Rattle.ast.specs.Opens.{Open, contentsIn, fileIn}
 use Rattle.ast.specs.declared.sections.Sections.{Sections}
 use Rattle.ast.proofs.Fields.{length-section, length-deps}
 use Rattle.ast.proofs.Opened.{ranges}
-use Rattle.ast.proofs.Files.{all-at, unknown-fits, stmt-fits, model-fits, unknown-run, model-runs, top-is, equation-tops, rate-top, submodel-top, model-at, unknown-at, stmt-at, unknown-count, stmt-count, dep-of, dep-count, parts}
-use Rattle.builder.specs.Flatten.{noModel, modelAt}
+use Rattle.ast.proofs.Files.{all-at, unknown-fits, stmt-fits, model-fits, unknown-run, model-runs, top-is, equation-tops, rate-top, submodel-top, unknown-at, stmt-at, unknown-count, stmt-count, dep-of, dep-count, parts}
+use Rattle.builder.specs.Flatten.{modelAt}
 use Rattle.ast.proofs.Fitting.{LastArg, node-ok, last-arg}
+use Rattle.builder.proofs.Open.{modelRecord, unknownRecord, stmtRecord, stmtIn, name-records, unknown-records, stmt-records, model-records, names-long, models-long, model-by-record, model-name-is}
 
 -- ---- how many records
 
@@ -36,18 +37,18 @@ pub record Long (f : List ℕ) (s : Sections) : Type 0 where
 
 -- of an open file
 pub long : (f : List ℕ) (s : Sections) → Open f s → Long f s
-unfolding contentsOf fileOf
+unfolding contentsOf
 long f s o =
     let r = ranges f s o in
     record {
-      names = length-section 2 _ _ f;
+      names = name-records f s;
       nodes = length-section 8 _ _ f;
       deps = length-deps f (depsAt (s .counts)) (s .counts .deps) (omega (arith, r .deps, r .starts .deps));
-      unknowns = length-section 10 _ _ f;
-      stmts = length-section 6 _ _ f;
-      models = length-section 7 _ _ f;
-      file-names = simp length-map (length-section 2 _ _ f);
-      file-models = simp length-map (length-section 7 _ _ f);
+      unknowns = unknown-records f s;
+      stmts = stmt-records f s;
+      models = model-records f s;
+      file-names = names-long f s;
+      file-models = models-long f s;
     }
 
 -- ---- each section keeps the layout
@@ -73,20 +74,17 @@ dep-below f s o i h = ltb-true _ _ (all-at _ (contentsIn f s .deps) 0 (passes f 
 -- ---- model m, by its record
 
 module _ (f : List ℕ) (s : Sections) (m : ℕ) where
-  abbrev modelRecord : List ℕ
-  modelRecord = getD (contentsIn f s .models) m []
-
   pub record ModelIs : Type 0 where
-    pub name : modelAt (fileIn f s) m .name ≡ nameOfModel modelRecord
-    pub name-below : nameOfModel modelRecord < s .counts .names
-    pub unknowns-within : firstUnknown modelRecord + unknownCount modelRecord ≤ s .counts .unknowns
-    pub stmts-within : firstStmt modelRecord + stmtCount modelRecord ≤ s .counts .stmts
-    pub unknowns-long : length (modelAt (fileIn f s) m .unknowns) ≡ unknownCount modelRecord
-    pub stmts-long : length (modelAt (fileIn f s) m .stmts) ≡ stmtCount modelRecord
-    pub unknown : (i : ℕ) (d : Unknown) → i < unknownCount modelRecord
-        → getD (modelAt (fileIn f s) m .unknowns) i d ≡ unknownOf (contentsIn f s .deps) (getD (contentsIn f s .unknowns) (firstUnknown modelRecord + i) [])
-    pub stmt : (i : ℕ) (d : Stmt) → i < stmtCount modelRecord
-        → getD (modelAt (fileIn f s) m .stmts) i d ≡ stmtOf (contentsIn f s .nodes) (getD (contentsIn f s .stmts) (firstStmt modelRecord + i) [])
+    pub name : modelAt (fileIn f s) m .name ≡ nameOfModel (modelRecord f s m)
+    pub name-below : nameOfModel (modelRecord f s m) < s .counts .names
+    pub unknowns-within : firstUnknown (modelRecord f s m) + unknownCount (modelRecord f s m) ≤ s .counts .unknowns
+    pub stmts-within : firstStmt (modelRecord f s m) + stmtCount (modelRecord f s m) ≤ s .counts .stmts
+    pub unknowns-long : length (modelAt (fileIn f s) m .unknowns) ≡ unknownCount (modelRecord f s m)
+    pub stmts-long : length (modelAt (fileIn f s) m .stmts) ≡ stmtCount (modelRecord f s m)
+    pub unknown : (i : ℕ) (d : Unknown) → i < unknownCount (modelRecord f s m)
+        → getD (modelAt (fileIn f s) m .unknowns) i d ≡ unknownOf (contentsIn f s .deps) (getD (contentsIn f s .unknowns) (firstUnknown (modelRecord f s m) + i) [])
+    pub stmt : (i : ℕ) (d : Stmt) → i < stmtCount (modelRecord f s m)
+        → getD (modelAt (fileIn f s) m .stmts) i d ≡ stmtOf (contentsIn f s .nodes) (getD (contentsIn f s .stmts) (firstStmt (modelRecord f s m) + i) [])
 
 -- its name is one of the names
 model-name-below : (names unknowns stmts u q : ℕ) (r : List ℕ) → modelFits names unknowns stmts u q r ≡ true → nameOfModel r < names
@@ -101,7 +99,6 @@ model-name-below names unknowns stmts u q r h =
 
 -- of an open file
 pub model-is : (f : List ℕ) (s : Sections) → Open f s → (m : ℕ) → m < s .counts .models → ModelIs f s m
-unfolding modelAt modelOf
 model-is f s o m h =
     let t = contentsIn f s in
     let l = long f s o in
@@ -110,11 +107,11 @@ model-is f s o m h =
     let qs = map (stmtOf (t .nodes)) (t .stmts) in
     let (u, q, fits) = model-fits (s .counts .names) (s .counts .unknowns) (s .counts .stmts) (t .models) 0 0 (passes f s o .models) m (omega (arith, l .models)) in
     let (wu, wq) = model-runs (s .counts .names) (s .counts .unknowns) (s .counts .stmts) u q r fits in
-    let e : modelAt (fileIn f s) m ≡ modelOf us qs r = model-at t m noModel (omega (arith, l .models)) in
+    let e = model-by-record f s m h in
     let lu : length us ≡ s .counts .unknowns = simp length-map (l .unknowns) in
     let lq : length qs ≡ s .counts .stmts = simp length-map (l .stmts) in
     record {
-      name = ap (λ (x : Model). x .name) e;
+      name = model-name-is f s m h;
       name-below = model-name-below _ _ _ u q r fits;
       unknowns-within = wu;
       stmts-within = wq;
@@ -127,15 +124,12 @@ model-is f s o m h =
 -- ---- unknown u, by its record
 
 module _ (f : List ℕ) (s : Sections) (u : ℕ) where
-  abbrev unknownRecord : List ℕ
-  unknownRecord = getD (contentsIn f s .unknowns) u []
-
   pub record UnknownIs : Type 0 where
-    pub name-below : nameOfUnknown unknownRecord < s .counts .names
-    pub deps-within : firstDep unknownRecord + depCount unknownRecord ≤ s .counts .deps
-    pub domain-fits : domainFits (s .counts .names) unknownRecord ≡ true
-    pub deps-long : length (unknownOf (contentsIn f s .deps) unknownRecord .deps) ≡ depCount unknownRecord
-    pub dep : (j : ℕ) → j < depCount unknownRecord → getD (unknownOf (contentsIn f s .deps) unknownRecord .deps) j 0 ≡ getD (contentsIn f s .deps) (firstDep unknownRecord + j) 0
+    pub name-below : nameOfUnknown (unknownRecord f s u) < s .counts .names
+    pub deps-within : firstDep (unknownRecord f s u) + depCount (unknownRecord f s u) ≤ s .counts .deps
+    pub domain-fits : domainFits (s .counts .names) (unknownRecord f s u) ≡ true
+    pub deps-long : length (unknownOf (contentsIn f s .deps) (unknownRecord f s u) .deps) ≡ depCount (unknownRecord f s u)
+    pub dep : (j : ℕ) → j < depCount (unknownRecord f s u) → getD (unknownOf (contentsIn f s .deps) (unknownRecord f s u) .deps) j 0 ≡ getD (contentsIn f s .deps) (firstDep (unknownRecord f s u) + j) 0
 
 -- its name is one of the names, and its domain keeps the layout
 unknown-name-below : (names limit first : ℕ) (r : List ℕ) → unknownFits names limit first r ≡ true → (nameOfUnknown r < names) × (domainFits names r ≡ true)
@@ -161,15 +155,12 @@ unknown-is f s o u h =
 -- ---- statement q, by its record and its kind
 
 module _ (f : List ℕ) (s : Sections) (q : ℕ) where
-  abbrev stmtRecord : List ℕ
-  stmtRecord = getD (contentsIn f s .stmts) q []
-
   pub record StmtIs : Type 0 where
-    pub kinds : (1 ≤ kindOfStmt stmtRecord) × (kindOfStmt stmtRecord ≤ 3)
-    pub right : (rightTop stmtRecord < s .counts .nodes) × (isExpr (contentsIn f s .nodes) (rightTop stmtRecord) ≡ true)
-    pub left : kindOfStmt stmtRecord ≡ 1 → (leftTop stmtRecord < s .counts .nodes) × (isExpr (contentsIn f s .nodes) (leftTop stmtRecord) ≡ true)
-    pub rate-name : kindOfStmt stmtRecord ≡ 2 → nameOfStmt stmtRecord < s .counts .names
-    pub call : kindOfStmt stmtRecord ≡ 3 → kindAt (contentsIn f s .nodes) (rightTop stmtRecord) ≡ 5
+    pub kinds : (1 ≤ kindOfStmt (stmtRecord f s q)) × (kindOfStmt (stmtRecord f s q) ≤ 3)
+    pub right : (rightTop (stmtRecord f s q) < s .counts .nodes) × (isExpr (contentsIn f s .nodes) (rightTop (stmtRecord f s q)) ≡ true)
+    pub left : kindOfStmt (stmtRecord f s q) ≡ 1 → (leftTop (stmtRecord f s q) < s .counts .nodes) × (isExpr (contentsIn f s .nodes) (leftTop (stmtRecord f s q)) ≡ true)
+    pub rate-name : kindOfStmt (stmtRecord f s q) ≡ 2 → nameOfStmt (stmtRecord f s q) < s .counts .names
+    pub call : kindOfStmt (stmtRecord f s q) ≡ 3 → kindAt (contentsIn f s .nodes) (rightTop (stmtRecord f s q)) ≡ 5
 
 module _ (ns : List (List ℕ)) (r : List ℕ) where
   -- what a record of kind 1 says
@@ -234,6 +225,15 @@ stmt-is f s o q h =
       rate-name = λ k. ltb-true _ _ (rate-top names count (t .nodes) first r fits k .0);
       call = λ k. submodel-top names count (t .nodes) first r fits k .1;
     }
+
+-- one of another kind than 3 is an equation or a rate equation
+pub own-stmt : (f : List ℕ) (s : Sections) → Open f s → (q : ℕ) → q < s .counts .stmts → (kindOfStmt (stmtRecord f s q) ≡ 3 → ⊥) → (e : Flat) × (stmtIn f s q ≡ own e)
+own-stmt f s o q h n =
+    let r = stmtRecord f s q in
+    by-stmt-kind (kindOfStmt r) (stmt-is f s o q h .kinds)
+    (λ k. (_, stmt-equation (contentsIn f s .nodes) r k))
+    (λ k. (_, stmt-rate (contentsIn f s .nodes) r k))
+    (λ k. absurd (n k))
 
 -- ---- the arguments of a call
 

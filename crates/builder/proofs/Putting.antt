@@ -21,10 +21,11 @@ use Rattle.ast.proofs.Fronts.{lent-put}
 use Rattle.ast.proofs.Seen.{size-respan, read-own}
 use Rattle.builder.specs.Flatten.{modelAt, stmtFlats, flatten}
 use Rattle.builder.specs.Descent.{flatAt, broughtAt, RowsIn, RowsKept}
-use Rattle.builder.proofs.OpenStmts.{nodes-pass, nodes-from, stmts-count, model-stmt, stmt-equation, stmt-rate}
+use Rattle.builder.proofs.OpenStmts.{nodes-from}
 use Rattle.builder.proofs.Descents.{levels-kept, rest, rest-step, rest-end, rest-all, own-rate, own-equation}
 use Rattle.builder.proofs.ListLaws.{sum-append}
 use Rattle.builder.proofs.Puts.{length-put, put-none, put-again}
+use Rattle.builder.proofs.OpenRecords.{stmt-equation, stmt-rate, passes, model-is}
 
 -- ---- nodes of statements
 
@@ -55,7 +56,7 @@ module _ (f : List ℕ) (s : Sections) (o : Open f s) (rows : List ℕ) (level i
       let gf : from ≡ wordOf (nodeAt (contentsIn f s .nodes) i) 4 = rw (nodes-from f s o) at ef in
       let gt : to ≡ wordOf (nodeAt (contentsIn f s .nodes) i) 5 = rw (nodes-from f s o) at et in
       ap (λ (ns : List (List ℕ)). bearing from to ns rows level i) (nodes-from f s o)
-      ∙ read-own (s .counts .names) (contentsIn f s .nodes) (s .counts .nodes) (nodes-pass f s o) rows level i l x from to gf gt
+      ∙ read-own (s .counts .names) (contentsIn f s .nodes) (s .counts .nodes) (passes f s o .nodes) rows level i l x from to gf gt
 
   pub tree-put : (d ys : List ℕ) (done r : ℕ) → 32 * done ≤ length d → i < s .counts .nodes → isExpr (contentsIn f s .nodes) i ≡ true
       → from ≡ wordOf (nodeAt (section 8 (s .counts .nodes) (s .starts .nodes) f) i) 4 → to ≡ wordOf (nodeAt (section 8 (s .counts .nodes) (s .starts .nodes) f) i) 5
@@ -156,8 +157,8 @@ module _ (f : List ℕ) (s : Sections) (k m : ℕ) (rows₀ : List ℕ) (level :
       rest-next : rest (fileIn f s) (levelsOf (contentsIn f s .nodes) rows₀ level) (k - 1) m i ≡ next ++ rest (fileIn f s) (levelsOf (contentsIn f s .nodes) rows₀ level) (k - 1) m (i + 1)
       rest-next =
           let d = stmtOf [] [] in
-          let c : i < length (modelAt (fileIn f s) m .stmts) = rw (stmts-count f s o m l) b in
-          rw (levels-kept (contentsIn f s .nodes) rows₀ rows level (h .kept), ef, ← model-stmt f s o m l i d b) (rest-step (fileIn f s) (levelsOf (contentsIn f s .nodes) rows₀ level) (k - 1) m i d c)
+          let c : i < length (modelAt (fileIn f s) m .stmts) = rw (model-is f s o m l .stmts-long) b in
+          rw (levels-kept (contentsIn f s .nodes) rows₀ rows level (h .kept), ef, ← model-is f s o m l .stmt i d b) (rest-step (fileIn f s) (levelsOf (contentsIn f s .nodes) rows₀ level) (k - 1) m i d c)
 
       sum-next : total + (sumOf flatSize next + sumOf flatSize (rest (fileIn f s) (levelsOf (contentsIn f s .nodes) rows₀ level) (k - 1) m (i + 1)))
           ≡ done + sumOf flatSize (flatAt f s rows₀ level k m)
@@ -198,7 +199,7 @@ module _ (f : List ℕ) (s : Sections) (k m : ℕ) (rows₀ : List ℕ) (level :
         × (out ≡ put out₀ (32 * done) (encode (each flatNodes (flatAt f s rows₀ level k m))))
     unfolding sumOf each encode
     putting-end b =
-        let c : length (modelAt (fileIn f s) m .stmts) ≤ i = rw (stmts-count f s o m l) b in
+        let c : length (modelAt (fileIn f s) m .stmts) ≤ i = rw (model-is f s o m l .stmts-long) b in
         let e = rest-end (fileIn f s) (levelsOf (contentsIn f s .nodes) rows₀ level) (k - 1) m i c in
         (omega (arith, h .sum, ap (sumOf flatSize) e), sym (put-none out (32 * total)) ∙ ap (λ (x : List Flat). put out (32 * total) (encode (each flatNodes x))) (sym e) ∙ h .written)
 

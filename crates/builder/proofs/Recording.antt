@@ -19,10 +19,11 @@ use Rattle.ast.proofs.StmtsBack.{size-pos}
 use Rattle.builder.specs.Flatten.{modelAt, stmtFlats, flatten}
 use Rattle.builder.specs.Descent.{flatAt, broughtAt, RowsIn, RowsKept}
 use Rattle.builder.specs.Unfated.{unfatedWords, unfated, RecordsFit, Recorded}
-use Rattle.builder.proofs.OpenStmts.{nodes-from, stmts-count, model-stmt, stmt-equation, stmt-rate}
+use Rattle.builder.proofs.OpenStmts.{nodes-from}
 use Rattle.builder.proofs.Descents.{levels-kept, rest, rest-step, rest-end, rest-all}
 use Rattle.builder.proofs.ListLaws.{sum-append}
 use Rattle.builder.proofs.Puts.{length-put, put-none, put-again}
+use Rattle.builder.proofs.OpenRecords.{stmt-equation, stmt-rate, model-is}
 
 -- ---- records
 
@@ -222,8 +223,8 @@ module _ (f : List ℕ) (s : Sections) (k m : ℕ) (rows₀ : List ℕ) (level :
       rest-next : rest (fileIn f s) (levelsOf (contentsIn f s .nodes) rows₀ level) (k - 1) m i ≡ next ++ later
       rest-next =
           let d = stmtOf [] [] in
-          let c : i < length (modelAt (fileIn f s) m .stmts) = rw (stmts-count f s o m l) b in
-          rw (levels-kept (contentsIn f s .nodes) rows₀ rows level (h .kept), ef, ← model-stmt f s o m l i d b) (rest-step (fileIn f s) (levelsOf (contentsIn f s .nodes) rows₀ level) (k - 1) m i d c)
+          let c : i < length (modelAt (fileIn f s) m .stmts) = rw (model-is f s o m l .stmts-long) b in
+          rw (levels-kept (contentsIn f s .nodes) rows₀ rows level (h .kept), ef, ← model-is f s o m l .stmt i d b) (rest-step (fileIn f s) (levelsOf (contentsIn f s .nodes) rows₀ level) (k - 1) m i d c)
 
       sum-next : nodes + (sumOf flatSize next + sumOf flatSize later) ≡ nodes₀ + sumOf flatSize (flatAt f s rows₀ level k m)
       sum-next = ap (λ (n : ℕ). nodes + n) (sym (ap (sumOf flatSize) rest-next ∙ sum-append flatSize next later)) ∙ h .sum
@@ -264,7 +265,7 @@ module _ (f : List ℕ) (s : Sections) (k m : ℕ) (rows₀ : List ℕ) (level :
         → Recorded stmts₀ nodes₀ out₀ stmts nodes out (flatAt f s rows₀ level k m)
     unfolding sumOf unfated encode each
     recording-end b =
-        let c : length (modelAt (fileIn f s) m .stmts) ≤ i = rw (stmts-count f s o m l) b in
+        let c : length (modelAt (fileIn f s) m .stmts) ≤ i = rw (model-is f s o m l .stmts-long) b in
         let e = rest-end (fileIn f s) (levelsOf (contentsIn f s .nodes) rows₀ level) (k - 1) m i c in
         let u : sumOf flatSize (rest (fileIn f s) (levelsOf (contentsIn f s .nodes) rows₀ level) (k - 1) m i) ≡ 0 = ap (sumOf flatSize) e in
         let v : length (rest (fileIn f s) (levelsOf (contentsIn f s .nodes) rows₀ level) (k - 1) m i) ≡ 0 = ap length e in

@@ -25,7 +25,7 @@ use Rattle.builder.specs.Flatten.{unknownName, replacedName, replacement
 use Rattle.builder.specs.Descent.{replacedBy, RowsIn}
 use Rattle.builder.specs.Overlay.{over, replacing}
 use Rattle.builder.proofs.Outputs.{take-step}
-use Rattle.builder.proofs.OpenStmts.{nodes-pass, unknown-named, model-within, unknowns-count, model-unknown}
+use Rattle.builder.proofs.OpenRecords.{passes, unknown-is, model-is}
 
 -- ---- what an argument replaces
 
@@ -60,17 +60,17 @@ module _ (f : List ℕ) (s : Sections) (o : Open f s) (m : ℕ) (l : m < s .coun
   unfolding unknownOf
   target-unknown first w h ef ew =
       let c : i < unknownCount (getD (contentsIn f s .models) m []) = omega arith in
-      let b : i < length (modelAt (fileIn f s) m .unknowns) = rw (unknowns-count f s o m l) c in
+      let b : i < length (modelAt (fileIn f s) m .unknowns) = rw (model-is f s o m l .unknowns-long) c in
       let d = unknownOf [] [] in
       let w₁ : w ≡ wordOf (getD (contentsIn f s .unknowns) (firstUnknown (getD (contentsIn f s .models) m []) + i) []) 0 = rw ef at ew in
-      let n : getD (modelAt (fileIn f s) m .unknowns) i d .name ≡ w = ap (λ (u : Unknown). u .name) (model-unknown f s o m l i d c) ∙ sym w₁ in
+      let n : getD (modelAt (fileIn f s) m .unknowns) i d .name ≡ w = ap (λ (u : Unknown). u .name) (model-is f s o m l .unknown i d c) ∙ sym w₁ in
       let t : replacedName (modelAt (fileIn f s) m .unknowns) i k ≡ suc w = target-place _ i k pos ∙ unknown-name-at _ i d b ∙ ap suc n in
-      let y = unknown-named f s o (firstUnknown (getD (contentsIn f s .models) m []) + i) (omega (arith, model-within f s o m l .0)) in
+      let y = unknown-is f s o (firstUnknown (getD (contentsIn f s .models) m []) + i) (omega (arith, model-is f s o m l .unknowns-within)) .name-below in
       (omega arith, omega (arith, y))
 
   -- one beyond the unknowns has none
   pub target-beyond : many ≤ i → 0 ≡ replacedName (modelAt (fileIn f s) m .unknowns) i k
-  target-beyond h = sym (target-place _ i k pos ∙ unknown-name-past _ i (rw (unknowns-count f s o m l) (omega arith)))
+  target-beyond h = sym (target-place _ i k pos ∙ unknown-name-past _ i (rw (model-is f s o m l .unknowns-long) (omega arith)))
 
 -- ---- one entry
 
@@ -126,11 +126,11 @@ noted-length row row′ j v e = ap length e ∙ length-free row j v (eqb (getD r
 module _ (f : List ℕ) (s : Sections) (o : Open f s) (end : ℕ) (p : 1 ≤ end) (l : end ≤ s .counts .nodes) (k : kindAt (contentsIn f s .nodes) (end - 1) ≡ 6) where
   pub argument-child : (2 ≤ end) × (isExpr (contentsIn f s .nodes) (end - 1 - 1) ≡ true)
   argument-child =
-      let a = node-ok (s .counts .names) (contentsIn f s .nodes) (s .counts .nodes) (nodes-pass f s o) (end - 1) (omega arith) .argument k in
+      let a = node-ok (s .counts .names) (contentsIn f s .nodes) (s .counts .nodes) (passes f s o .nodes) (end - 1) (omega arith) .argument k in
       (omega (arith, a .0), a .2)
 
   pub argument-keyword : nameAt (contentsIn f s .nodes) (end - 1) ≤ s .counts .names
-  argument-keyword = leb-true _ _ (node-ok (s .counts .names) (contentsIn f s .nodes) (s .counts .nodes) (nodes-pass f s o) (end - 1) (omega arith) .keyword k)
+  argument-keyword = leb-true _ _ (node-ok (s .counts .names) (contentsIn f s .nodes) (s .counts .nodes) (passes f s o .nodes) (end - 1) (omega arith) .keyword k)
 
 -- ---- all of them
 
@@ -166,14 +166,14 @@ module _ (f : List ℕ) (s : Sections) (m call : ℕ) where
           fit = zeros-fit (contentsIn f s .nodes) (s .counts .nodes) row e;
           within = omega arith;
           total = sizeAt (contentsIn f s .nodes) call - 1;
-          args = rw em (node-ok (s .counts .names) (contentsIn f s .nodes) (s .counts .nodes) (nodes-pass f s o) call l .call k);
+          args = rw em (node-ok (s .counts .names) (contentsIn f s .nodes) (s .counts .nodes) (passes f s o .nodes) call l .call k);
           noted = λ n. rw em (over-zeros row e _ n);
         }
 
     module _ (row : List ℕ) (end left : ℕ) (h : Filling row end left) where
       module _ (p : 0 < left) where
         pub filling-last : LastArg (contentsIn f s .nodes) end left (h .total)
-        filling-last = last-arg (s .counts .names) (contentsIn f s .nodes) (s .counts .nodes) (nodes-pass f s o) end left (h .total) (h .within) (h .args) (λ z. omega arith)
+        filling-last = last-arg (s .counts .names) (contentsIn f s .nodes) (s .counts .nodes) (passes f s o .nodes) end left (h .total) (h .within) (h .args) (λ z. omega arith)
 
         last-noted : (row′ : List ℕ) (n : ℕ)
             → ((by : Replacements) (n : ℕ) → over (contentsIn f s .nodes) row′ by n ≡ over (contentsIn f s .nodes) row (replacing (replacedName (modelAt (fileIn f s) m .unknowns) (left - 1) (nameAt (contentsIn f s .nodes) (end - 1))) (treeAt (contentsIn f s .nodes) (end - 1 - 1)) by) n)
@@ -181,7 +181,7 @@ module _ (f : List ℕ) (s : Sections) (m call : ℕ) where
             ≡ over (contentsIn f s .nodes) row (replacements (modelAt (fileIn f s) m .unknowns) (argsBefore (contentsIn f s .nodes) end left (h .total))) n
         unfolding over replacing replacements
         last-noted row′ n g =
-            let ok = nodes-pass f s o in
+            let ok = passes f s o .nodes in
             let ne : (left ≡ 0) → ⊥ = λ z. omega arith in
             let b : end - sizeAt (contentsIn f s .nodes) (end - 1) ≤ s .counts .nodes = omega (arith, h .within) in
             g (replacements (modelAt (fileIn f s) m .unknowns) (argsBefore (contentsIn f s .nodes) (end - sizeAt (contentsIn f s .nodes) (end - 1)) (left - 1) (h .total - sizeAt (contentsIn f s .nodes) (end - 1)))) n

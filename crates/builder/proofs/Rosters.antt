@@ -23,7 +23,8 @@ use Rattle.builder.specs.VariableTables.{firstZero, listed, declareOne, 
 use Rattle.builder.specs.declared.variables.Roster.{Roster}
 use Rattle.builder.proofs.Classes.{class-time, class-reserved}
 use Rattle.builder.proofs.Counts.{or-false}
-use Rattle.builder.proofs.OpenUnknowns.{noUnknown, length-names}
+use Rattle.builder.proofs.OpenUnknowns.{noUnknown}
+use Rattle.builder.proofs.Open.{names-long}
 
 -- ---- where the first that passes stands, with one more behind
 
@@ -245,8 +246,8 @@ roster-last f s m i r k e h = rw (e, declare-done (fileIn f s .names) (listed r)
 
 -- t's name by the classes of an open file's names
 pub time-in : (f : List ℕ) (s : Sections) (classes : List ℕ) → Open f s → Classes (fileIn f s .names) classes → firstZero classes 0 (s .counts .names) ≡ timeName (fileIn f s .names)
-time-in f s classes o h = ap (firstZero classes 0) (sym (length-names f s o)) ∙ time-named (fileIn f s .names) classes h
+time-in f s classes o h = ap (firstZero classes 0) (sym (names-long f s)) ∙ time-named (fileIn f s .names) classes h
 
 -- and whether a name is reserved
 pub reserved-in : (f : List ℕ) (s : Sections) (classes : List ℕ) → Open f s → Classes (fileIn f s .names) classes → (n : ℕ) → n < s .counts .names → leb (getD classes n 0) 5 ≡ isReserved (fileIn f s .names) n
-reserved-in f s classes o h n l = reserved-class (fileIn f s .names) classes h n (omega (arith, length-names f s o))
+reserved-in f s classes o h n l = reserved-class (fileIn f s .names) classes h n (omega (arith, names-long f s))

@@ -6,8 +6,9 @@ use Rattle.ast.specs.Words.{wordOf}
 use Rattle.ast.specs.Opens.{fileIn}
 use Rattle.builder.specs.Variables.{Bounds, lastBounds}
 use Rattle.builder.specs.Flatten.{modelAt}
-use Rattle.builder.proofs.Open.{modelRecord, unknown-run-in}
+use Rattle.builder.proofs.Open.{modelRecord}
 use Rattle.builder.proofs.BoundLaws.{decided-all, decided-none, decided-found, decided-next}
+use Rattle.builder.proofs.OpenRecords.{model-is}
 use Rattle.builder.proofs.bounds.last_declared.Statement.{statement}
 use Rattle.builder.proofs.bounds.last_declared.Tie as tie
 
@@ -27,19 +28,19 @@ loop-holds : tie.Need-loop-holds Inv-loop μ-loop
 loop-holds c = (omega (arith, c .model2 .ensures .0), decided-all (c .before .before .before .args .f .now) (c .before .before .before .args .s) (c .before .before .before .pre .0) (c .before .before .before .args .m) (c .before .before .before .pre .1) (c .before .before .before .args .name) (c .model2 .result) (c .model2 .ensures .0))
 
 add-unknown : tie.Need-add-unknown Inv-loop μ-loop
-add-unknown c = let run = unknown-run-in (c .before .before .before .before .before .args .f .now) (c .before .before .before .before .before .args .s) (c .before .before .before .before .before .pre .0) (c .before .before .before .before .before .args .m) (c .before .before .before .before .before .pre .1) in let e = c .before .before .before .model .ensures .0 in let n = c .before .before .before .before .before .pre .0 .laid .within .unknowns in omega arith
+add-unknown c = let run = model-is (c .before .before .before .before .before .args .f .now) (c .before .before .before .before .before .args .s) (c .before .before .before .before .before .pre .0) (c .before .before .before .before .before .args .m) (c .before .before .before .before .before .pre .1) .unknowns-within in let e = c .before .before .before .model .ensures .0 in let n = c .before .before .before .before .before .pre .0 .laid .within .unknowns in omega arith
 
 sub-unknown : tie.Need-sub-unknown Inv-loop μ-loop
 sub-unknown c = omega arith
 
 unknown-requires : tie.Need-unknown-requires Inv-loop μ-loop
-unknown-requires c κs = (c .before .before .before .before .before .pre .0, ((let run = unknown-run-in (c .before .before .before .before .before .args .f .now) (c .before .before .before .before .before .args .s) (c .before .before .before .before .before .pre .0) (c .before .before .before .before .before .args .m) (c .before .before .before .before .before .pre .1) in let e = c .before .before .before .model .ensures .0 in let n = c .before .before .before .before .before .pre .0 .laid .within .unknowns in omega arith), omega arith))
+unknown-requires c κs = (c .before .before .before .before .before .pre .0, ((let run = model-is (c .before .before .before .before .before .args .f .now) (c .before .before .before .before .before .args .s) (c .before .before .before .before .before .pre .0) (c .before .before .before .before .before .args .m) (c .before .before .before .before .before .pre .1) .unknowns-within in let e = c .before .before .before .model .ensures .0 in let n = c .before .before .before .before .before .pre .0 .laid .within .unknowns in omega arith), omega arith))
 
 add-if1 : tie.Need-add-if1 Inv-loop μ-loop
 add-if1 c = omega (arith, c .unknown .ensures .1)
 
 add-result : tie.Need-add-result Inv-loop μ-loop
-add-result c = let run = unknown-run-in (c .before .before .before .before .before .before .before .args .f .now) (c .before .before .before .before .before .before .before .args .s) (c .before .before .before .before .before .before .before .pre .0) (c .before .before .before .before .before .before .before .args .m) (c .before .before .before .before .before .before .before .pre .1) in let e = c .before .before .before .before .before .model .ensures .0 in let n = c .before .before .before .before .before .before .before .pre .0 .laid .within .unknowns in omega arith
+add-result c = let run = model-is (c .before .before .before .before .before .before .before .args .f .now) (c .before .before .before .before .before .before .before .args .s) (c .before .before .before .before .before .before .before .pre .0) (c .before .before .before .before .before .before .before .args .m) (c .before .before .before .before .before .before .before .pre .1) .unknowns-within in let e = c .before .before .before .before .before .model .ensures .0 in let n = c .before .before .before .before .before .before .before .pre .0 .laid .within .unknowns in omega arith
 
 returns : tie.Need-returns Inv-loop μ-loop
 returns c = decided-found (c .before .before .before .before .before .before .before .args .f .now) (c .before .before .before .before .before .before .before .args .s) (c .before .before .before .before .before .before .before .pre .0) (c .before .before .before .before .before .before .before .args .m) (c .before .before .before .before .before .before .before .pre .1) (c .before .before .before .before .before .before .before .args .name) (c .before .before .before .loop .i) (c .before .before .before .before .before .model .result) (c .before .unknown .result) (omega arith) (c .before .before .before .loop .inv .0) (c .before .before .before .before .before .model .ensures .0) (c .before .unknown .ensures .0) (c .before .before .before .loop .inv .1) (c .if1 .taken)

@@ -10,11 +10,12 @@ use Rattle.ast.specs.Rows.{levelsOf, atMost}
 use Rattle.ast.specs.Opens.{contentsIn, fileIn}
 use Rattle.ast.proofs.Capped.{at-most-le}
 use Rattle.builder.specs.Flatten.{flatten}
-use Rattle.builder.proofs.OpenStmts.{model-within, submodel-call, called-some, called-within}
+use Rattle.builder.proofs.OpenStmts.{submodel-call, called-some, called-within}
 use Rattle.builder.proofs.Descents.{either-zero, neither-zero, kept-less, flat-zero, brought-none, deeper, Counting, counting-start, counting-step, counting-end, nothing-counted}
 use Prim.Native.Nat.{ℕ, _<_}
 use borrow.Fn.Kinds.{In}
 use borrow.Fn.PlainCycle.{Measures, is, falls, and}
+use Rattle.builder.proofs.OpenRecords.{model-is}
 use Rattle.builder.proofs.flatten.flat_nodes.Reads as flat-nodes
 use Rattle.builder.proofs.flatten.flat_nodes.Kinds as flat-nodes-kinds
 use Rattle.builder.proofs.flatten.+flat_nodes+stmt_nodes.Lts-flat_nodes as flat-nodes-lts
@@ -72,14 +73,14 @@ flat-nodes-sub-stmt-nodes : (t : ℕ) → flat-nodes-lts.Need-sub-stmt-nodes (mo
 flat-nodes-sub-stmt-nodes t c = omega (arith, c .before .before .before .before .before .if1 .left)
 
 flat-nodes-add-stmt-nodes : (t : ℕ) → flat-nodes-lts.Need-add-stmt-nodes (model-reads.Asked, model-reads.Learnt, stmt-nodes-below t, stmt-nodes.Post) (flat-nodes-at t) flat-nodes.Post flat-nodes-Inv-loop flat-nodes-μ-loop
-flat-nodes-add-stmt-nodes t c = omega (arith, model-within (c .before .before .before .before .before .before .before .before .args .f .now) (c .before .before .before .before .before .before .before .before .args .s) (c .before .before .before .before .before .before .before .before .pre .1 .0) (c .before .before .before .before .before .before .before .before .args .m) (c .before .before .before .before .before .before .before .before .pre .1 .2) .1, c .before .before .before .before .model .ensures .0, c .before .before .before .model2 .ensures .0, c .before .before .before .before .before .before .before .before .pre .1 .0 .laid .within .stmts)
+flat-nodes-add-stmt-nodes t c = omega (arith, model-is (c .before .before .before .before .before .before .before .before .args .f .now) (c .before .before .before .before .before .before .before .before .args .s) (c .before .before .before .before .before .before .before .before .pre .1 .0) (c .before .before .before .before .before .before .before .before .args .m) (c .before .before .before .before .before .before .before .before .pre .1 .2) .stmts-within, c .before .before .before .before .model .ensures .0, c .before .before .before .model2 .ensures .0, c .before .before .before .before .before .before .before .before .pre .1 .0 .laid .within .stmts)
 
 flat-nodes-sub-stmt-nodes-2 : (t : ℕ) → flat-nodes-lts.Need-sub-stmt-nodes-2 (model-reads.Asked, model-reads.Learnt, stmt-nodes-below t, stmt-nodes.Post) (flat-nodes-at t) flat-nodes.Post flat-nodes-Inv-loop flat-nodes-μ-loop
 flat-nodes-sub-stmt-nodes-2 t c = omega (arith, c .before .before .loop .inv .below)
 
 flat-nodes-stmt-nodes-requires : (t : ℕ) → flat-nodes-lts.Need-stmt-nodes-requires (model-reads.Asked, model-reads.Learnt, stmt-nodes-below t, stmt-nodes.Post) (flat-nodes-at t) flat-nodes.Post flat-nodes-Inv-loop flat-nodes-μ-loop
 flat-nodes-stmt-nodes-requires t c κs = let p = c .before .before .before .before .before .before .before .before .pre .1 in let v = c .before .before .loop .inv in
-    (omega (arith, c .before .before .before .before .before .before .before .before .pre .0, c .before .before .before .before .before .if1 .left), (p .0, p .1, omega (arith, model-within (c .before .before .before .before .before .before .before .before .args .f .now) (c .before .before .before .before .before .before .before .before .args .s) (c .before .before .before .before .before .before .before .before .pre .1 .0) (c .before .before .before .before .before .before .before .before .args .m) (c .before .before .before .before .before .before .before .before .pre .1 .2) .1, c .before .before .before .before .model .ensures .0, c .before .before .before .model2 .ensures .0), (omega (arith, p .3 .0, c .before .before .before .before .before .if1 .left), omega (arith, p .3 .1, v .long, c .before .before .before .before .before .if1 .left), v .fit)))
+    (omega (arith, c .before .before .before .before .before .before .before .before .pre .0, c .before .before .before .before .before .if1 .left), (p .0, p .1, omega (arith, model-is (c .before .before .before .before .before .before .before .before .args .f .now) (c .before .before .before .before .before .before .before .before .args .s) (c .before .before .before .before .before .before .before .before .pre .1 .0) (c .before .before .before .before .before .before .before .before .args .m) (c .before .before .before .before .before .before .before .before .pre .1 .2) .stmts-within, c .before .before .before .before .model .ensures .0, c .before .before .before .model2 .ensures .0), (omega (arith, p .3 .0, c .before .before .before .before .before .if1 .left), omega (arith, p .3 .1, v .long, c .before .before .before .before .before .if1 .left), v .fit)))
 
 flat-nodes-add-total : (t : ℕ) → flat-nodes-lts.Need-add-total (model-reads.Asked, model-reads.Learnt, stmt-nodes-below t, stmt-nodes.Post) (flat-nodes-at t) flat-nodes.Post flat-nodes-Inv-loop flat-nodes-μ-loop
 flat-nodes-add-total t c = omega (arith, c .before .before .before .before .before .loop .inv .below, at-most-le _ _ _ (c .before .before .stmt-nodes .ensures .0))

@@ -11,12 +11,13 @@ use Rattle.ast.specs.Encode.{flatNodes, encode}
 use Rattle.ast.specs.Rows.{levelsOf}
 use Rattle.ast.specs.Opens.{contentsIn, fileIn}
 use Rattle.builder.specs.Flatten.{flatten}
-use Rattle.builder.proofs.OpenStmts.{model-within, submodel-call, called-some, called-within}
+use Rattle.builder.proofs.OpenStmts.{submodel-call, called-some, called-within}
 use Rattle.builder.proofs.Descents.{either-zero, neither-zero, kept-less, flat-zero, brought-none, deeper}
 use Rattle.builder.proofs.Putting.{Putting, putting-start, putting-room, putting-step, putting-end, nothing-put}
 use Prim.Native.Nat.{ℕ, _<_}
 use borrow.Fn.Kinds.{In}
 use borrow.Fn.PlainCycle.{Measures, is, falls, and}
+use Rattle.builder.proofs.OpenRecords.{model-is}
 use Rattle.builder.proofs.flatten.write_nodes.Reads as write-nodes
 use Rattle.builder.proofs.flatten.write_nodes.Kinds as write-nodes-kinds
 use Rattle.builder.proofs.flatten.+write_nodes+write_stmt_nodes.Lts-write_nodes as write-nodes-lts
@@ -82,11 +83,11 @@ write-nodes-sub-write-stmt-nodes : (t : ℕ) → write-nodes-lts.Need-sub-write-
 write-nodes-sub-write-stmt-nodes t c = omega (arith, c .before .before .before .before .before .if1 .left)
 
 write-nodes-add-write-stmt-nodes : (t : ℕ) → write-nodes-lts.Need-add-write-stmt-nodes (model-reads.Asked, model-reads.Learnt, write-stmt-nodes-below t, write-stmt-nodes.Post) (write-nodes-at t) write-nodes.Post write-nodes-Inv-loop write-nodes-μ-loop
-write-nodes-add-write-stmt-nodes t c = omega (arith, model-within (c .before .before .before .before .before .before .before .before .before .args .f .now) (c .before .before .before .before .before .before .before .before .before .args .s) (c .before .before .before .before .before .before .before .before .before .pre .1 .0) (c .before .before .before .before .before .before .before .before .before .args .m) (c .before .before .before .before .before .before .before .before .before .pre .1 .2) .1, c .before .before .before .before .model .ensures .0, c .before .before .before .model2 .ensures .0, c .before .before .before .before .before .before .before .before .before .pre .1 .0 .laid .within .stmts)
+write-nodes-add-write-stmt-nodes t c = omega (arith, model-is (c .before .before .before .before .before .before .before .before .before .args .f .now) (c .before .before .before .before .before .before .before .before .before .args .s) (c .before .before .before .before .before .before .before .before .before .pre .1 .0) (c .before .before .before .before .before .before .before .before .before .args .m) (c .before .before .before .before .before .before .before .before .before .pre .1 .2) .stmts-within, c .before .before .before .before .model .ensures .0, c .before .before .before .model2 .ensures .0, c .before .before .before .before .before .before .before .before .before .pre .1 .0 .laid .within .stmts)
 
 write-nodes-write-stmt-nodes-requires : (t : ℕ) → write-nodes-lts.Need-write-stmt-nodes-requires (model-reads.Asked, model-reads.Learnt, write-stmt-nodes-below t, write-stmt-nodes.Post) (write-nodes-at t) write-nodes.Post write-nodes-Inv-loop write-nodes-μ-loop
 write-nodes-write-stmt-nodes-requires t c κs = let p = c .before .before .before .before .before .before .before .before .before .before .pre .1 in let v = c .before .before .before .loop .inv in let z = putting-room (c .before .before .before .before .before .before .before .before .before .before .args .f .now) (c .before .before .before .before .before .before .before .before .before .before .args .s) (c .before .before .before .before .before .before .before .before .before .before .args .k) (c .before .before .before .before .before .before .before .before .before .before .args .m) (c .before .before .before .before .before .before .before .before .before .before .args .rows .now) (c .before .before .before .before .before .before .before .before .before .before .args .level) (c .before .before .before .before .before .before .before .before .before .before .args .out .now) (c .before .before .before .before .before .before .before .before .before .before .args .done) (c .before .before .before .before .before .before .before .before .before .before .pre .1 .0) (c .before .before .before .before .before .before .before .before .before .before .pre .1 .2) (c .before .before .before .before .before .before .before .before .before .before .pre .1 .4 .1) _ _ _ _ v _ (omega (arith, c .before .before .loop-test .taken, c .before .before .before .before .model2 .ensures .0)) (c .before .before .before .before .before .model .ensures .0) in
-    (omega (arith, c .before .before .before .before .before .before .before .before .before .before .pre .0, c .before .before .before .before .before .before .if1 .left), (p .0, p .1, omega (arith, model-within (c .before .before .before .before .before .before .before .before .before .before .args .f .now) (c .before .before .before .before .before .before .before .before .before .before .args .s) (c .before .before .before .before .before .before .before .before .before .before .pre .1 .0) (c .before .before .before .before .before .before .before .before .before .before .args .m) (c .before .before .before .before .before .before .before .before .before .before .pre .1 .2) .1, c .before .before .before .before .before .model .ensures .0, c .before .before .before .before .model2 .ensures .0), (omega (arith, p .3 .0, c .before .before .before .before .before .before .if1 .left), omega (arith, p .3 .1, v .long, c .before .before .before .before .before .before .if1 .left), v .fit), (omega (arith, z, p .4 .0), omega (arith, z, p .4 .1, v .room))))
+    (omega (arith, c .before .before .before .before .before .before .before .before .before .before .pre .0, c .before .before .before .before .before .before .if1 .left), (p .0, p .1, omega (arith, model-is (c .before .before .before .before .before .before .before .before .before .before .args .f .now) (c .before .before .before .before .before .before .before .before .before .before .args .s) (c .before .before .before .before .before .before .before .before .before .before .pre .1 .0) (c .before .before .before .before .before .before .before .before .before .before .args .m) (c .before .before .before .before .before .before .before .before .before .before .pre .1 .2) .stmts-within, c .before .before .before .before .before .model .ensures .0, c .before .before .before .before .model2 .ensures .0), (omega (arith, p .3 .0, c .before .before .before .before .before .before .if1 .left), omega (arith, p .3 .1, v .long, c .before .before .before .before .before .before .if1 .left), v .fit), (omega (arith, z, p .4 .0), omega (arith, z, p .4 .1, v .room))))
 
 write-nodes-add-i : (t : ℕ) → write-nodes-lts.Need-add-i (model-reads.Asked, model-reads.Learnt, write-stmt-nodes-below t, write-stmt-nodes.Post) (write-nodes-at t) write-nodes.Post write-nodes-Inv-loop write-nodes-μ-loop
 write-nodes-add-i t c = omega arith

@@ -1,9 +1,10 @@
 use mathlib.Core.Path.{sym, _∙_}
 use native.Mathlib.Omega.{arith}
 use Rattle.ast.proofs.Capped.{at-most-le}
-use Rattle.builder.proofs.OpenStmts.{is-equation, equation-sides, rate-side}
+use Rattle.builder.proofs.OpenStmts.{is-equation, equation-sides}
 use Rattle.builder.proofs.Descents.{ready, readable, rate-counted, equation-counted}
 use borrow.Author.Needs.{needs}
+use Rattle.builder.proofs.OpenRecords.{stmt-is}
 use Rattle.builder.proofs.flatten.own_nodes.Statement.{statement}
 use Rattle.builder.proofs.flatten.own_nodes.Tie as tie
 
@@ -14,7 +15,7 @@ stmt-requires-2 : tie.Need-stmt-requires-2
 stmt-requires-2 c κs = search needs
 
 measure-expr-requires : tie.Need-measure-expr-requires
-measure-expr-requires c κs = (ready (c .before .before .before .before .before .args .f .now) (c .before .before .before .before .before .args .s) (c .before .before .before .before .before .pre .0) (c .before .before .before .before .before .args .rows .now) (c .before .before .before .before .before .pre .2 .2), (c .before .before .before .before .before .pre .2 .0, c .before .before .before .before .before .pre .2 .1), readable (c .before .before .before .before .before .args .f .now) (c .before .before .before .before .before .args .s) (c .before .before .before .before .before .pre .0) _ _ (c .before .before .stmt .ensures .0) (rate-side (c .before .before .before .before .before .args .f .now) (c .before .before .before .before .before .args .s) (c .before .before .before .before .before .pre .0) (c .before .before .before .before .before .args .q) (c .before .before .before .before .before .pre .1 .0) (sym (c .before .stmt2 .ensures .0) ∙ c .if1 .taken)))
+measure-expr-requires c κs = (ready (c .before .before .before .before .before .args .f .now) (c .before .before .before .before .before .args .s) (c .before .before .before .before .before .pre .0) (c .before .before .before .before .before .args .rows .now) (c .before .before .before .before .before .pre .2 .2), (c .before .before .before .before .before .pre .2 .0, c .before .before .before .before .before .pre .2 .1), readable (c .before .before .before .before .before .args .f .now) (c .before .before .before .before .before .args .s) (c .before .before .before .before .before .pre .0) _ _ (c .before .before .stmt .ensures .0) (stmt-is (c .before .before .before .before .before .args .f .now) (c .before .before .before .before .before .args .s) (c .before .before .before .before .before .pre .0) (c .before .before .before .before .before .args .q) (c .before .before .before .before .before .pre .1 .0) .right))
 
 returns : tie.Need-returns
 returns c = rate-counted (c .before .before .before .before .before .before .args .f .now) (c .before .before .before .before .before .before .args .s) (c .before .before .before .before .before .before .pre .0) (c .before .before .before .before .before .before .args .rows .now) (c .before .before .before .before .before .before .args .level) (c .before .before .before .before .before .before .args .q) (c .before .before .before .before .before .before .args .most) _ _ (sym (c .before .before .stmt2 .ensures .0) ∙ c .before .if1 .taken) (c .before .before .before .stmt .ensures .0) (c .measure-expr .ensures)

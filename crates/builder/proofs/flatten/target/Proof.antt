@@ -1,7 +1,7 @@
 use native.Mathlib.Omega.{arith}
-use Rattle.builder.proofs.OpenStmts.{model-within}
 use Rattle.builder.proofs.Replacing.{target-keyword, target-unknown, target-beyond}
 use borrow.Author.Needs.{needs}
+use Rattle.builder.proofs.OpenRecords.{model-is}
 use Rattle.builder.proofs.flatten.target.Statement.{statement}
 use Rattle.builder.proofs.flatten.target.Tie as tie
 
@@ -18,7 +18,7 @@ add-unknown : tie.Need-add-unknown
 add-unknown c = search needs
 
 unknown-requires : tie.Need-unknown-requires
-unknown-requires c κs = (c .before .before .before .before .before .pre .0, (omega (arith, model-within _ _ (c .before .before .before .before .before .pre .0) (c .before .before .before .before .before .args .m) (c .before .before .before .before .before .pre .1 .0) .0, c .before .before .model .ensures .0, c .model2 .ensures .0), omega arith))
+unknown-requires c κs = (c .before .before .before .before .before .pre .0, (omega (arith, model-is _ _ (c .before .before .before .before .before .pre .0) (c .before .before .before .before .before .args .m) (c .before .before .before .before .before .pre .1 .0) .unknowns-within, c .before .before .model .ensures .0, c .model2 .ensures .0), omega arith))
 
 add-result : tie.Need-add-result
 add-result c = search needs

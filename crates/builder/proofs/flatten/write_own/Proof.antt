@@ -1,8 +1,9 @@
 use mathlib.Core.Path.{sym, _∙_}
 use native.Mathlib.Omega.{arith}
-use Rattle.builder.proofs.OpenStmts.{is-equation, equation-sides, rate-side}
+use Rattle.builder.proofs.OpenStmts.{is-equation, equation-sides}
 use Rattle.builder.proofs.Putting.{rate-room, equation-room, rate-put, equation-put, tree-long}
 use borrow.Author.Needs.{needs}
+use Rattle.builder.proofs.OpenRecords.{stmt-is}
 use Rattle.builder.proofs.flatten.write_own.Statement.{statement}
 use Rattle.builder.proofs.flatten.write_own.Tie as tie
 
@@ -14,7 +15,7 @@ stmt-requires-2 c κs = search needs
 
 write-tree-requires : tie.Need-write-tree-requires
 write-tree-requires c κs = let p = c .before .before .before .before .before .before .before .pre in let z = rate-room (c .before .before .before .before .before .before .before .args .f .now) (c .before .before .before .before .before .before .before .args .s) (c .before .before .before .before .before .before .before .args .rows .now) (c .before .before .before .before .before .before .before .args .level) (c .before .before .before .before .before .before .before .args .q) (p .3 .0) (c .before .before .before .stmt .result) (sym (c .before .before .stmt2 .ensures .0) ∙ c .before .if1 .taken) (c .before .before .before .stmt .ensures .0) in
-    (p .0, rw (c .before .before .before .stmt .ensures .0) (rate-side (c .before .before .before .before .before .before .before .args .f .now) (c .before .before .before .before .before .before .before .args .s) (c .before .before .before .before .before .before .before .pre .0) (c .before .before .before .before .before .before .before .args .q) (c .before .before .before .before .before .before .before .pre .1 .0) (sym (c .before .before .stmt2 .ensures .0) ∙ c .before .if1 .taken)), p .2, (omega (arith, z, p .3 .1 .0), omega (arith, z, p .3 .1 .1)))
+    (p .0, rw (c .before .before .before .stmt .ensures .0) (stmt-is (c .before .before .before .before .before .before .before .args .f .now) (c .before .before .before .before .before .before .before .args .s) (c .before .before .before .before .before .before .before .pre .0) (c .before .before .before .before .before .before .before .args .q) (c .before .before .before .before .before .before .before .pre .1 .0) .right), p .2, (omega (arith, z, p .3 .1 .0), omega (arith, z, p .3 .1 .1)))
 
 same-length : tie.Need-same-length
 same-length c = search needs

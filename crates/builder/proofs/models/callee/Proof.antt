@@ -6,9 +6,10 @@ use Rattle.ast.specs.Words.{wordOf}
 use Rattle.ast.specs.Nodes.{nameAt}
 use Rattle.ast.specs.Opens.{contentsIn, fileIn}
 use Rattle.builder.specs.Flatten.{modelNamed}
-use Rattle.builder.proofs.Open.{stmtRecord, right-top}
+use Rattle.builder.proofs.Open.{stmtRecord}
 use Rattle.builder.proofs.Finding.{named-below, callee-none, callee-some}
 use borrow.Author.Needs.{needs}
+use Rattle.builder.proofs.OpenRecords.{stmt-is}
 use Rattle.builder.proofs.models.callee.Statement.{statement}
 use Rattle.builder.proofs.models.callee.Tie as tie
 
@@ -22,7 +23,7 @@ stmt-requires-2 : tie.Need-stmt-requires-2
 stmt-requires-2 c κs = search needs
 
 node-requires : tie.Need-node-requires
-node-requires c κs = let t = right-top (c .before .before .before .before .args .f .now) (c .before .before .before .before .args .s) (c .before .before .before .before .pre .0) (c .before .before .before .before .args .q) (c .before .before .before .before .pre .1) in (c .before .before .before .before .pre .0, (omega (arith, t .0, c .stmt2 .ensures .0), omega arith))
+node-requires c κs = let t = stmt-is (c .before .before .before .before .args .f .now) (c .before .before .before .before .args .s) (c .before .before .before .before .pre .0) (c .before .before .before .before .args .q) (c .before .before .before .before .pre .1) .right in (c .before .before .before .before .pre .0, (omega (arith, t .0, c .stmt2 .ensures .0), omega arith))
 
 find-model-requires : tie.Need-find-model-requires
 find-model-requires c κs = search needs

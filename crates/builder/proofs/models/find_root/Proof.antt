@@ -7,8 +7,8 @@ use Rattle.functions.specs.Lists.{sameText, place, placeFrom, plusOne}
 use Rattle.ast.specs.Opens.{fileIn}
 use Rattle.builder.specs.Names.{textOf}
 use Rattle.builder.specs.Build.{rootOf}
-use Rattle.builder.proofs.Open.{model-name}
 use Rattle.builder.proofs.Finding.{find-yes, find-no, find-end, isRoot, root-test}
+use Rattle.builder.proofs.OpenRecords.{model-is}
 use Rattle.builder.proofs.models.find_root.Statement.{statement}
 use Rattle.builder.proofs.models.find_root.Tie as tie
 
@@ -26,7 +26,7 @@ model-requires : tie.Need-model-requires Inv-loop μ-loop
 model-requires c κs = (c .before .before .before .before .before .pre, (omega arith, omega arith))
 
 name-text-requires : tie.Need-name-text-requires Inv-loop μ-loop
-name-text-requires c κs = let n = model-name (c .before .before .before .before .before .before .args .f .now) (c .before .before .before .before .before .before .args .s) (c .before .before .before .before .before .before .pre) (c .before .before .before .loop .m) (omega arith) in (c .before .before .before .before .before .before .pre, omega (arith, c .model .ensures .0))
+name-text-requires c κs = let n = model-is (c .before .before .before .before .before .before .args .f .now) (c .before .before .before .before .before .before .args .s) (c .before .before .before .before .before .before .pre) (c .before .before .before .loop .m) (omega arith) .name-below in (c .before .before .before .before .before .before .pre, omega (arith, c .model .ensures .0))
 
 same-bytes-requires : tie.Need-same-bytes-requires Inv-loop μ-loop
 same-bytes-requires c κs = search needs

@@ -12,9 +12,10 @@ use Rattle.ast.proofs.Capped.{at-most-le, at-most-zero, at-most-none, at-most-o
 use Rattle.ast.proofs.records.model.Reads as model-reads
 use Rattle.ast.proofs.records.stmt.Reads as stmt-reads
 use Rattle.builder.specs.Flatten.{modelAt}
-use Rattle.builder.proofs.OpenFile.{stmtIn, models-count, stmts-within, is-submodel, own-stmt}
 use Rattle.builder.proofs.Amounts.{broughtIn, at-most-add, sum-none, brought-own, brought-none, brought-called, flatten-zero, flatten-more, run-next, run-end}
 use Rattle.builder.proofs.Calling.{callee-below}
+use Rattle.builder.proofs.OpenRecords.{stmt-submodel, own-stmt, model-is}
+use Rattle.builder.proofs.Open.{stmtIn, models-long}
 use Rattle.builder.proofs.sizes.+flat_stmts+stmt_stmts.{statement}
 use Rattle.builder.proofs.sizes.+flat_stmts+stmt_stmts.Tie.{close}
 use Rattle.builder.proofs.sizes.flat_stmts.Reads as flat-stmts
@@ -68,19 +69,19 @@ flat-stmts-sub-stmt-stmts : (t : ℕ) → flat-stmts-lts.Need-sub-stmt-stmts (mo
 flat-stmts-sub-stmt-stmts t c = omega arith
 
 flat-stmts-add-stmt-stmts : (t : ℕ) → flat-stmts-lts.Need-add-stmt-stmts (model-reads.Asked, model-reads.Learnt, stmt-stmts-below t, stmt-stmts.Post) (flat-stmts-at t) flat-stmts.Post flat-stmts-Inv-loop flat-stmts-μ-loop
-flat-stmts-add-stmt-stmts t c = let p = c .before .before .before .before .before .before .pre .1 in let w = stmts-within (c .before .before .before .before .before .before .args .f .now) (c .before .before .before .before .before .before .args .s) (p .0) (c .before .before .before .before .before .before .args .m) (p .2) in let e₁ = c .before .before .before .model .ensures .0 in let e₂ = c .before .before .model2 .ensures .0 in omega (arith, p .0 .laid .within .stmts)
+flat-stmts-add-stmt-stmts t c = let p = c .before .before .before .before .before .before .pre .1 in let w = model-is (c .before .before .before .before .before .before .args .f .now) (c .before .before .before .before .before .before .args .s) (p .0) (c .before .before .before .before .before .before .args .m) (p .2) .stmts-within in let e₁ = c .before .before .before .model .ensures .0 in let e₂ = c .before .before .model2 .ensures .0 in omega (arith, p .0 .laid .within .stmts)
 
 flat-stmts-sub-stmt-stmts-2 : (t : ℕ) → flat-stmts-lts.Need-sub-stmt-stmts-2 (model-reads.Asked, model-reads.Learnt, stmt-stmts-below t, stmt-stmts.Post) (flat-stmts-at t) flat-stmts.Post flat-stmts-Inv-loop flat-stmts-μ-loop
 flat-stmts-sub-stmt-stmts-2 t c = let le = at-most-le _ _ _ (c .before .loop .inv .1) in omega arith
 
 flat-stmts-stmt-stmts-requires : (t : ℕ) → flat-stmts-lts.Need-stmt-stmts-requires (model-reads.Asked, model-reads.Learnt, stmt-stmts-below t, stmt-stmts.Post) (flat-stmts-at t) flat-stmts.Post flat-stmts-Inv-loop flat-stmts-μ-loop
-flat-stmts-stmt-stmts-requires t c κs = let p = c .before .before .before .before .before .before .pre .1 in let w = stmts-within (c .before .before .before .before .before .before .args .f .now) (c .before .before .before .before .before .before .args .s) (p .0) (c .before .before .before .before .before .before .args .m) (p .2) in let e₁ = c .before .before .before .model .ensures .0 in let e₂ = c .before .before .model2 .ensures .0 in let le = at-most-le _ _ _ (c .before .loop .inv .1) in (omega arith, (p .0, p .1, omega arith, omega arith, omega arith))
+flat-stmts-stmt-stmts-requires t c κs = let p = c .before .before .before .before .before .before .pre .1 in let w = model-is (c .before .before .before .before .before .before .args .f .now) (c .before .before .before .before .before .before .args .s) (p .0) (c .before .before .before .before .before .before .args .m) (p .2) .stmts-within in let e₁ = c .before .before .before .model .ensures .0 in let e₂ = c .before .before .model2 .ensures .0 in let le = at-most-le _ _ _ (c .before .loop .inv .1) in (omega arith, (p .0, p .1, omega arith, omega arith, omega arith))
 
 flat-stmts-add-total : (t : ℕ) → flat-stmts-lts.Need-add-total (model-reads.Asked, model-reads.Learnt, stmt-stmts-below t, stmt-stmts.Post) (flat-stmts-at t) flat-stmts.Post flat-stmts-Inv-loop flat-stmts-μ-loop
 flat-stmts-add-total t c = let le = at-most-le _ _ _ (c .before .before .loop .inv .1) in let g = at-most-le _ _ _ (c .stmt-stmts .ensures) in let p = c .before .before .before .before .before .before .before .pre .1 in omega arith
 
 flat-stmts-add-i : (t : ℕ) → flat-stmts-lts.Need-add-i (model-reads.Asked, model-reads.Learnt, stmt-stmts-below t, stmt-stmts.Post) (flat-stmts-at t) flat-stmts.Post flat-stmts-Inv-loop flat-stmts-μ-loop
-flat-stmts-add-i t c = let p = c .before .before .before .before .before .before .before .pre .1 in let w = stmts-within (c .before .before .before .before .before .before .before .args .f .now) (c .before .before .before .before .before .before .before .args .s) (p .0) (c .before .before .before .before .before .before .before .args .m) (p .2) in let e₁ = c .before .before .before .before .model .ensures .0 in let e₂ = c .before .before .before .model2 .ensures .0 in omega (arith, p .0 .laid .within .stmts)
+flat-stmts-add-i t c = let p = c .before .before .before .before .before .before .before .pre .1 in let w = model-is (c .before .before .before .before .before .before .before .args .f .now) (c .before .before .before .before .before .before .before .args .s) (p .0) (c .before .before .before .before .before .before .before .args .m) (p .2) .stmts-within in let e₁ = c .before .before .before .before .model .ensures .0 in let e₂ = c .before .before .before .model2 .ensures .0 in omega (arith, p .0 .laid .within .stmts)
 
 flat-stmts-loop-less : (t : ℕ) → flat-stmts-lts.Need-loop-less (model-reads.Asked, model-reads.Learnt, stmt-stmts-below t, stmt-stmts.Post) (flat-stmts-at t) flat-stmts.Post flat-stmts-Inv-loop flat-stmts-μ-loop
 flat-stmts-loop-less t c = omega arith
@@ -108,16 +109,16 @@ stmt-stmts-element-copy-out-c : (t : ℕ) → stmt-stmts-lts.Need-element-copy-o
 stmt-stmts-element-copy-out-c t c = let p = c .before .before .before .before .pre .1 in omega (arith, p .0 .laid .within .stmts)
 
 stmt-stmts-cast-c : (t : ℕ) → stmt-stmts-lts.Need-cast-c (stmt-reads.Asked, stmt-reads.Learnt, flat-stmts-below t, flat-stmts.Post) (stmt-stmts-at t) stmt-stmts.Post
-stmt-stmts-cast-c t c = let p = c .before .before .before .before .before .pre .1 in let e = p .1 .callee (c .before .before .before .before .before .args .q) (p .2) in omega (arith, e, callee-below (fileIn (c .before .before .before .before .before .args .f .now) (c .before .before .before .before .before .args .s)) (stmtIn (c .before .before .before .before .before .args .f .now) (c .before .before .before .before .before .args .s) (c .before .before .before .before .before .args .q)), models-count (c .before .before .before .before .before .args .f .now) (c .before .before .before .before .before .args .s), p .0 .laid .within .models)
+stmt-stmts-cast-c t c = let p = c .before .before .before .before .before .pre .1 in let e = p .1 .callee (c .before .before .before .before .before .args .q) (p .2) in omega (arith, e, callee-below (fileIn (c .before .before .before .before .before .args .f .now) (c .before .before .before .before .before .args .s)) (stmtIn (c .before .before .before .before .before .args .f .now) (c .before .before .before .before .before .args .s) (c .before .before .before .before .before .args .q)), models-long (c .before .before .before .before .before .args .f .now) (c .before .before .before .before .before .args .s), p .0 .laid .within .models)
 
 stmt-stmts-returns-3 : (t : ℕ) → stmt-stmts-lts.Need-returns-3 (stmt-reads.Asked, stmt-reads.Learnt, flat-stmts-below t, flat-stmts.Post) (stmt-stmts-at t) stmt-stmts.Post
-stmt-stmts-returns-3 t c = let p = c .before .before .before .before .before .before .pre .1 in let e = p .1 .callee (c .before .before .before .before .before .before .args .q) (p .2) in let x = is-submodel _ _ (sym (c .before .before .before .stmt .ensures .0) ∙ c .before .before .if2 .left) in at-most-none _ _ (brought-none (fileIn (c .before .before .before .before .before .before .args .f .now) (c .before .before .before .before .before .before .args .s)) (c .before .before .before .before .before .before .args .k) _ _ _ _ (stmtIn (c .before .before .before .before .before .before .args .f .now) (c .before .before .before .before .before .before .args .s) (c .before .before .before .before .before .before .args .q)) _ x e (c .if3 .taken))
+stmt-stmts-returns-3 t c = let p = c .before .before .before .before .before .before .pre .1 in let e = p .1 .callee (c .before .before .before .before .before .before .args .q) (p .2) in let x = stmt-submodel _ _ (sym (c .before .before .before .stmt .ensures .0) ∙ c .before .before .if2 .left) in at-most-none _ _ (brought-none (fileIn (c .before .before .before .before .before .before .args .f .now) (c .before .before .before .before .before .before .args .s)) (c .before .before .before .before .before .before .args .k) _ _ _ _ (stmtIn (c .before .before .before .before .before .before .args .f .now) (c .before .before .before .before .before .before .args .s) (c .before .before .before .before .before .before .args .q)) _ x e (c .if3 .taken))
 
 stmt-stmts-sub-flat-stmts : (t : ℕ) → stmt-stmts-lts.Need-sub-flat-stmts (stmt-reads.Asked, stmt-reads.Learnt, flat-stmts-below t, flat-stmts.Post) (stmt-stmts-at t) stmt-stmts.Post
 stmt-stmts-sub-flat-stmts t c = omega arith
 
 stmt-stmts-flat-stmts-requires : (t : ℕ) → stmt-stmts-lts.Need-flat-stmts-requires (stmt-reads.Asked, stmt-reads.Learnt, flat-stmts-below t, flat-stmts.Post) (stmt-stmts-at t) stmt-stmts.Post
-stmt-stmts-flat-stmts-requires t c κs = let p = c .before .before .before .before .before .before .pre .1 in let e = p .1 .callee (c .before .before .before .before .before .before .args .q) (p .2) in let b = callee-below (fileIn (c .before .before .before .before .before .before .args .f .now) (c .before .before .before .before .before .before .args .s)) (stmtIn (c .before .before .before .before .before .before .args .f .now) (c .before .before .before .before .before .before .args .s) (c .before .before .before .before .before .before .args .q)) in (omega arith, (p .0, p .1, omega (arith, e, c .if3 .left, models-count (c .before .before .before .before .before .before .args .f .now) (c .before .before .before .before .before .before .args .s)), omega arith, omega arith))
+stmt-stmts-flat-stmts-requires t c κs = let p = c .before .before .before .before .before .before .pre .1 in let e = p .1 .callee (c .before .before .before .before .before .before .args .q) (p .2) in let b = callee-below (fileIn (c .before .before .before .before .before .before .args .f .now) (c .before .before .before .before .before .before .args .s)) (stmtIn (c .before .before .before .before .before .before .args .f .now) (c .before .before .before .before .before .before .args .s) (c .before .before .before .before .before .before .args .q)) in (omega arith, (p .0, p .1, omega (arith, e, c .if3 .left, models-long (c .before .before .before .before .before .before .args .f .now) (c .before .before .before .before .before .before .args .s)), omega arith, omega arith))
 
 stmt-stmts-returns-4 : (t : ℕ) → stmt-stmts-lts.Need-returns-4 (stmt-reads.Asked, stmt-reads.Learnt, flat-stmts-below t, flat-stmts.Post) (stmt-stmts-at t) stmt-stmts.Post
 stmt-stmts-returns-4 t c = let p = c .before .before .before .before .before .before .before .pre .1 in let e = p .1 .callee (c .before .before .before .before .before .before .before .args .q) (p .2) in c .flat-stmts .ensures ∙ ap (atMost (c .before .before .before .before .before .before .before .args .most)) (sym (brought-called (fileIn (c .before .before .before .before .before .before .before .args .f .now) (c .before .before .before .before .before .before .before .args .s)) (c .before .before .before .before .before .before .before .args .k) (stmtIn (c .before .before .before .before .before .before .before .args .f .now) (c .before .before .before .before .before .before .before .args .s) (c .before .before .before .before .before .before .before .args .q)) _ e (c .before .if3 .left)))

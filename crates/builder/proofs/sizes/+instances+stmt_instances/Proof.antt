@@ -11,9 +11,10 @@ use Rattle.ast.specs.Rows.{atMost}
 use Rattle.ast.proofs.Capped.{at-most-le, at-most-zero, at-most-none, at-most-one}
 use Rattle.ast.proofs.records.model.Reads as model-reads
 use Rattle.builder.specs.Flatten.{modelAt}
-use Rattle.builder.proofs.OpenFile.{stmtIn, models-count, stmts-within}
 use Rattle.builder.proofs.Amounts.{calledInstances, at-most-add, sum-none, called-none, called-one, instances-zero, instances-more, run-next, run-end}
 use Rattle.builder.proofs.Calling.{callee-below}
+use Rattle.builder.proofs.Open.{stmtIn, models-long}
+use Rattle.builder.proofs.OpenRecords.{model-is}
 use Rattle.builder.proofs.sizes.+instances+stmt_instances.{statement}
 use Rattle.builder.proofs.sizes.+instances+stmt_instances.Tie.{close}
 use Rattle.builder.proofs.sizes.instances.Reads as instances
@@ -77,19 +78,19 @@ instances-sub-stmt-instances : (t : ℕ) → instances-lts.Need-sub-stmt-instanc
 instances-sub-stmt-instances t c = omega arith
 
 instances-add-stmt-instances : (t : ℕ) → instances-lts.Need-add-stmt-instances (model-reads.Asked, model-reads.Learnt, stmt-instances-below t, stmt-instances.Post) (instances-at t) instances.Post instances-Inv-loop instances-μ-loop
-instances-add-stmt-instances t c = let p = c .before .before .before .before .before .before .before .pre .1 in let w = stmts-within (c .before .before .before .before .before .before .before .args .f .now) (c .before .before .before .before .before .before .before .args .s) (p .0) (c .before .before .before .before .before .before .before .args .m) (p .2) in let e₁ = c .before .before .before .model .ensures .0 in let e₂ = c .before .before .model2 .ensures .0 in omega (arith, p .0 .laid .within .stmts)
+instances-add-stmt-instances t c = let p = c .before .before .before .before .before .before .before .pre .1 in let w = model-is (c .before .before .before .before .before .before .before .args .f .now) (c .before .before .before .before .before .before .before .args .s) (p .0) (c .before .before .before .before .before .before .before .args .m) (p .2) .stmts-within in let e₁ = c .before .before .before .model .ensures .0 in let e₂ = c .before .before .model2 .ensures .0 in omega (arith, p .0 .laid .within .stmts)
 
 instances-sub-stmt-instances-2 : (t : ℕ) → instances-lts.Need-sub-stmt-instances-2 (model-reads.Asked, model-reads.Learnt, stmt-instances-below t, stmt-instances.Post) (instances-at t) instances.Post instances-Inv-loop instances-μ-loop
 instances-sub-stmt-instances-2 t c = let le = at-most-le _ _ _ (c .before .loop .inv .1) in omega arith
 
 instances-stmt-instances-requires : (t : ℕ) → instances-lts.Need-stmt-instances-requires (model-reads.Asked, model-reads.Learnt, stmt-instances-below t, stmt-instances.Post) (instances-at t) instances.Post instances-Inv-loop instances-μ-loop
-instances-stmt-instances-requires t c κs = let p = c .before .before .before .before .before .before .before .pre .1 in let w = stmts-within (c .before .before .before .before .before .before .before .args .f .now) (c .before .before .before .before .before .before .before .args .s) (p .0) (c .before .before .before .before .before .before .before .args .m) (p .2) in let e₁ = c .before .before .before .model .ensures .0 in let e₂ = c .before .before .model2 .ensures .0 in let le = at-most-le _ _ _ (c .before .loop .inv .1) in (omega arith, (p .0, p .1, omega arith, omega arith, omega arith))
+instances-stmt-instances-requires t c κs = let p = c .before .before .before .before .before .before .before .pre .1 in let w = model-is (c .before .before .before .before .before .before .before .args .f .now) (c .before .before .before .before .before .before .before .args .s) (p .0) (c .before .before .before .before .before .before .before .args .m) (p .2) .stmts-within in let e₁ = c .before .before .before .model .ensures .0 in let e₂ = c .before .before .model2 .ensures .0 in let le = at-most-le _ _ _ (c .before .loop .inv .1) in (omega arith, (p .0, p .1, omega arith, omega arith, omega arith))
 
 instances-add-total : (t : ℕ) → instances-lts.Need-add-total (model-reads.Asked, model-reads.Learnt, stmt-instances-below t, stmt-instances.Post) (instances-at t) instances.Post instances-Inv-loop instances-μ-loop
 instances-add-total t c = let le = at-most-le _ _ _ (c .before .before .loop .inv .1) in let g = at-most-le _ _ _ (c .stmt-instances .ensures) in let p = c .before .before .before .before .before .before .before .before .pre .1 in omega arith
 
 instances-add-i : (t : ℕ) → instances-lts.Need-add-i (model-reads.Asked, model-reads.Learnt, stmt-instances-below t, stmt-instances.Post) (instances-at t) instances.Post instances-Inv-loop instances-μ-loop
-instances-add-i t c = let p = c .before .before .before .before .before .before .before .before .pre .1 in let w = stmts-within (c .before .before .before .before .before .before .before .before .args .f .now) (c .before .before .before .before .before .before .before .before .args .s) (p .0) (c .before .before .before .before .before .before .before .before .args .m) (p .2) in let e₁ = c .before .before .before .before .model .ensures .0 in let e₂ = c .before .before .before .model2 .ensures .0 in omega (arith, p .0 .laid .within .stmts)
+instances-add-i t c = let p = c .before .before .before .before .before .before .before .before .pre .1 in let w = model-is (c .before .before .before .before .before .before .before .before .args .f .now) (c .before .before .before .before .before .before .before .before .args .s) (p .0) (c .before .before .before .before .before .before .before .before .args .m) (p .2) .stmts-within in let e₁ = c .before .before .before .before .model .ensures .0 in let e₂ = c .before .before .before .model2 .ensures .0 in omega (arith, p .0 .laid .within .stmts)
 
 instances-loop-less : (t : ℕ) → instances-lts.Need-loop-less (model-reads.Asked, model-reads.Learnt, stmt-instances-below t, stmt-instances.Post) (instances-at t) instances.Post instances-Inv-loop instances-μ-loop
 instances-loop-less t c = omega arith
@@ -108,7 +109,7 @@ stmt-instances-element-copy-out-c : (t : ℕ) → stmt-instances-lts.Need-elemen
 stmt-instances-element-copy-out-c t c = let p = c .before .pre .1 in omega (arith, p .0 .laid .within .stmts)
 
 stmt-instances-cast-c : (t : ℕ) → stmt-instances-lts.Need-cast-c (instances-below t, instances.Post) (stmt-instances-at t) stmt-instances.Post
-stmt-instances-cast-c t c = let p = c .before .before .pre .1 in let e = p .1 .callee (c .before .before .args .q) (p .2) in omega (arith, e, callee-below (fileIn (c .before .before .args .f .now) (c .before .before .args .s)) (stmtIn (c .before .before .args .f .now) (c .before .before .args .s) (c .before .before .args .q)), models-count (c .before .before .args .f .now) (c .before .before .args .s), p .0 .laid .within .models)
+stmt-instances-cast-c t c = let p = c .before .before .pre .1 in let e = p .1 .callee (c .before .before .args .q) (p .2) in omega (arith, e, callee-below (fileIn (c .before .before .args .f .now) (c .before .before .args .s)) (stmtIn (c .before .before .args .f .now) (c .before .before .args .s) (c .before .before .args .q)), models-long (c .before .before .args .f .now) (c .before .before .args .s), p .0 .laid .within .models)
 
 stmt-instances-returns : (t : ℕ) → stmt-instances-lts.Need-returns (instances-below t, instances.Post) (stmt-instances-at t) stmt-instances.Post
 stmt-instances-returns t c = let p = c .before .before .before .pre .1 in let e = p .1 .callee (c .before .before .before .args .q) (p .2) in at-most-none _ _ (called-none (fileIn (c .before .before .before .args .f .now) (c .before .before .before .args .s)) (c .before .before .before .args .k) (stmtIn (c .before .before .before .args .f .now) (c .before .before .before .args .s) (c .before .before .before .args .q)) _ e (c .if1 .taken))
@@ -117,7 +118,7 @@ stmt-instances-sub-instances : (t : ℕ) → stmt-instances-lts.Need-sub-instanc
 stmt-instances-sub-instances t c = omega arith
 
 stmt-instances-instances-requires : (t : ℕ) → stmt-instances-lts.Need-instances-requires (instances-below t, instances.Post) (stmt-instances-at t) stmt-instances.Post
-stmt-instances-instances-requires t c κs = let p = c .before .before .before .pre .1 in let e = p .1 .callee (c .before .before .before .args .q) (p .2) in let b = callee-below (fileIn (c .before .before .before .args .f .now) (c .before .before .before .args .s)) (stmtIn (c .before .before .before .args .f .now) (c .before .before .before .args .s) (c .before .before .before .args .q)) in (omega arith, (p .0, p .1, omega (arith, e, c .if1 .left, models-count (c .before .before .before .args .f .now) (c .before .before .before .args .s)), omega arith, omega arith))
+stmt-instances-instances-requires t c κs = let p = c .before .before .before .pre .1 in let e = p .1 .callee (c .before .before .before .args .q) (p .2) in let b = callee-below (fileIn (c .before .before .before .args .f .now) (c .before .before .before .args .s)) (stmtIn (c .before .before .before .args .f .now) (c .before .before .before .args .s) (c .before .before .before .args .q)) in (omega arith, (p .0, p .1, omega (arith, e, c .if1 .left, models-long (c .before .before .before .args .f .now) (c .before .before .before .args .s)), omega arith, omega arith))
 
 stmt-instances-returns-2 : (t : ℕ) → stmt-instances-lts.Need-returns-2 (instances-below t, instances.Post) (stmt-instances-at t) stmt-instances.Post
 stmt-instances-returns-2 t c = let p = c .before .before .before .before .pre .1 in let e = p .1 .callee (c .before .before .before .before .args .q) (p .2) in c .instances .ensures ∙ ap (atMost (c .before .before .before .before .args .most)) (sym (called-one (fileIn (c .before .before .before .before .args .f .now) (c .before .before .before .before .args .s)) (c .before .before .before .before .args .k) (stmtIn (c .before .before .before .before .args .f .now) (c .before .before .before .before .args .s) (c .before .before .before .before .args .q)) _ e (c .before .if1 .left)))

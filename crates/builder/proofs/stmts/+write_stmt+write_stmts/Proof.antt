@@ -5,12 +5,13 @@ use lib.ListN.{getD}
 use Rattle.ast.specs.Rows.{levelsOf}
 use Rattle.ast.specs.Opens.{contentsIn, fileIn}
 use Rattle.builder.specs.Flatten.{flatten}
-use Rattle.builder.proofs.OpenStmts.{model-within, submodel-call, called-some, called-within}
+use Rattle.builder.proofs.OpenStmts.{submodel-call, called-some, called-within}
 use Rattle.builder.proofs.Descents.{either-zero, neither-zero, kept-less, flat-zero, brought-none, deeper}
 use Rattle.builder.proofs.Recording.{Recording, recording-start, recording-room, recording-step, recording-end, nothing-recorded, fits-same, recorded-same}
 use Prim.Native.Nat.{ℕ, _+_, _*_, _-_, _<_}
 use borrow.Fn.Kinds.{In}
 use borrow.Fn.PlainCycle.{Measures, is, falls, and}
+use Rattle.builder.proofs.OpenRecords.{model-is}
 use Rattle.builder.proofs.stmts.write_stmt.Reads as write-stmt
 use Rattle.builder.proofs.stmts.write_stmt.Kinds as write-stmt-kinds
 use Rattle.builder.proofs.stmts.+write_stmt+write_stmts.Lts-write_stmt as write-stmt-lts
@@ -119,10 +120,10 @@ write-stmts-sub-write-stmt : (t : ℕ) → write-stmts-lts.Need-sub-write-stmt (
 write-stmts-sub-write-stmt t c = omega (arith, c .before .before .before .before .before .if1 .left)
 
 write-stmts-add-write-stmt : (t : ℕ) → write-stmts-lts.Need-add-write-stmt (model-reads.Asked, model-reads.Learnt, write-stmt-below t, write-stmt.Post) (write-stmts-at t) write-stmts.Post write-stmts-Inv-loop write-stmts-μ-loop
-write-stmts-add-write-stmt t c = omega (arith, model-within (c .before .before .before .before .before .before .before .before .before .args .f .now) (c .before .before .before .before .before .before .before .before .before .args .s) (c .before .before .before .before .before .before .before .before .before .pre .1 .0) (c .before .before .before .before .before .before .before .before .before .args .m) (c .before .before .before .before .before .before .before .before .before .pre .1 .2) .1, c .before .before .before .before .model .ensures .0, c .before .before .before .model2 .ensures .0, c .before .before .before .before .before .before .before .before .before .pre .1 .0 .laid .within .stmts)
+write-stmts-add-write-stmt t c = omega (arith, model-is (c .before .before .before .before .before .before .before .before .before .args .f .now) (c .before .before .before .before .before .before .before .before .before .args .s) (c .before .before .before .before .before .before .before .before .before .pre .1 .0) (c .before .before .before .before .before .before .before .before .before .args .m) (c .before .before .before .before .before .before .before .before .before .pre .1 .2) .stmts-within, c .before .before .before .before .model .ensures .0, c .before .before .before .model2 .ensures .0, c .before .before .before .before .before .before .before .before .before .pre .1 .0 .laid .within .stmts)
 
 write-stmts-write-stmt-requires : (t : ℕ) → write-stmts-lts.Need-write-stmt-requires (model-reads.Asked, model-reads.Learnt, write-stmt-below t, write-stmt.Post) (write-stmts-at t) write-stmts.Post write-stmts-Inv-loop write-stmts-μ-loop
-write-stmts-write-stmt-requires t c κs = let p = c .before .before .before .before .before .before .before .before .before .before .pre .1 in let v = c .before .before .before .loop .inv in (omega (arith, c .before .before .before .before .before .before .before .before .before .before .pre .0, c .before .before .before .before .before .before .if1 .left), (p .0, p .1, omega (arith, model-within (c .before .before .before .before .before .before .before .before .before .before .args .f .now) (c .before .before .before .before .before .before .before .before .before .before .args .s) (c .before .before .before .before .before .before .before .before .before .before .pre .1 .0) (c .before .before .before .before .before .before .before .before .before .before .args .m) (c .before .before .before .before .before .before .before .before .before .before .pre .1 .2) .1, c .before .before .before .before .before .model .ensures .0, c .before .before .before .before .model2 .ensures .0), (omega (arith, p .3 .0, c .before .before .before .before .before .before .if1 .left), omega (arith, p .3 .1, v .long, c .before .before .before .before .before .before .if1 .left), v .fit), recording-room (c .before .before .before .before .before .before .before .before .before .before .args .f .now) (c .before .before .before .before .before .before .before .before .before .before .args .s) (c .before .before .before .before .before .before .before .before .before .before .args .k) (c .before .before .before .before .before .before .before .before .before .before .args .m) (c .before .before .before .before .before .before .before .before .before .before .args .rows .now) (c .before .before .before .before .before .before .before .before .before .before .args .level) (c .before .before .before .before .before .before .before .before .before .before .args .out .now) (c .before .before .before .before .before .before .before .before .before .before .args .done .stmts) (c .before .before .before .before .before .before .before .before .before .before .args .done .nodes) (c .before .before .before .before .before .before .before .before .before .before .pre .1 .0) (c .before .before .before .before .before .before .before .before .before .before .pre .1 .2) (c .before .before .before .before .before .before .before .before .before .before .pre .1 .4) _ _ _ _ _ (c .before .before .before .loop .inv) _ (omega (arith, c .before .before .loop-test .taken, c .before .before .before .before .model2 .ensures .0)) (c .before .before .before .before .before .model .ensures .0)))
+write-stmts-write-stmt-requires t c κs = let p = c .before .before .before .before .before .before .before .before .before .before .pre .1 in let v = c .before .before .before .loop .inv in (omega (arith, c .before .before .before .before .before .before .before .before .before .before .pre .0, c .before .before .before .before .before .before .if1 .left), (p .0, p .1, omega (arith, model-is (c .before .before .before .before .before .before .before .before .before .before .args .f .now) (c .before .before .before .before .before .before .before .before .before .before .args .s) (c .before .before .before .before .before .before .before .before .before .before .pre .1 .0) (c .before .before .before .before .before .before .before .before .before .before .args .m) (c .before .before .before .before .before .before .before .before .before .before .pre .1 .2) .stmts-within, c .before .before .before .before .before .model .ensures .0, c .before .before .before .before .model2 .ensures .0), (omega (arith, p .3 .0, c .before .before .before .before .before .before .if1 .left), omega (arith, p .3 .1, v .long, c .before .before .before .before .before .before .if1 .left), v .fit), recording-room (c .before .before .before .before .before .before .before .before .before .before .args .f .now) (c .before .before .before .before .before .before .before .before .before .before .args .s) (c .before .before .before .before .before .before .before .before .before .before .args .k) (c .before .before .before .before .before .before .before .before .before .before .args .m) (c .before .before .before .before .before .before .before .before .before .before .args .rows .now) (c .before .before .before .before .before .before .before .before .before .before .args .level) (c .before .before .before .before .before .before .before .before .before .before .args .out .now) (c .before .before .before .before .before .before .before .before .before .before .args .done .stmts) (c .before .before .before .before .before .before .before .before .before .before .args .done .nodes) (c .before .before .before .before .before .before .before .before .before .before .pre .1 .0) (c .before .before .before .before .before .before .before .before .before .before .pre .1 .2) (c .before .before .before .before .before .before .before .before .before .before .pre .1 .4) _ _ _ _ _ (c .before .before .before .loop .inv) _ (omega (arith, c .before .before .loop-test .taken, c .before .before .before .before .model2 .ensures .0)) (c .before .before .before .before .before .model .ensures .0)))
 
 write-stmts-add-i : (t : ℕ) → write-stmts-lts.Need-add-i (model-reads.Asked, model-reads.Learnt, write-stmt-below t, write-stmt.Post) (write-stmts-at t) write-stmts.Post write-stmts-Inv-loop write-stmts-μ-loop
 write-stmts-add-i t c = omega arith

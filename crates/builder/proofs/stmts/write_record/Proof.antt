@@ -2,10 +2,11 @@ use mathlib.Core.Path.{sym, _∙_}
 use native.Mathlib.Omega.{arith}
 use lib.ListN.{length}
 use Rattle.ast.proofs.Capped.{at-most-le}
-use Rattle.builder.proofs.OpenStmts.{is-equation, equation-sides, rate-side}
+use Rattle.builder.proofs.OpenStmts.{is-equation, equation-sides}
 use Rattle.builder.proofs.Descents.{ready, readable}
 use Rattle.builder.proofs.Recording.{rate-fits, rate-recorded, equation-fits, equation-recorded, rate-any, equation-any}
 use borrow.Author.Needs.{needs}
+use Rattle.builder.proofs.OpenRecords.{stmt-is}
 use Rattle.builder.proofs.stmts.write_record.Statement.{statement}
 use Rattle.builder.proofs.stmts.write_record.Tie as tie
 
@@ -34,7 +35,7 @@ cast-name : tie.Need-cast-name
 cast-name c = search needs
 
 measure-expr-requires : tie.Need-measure-expr-requires
-measure-expr-requires c κs = (ready (c .before .before .before .before .before .before .before .before .before .args .f .now) (c .before .before .before .before .before .before .before .before .before .args .s) (c .before .before .before .before .before .before .before .before .before .pre .0) (c .before .before .before .before .before .before .before .before .before .args .rows .now) (c .before .before .before .before .before .before .before .before .before .pre .2 .2), (c .before .before .before .before .before .before .before .before .before .pre .2 .0, c .before .before .before .before .before .before .before .before .before .pre .2 .1), readable (c .before .before .before .before .before .before .before .before .before .args .f .now) (c .before .before .before .before .before .before .before .before .before .args .s) (c .before .before .before .before .before .before .before .before .before .pre .0) _ _ (c .before .before .before .stmt3 .ensures .0) ((rate-side (c .before .before .before .before .before .before .before .before .before .args .f .now) (c .before .before .before .before .before .before .before .before .before .args .s) (c .before .before .before .before .before .before .before .before .before .pre .0) (c .before .before .before .before .before .before .before .before .before .args .q) (c .before .before .before .before .before .before .before .before .before .pre .1 .0) (sym (c .before .before .stmt4 .ensures .0) ∙ c .before .if1 .taken))))
+measure-expr-requires c κs = (ready (c .before .before .before .before .before .before .before .before .before .args .f .now) (c .before .before .before .before .before .before .before .before .before .args .s) (c .before .before .before .before .before .before .before .before .before .pre .0) (c .before .before .before .before .before .before .before .before .before .args .rows .now) (c .before .before .before .before .before .before .before .before .before .pre .2 .2), (c .before .before .before .before .before .before .before .before .before .pre .2 .0, c .before .before .before .before .before .before .before .before .before .pre .2 .1), readable (c .before .before .before .before .before .before .before .before .before .args .f .now) (c .before .before .before .before .before .before .before .before .before .args .s) (c .before .before .before .before .before .before .before .before .before .pre .0) _ _ (c .before .before .before .stmt3 .ensures .0) ((stmt-is (c .before .before .before .before .before .before .before .before .before .args .f .now) (c .before .before .before .before .before .before .before .before .before .args .s) (c .before .before .before .before .before .before .before .before .before .pre .0) (c .before .before .before .before .before .before .before .before .before .args .q) (c .before .before .before .before .before .before .before .before .before .pre .1 .0) .right)))
 
 add-right : tie.Need-add-right
 add-right c = omega (arith, at-most-le _ _ _ (c .measure-expr .ensures), c .before .before .before .before .before .before .before .before .before .before .pre .3 .1 .1)
