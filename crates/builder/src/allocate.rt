@@ -13,6 +13,7 @@ ghost use Rattle.builder.specs.Roles.{sameFloat};
 ghost use Rattle.builder.specs.Listing.{spanned};
 ghost use Rattle.builder.specs.Allocating.{nodesIn, stmtIn, flatIn, flatsIn, Flattened, Tabled, argNode, startAt, shortBy, startNumber, foundStart, StartFits, isShort, roleBy, CallFits, ListsAt, entryBy, startErrorsBy, rateErrorsBy, roleErrorsBy};
 use super::errors::put_error;
+use super::fated::stmt_of;
 use super::places::Sizes;
 use super::places::errors_at;
 use super::places::stmts_at;
@@ -27,14 +28,6 @@ pub enum Start {
     Nothing,
     Short,
     Number(usize, usize),
-}
-
-// Word k of statement i.
-fn stmt_of(area: &[u8], z: Sizes, i: usize, k: usize) -> usize
-    requires { ⌜ (40 + 32 * z .nodes + 32 * z .stmts ≤ length (now area)) × Small z × (i < z .stmts) × (k < 8) ⌝ }
-    ensures { λ r. ⌜ (r ≡ wordOf (stmtIn (now (area .entry)) z i) k) × (r < 2 ^ 32) ⌝ }
-{
-    node_word(area, stmts_at(z), z.stmts, i, k)
 }
 
 // Word k of node i.

@@ -6,16 +6,19 @@ use borrow.Author.Needs.{needs}
 use lib.ListN.{getD}
 use Rattle.ast.specs.Words.{wordOf}
 use Rattle.builder.specs.Allocating.{nodesIn, stmtIn}
+use Rattle.builder.specs.Places.{stmtsAt, varsAt}
 use Rattle.builder.proofs.LeftSides.{start-fits}
 use Rattle.builder.proofs.Flats.{rate-name, role-equation, rate-unknown, rate-goes, rate-stays}
 use Rattle.builder.proofs.allocate.allocate_stmt.Statement.{statement}
 use Rattle.builder.proofs.allocate.allocate_stmt.Tie as tie
 
 stmt-of-requires : tie.Need-stmt-of-requires
-stmt-of-requires c κs = let F = c .before .before .before .before .pre .0 .1 in (F .long, F .small, c .before .before .before .before .pre .3, omega arith)
+unfolding stmtsAt varsAt
+stmt-of-requires c κs = let F = c .before .before .before .before .pre .0 .1 in (F .small, F .long, c .before .before .before .before .pre .3, omega arith)
 
 stmt-of-requires-2 : tie.Need-stmt-of-requires-2
-stmt-of-requires-2 c κs = let F = c .before .before .before .before .before .before .pre .0 .1 in (F .long, F .small, c .before .before .before .before .before .before .pre .3, omega arith)
+unfolding stmtsAt varsAt
+stmt-of-requires-2 c κs = let F = c .before .before .before .before .before .before .pre .0 .1 in (F .small, F .long, c .before .before .before .before .before .before .pre .3, omega arith)
 
 start-of-requires : tie.Need-start-of-requires
 start-of-requires c κs = let F = c .before .before .before .before .before .before .before .pre .0 .1 in let e : wordOf (stmtIn (c .before .before .before .before .before .before .before .args .area .now) (c .before .before .before .before .before .before .before .args .z) (c .before .before .before .before .before .before .before .args .i)) 0 ≡ 1 = sym (c .before .before .stmt-of .ensures .0) ∙ c .before .if1 .taken in (c .before .before .before .before .before .before .before .pre .0, c .before .before .before .before .before .before .before .pre .1, rw (c .stmt-of2 .ensures .0) (F .left _ (c .before .before .before .before .before .before .before .pre .3) e .0))
@@ -27,7 +30,8 @@ returns : tie.Need-returns
 returns c = let F = c .before .before .before .before .before .before .before .before .before .pre .0 .1 in let e : wordOf (stmtIn (c .before .before .before .before .before .before .before .before .before .args .area .now) (c .before .before .before .before .before .before .before .before .before .args .z) (c .before .before .before .before .before .before .before .before .before .args .i)) 0 ≡ 1 = sym (c .before .before .before .before .stmt-of .ensures .0) ∙ c .before .before .before .if1 .taken in c .start-role .ensures (nameAt (nodesIn (c .before .before .before .before .before .before .before .before .before .args .area .now) (c .before .before .before .before .before .before .before .before .before .args .z)) (wordOf (stmtIn (c .before .before .before .before .before .before .before .before .before .args .area .now) (c .before .before .before .before .before .before .before .before .before .args .z) (c .before .before .before .before .before .before .before .before .before .args .i)) 2)) ∙ rw (c .before .start-of .ensures, c .before .before .stmt-of2 .ensures .0) (sym (role-equation _ _ _ F _ _ _ (c .before .before .before .before .before .before .before .before .before .pre .3) e _ _))
 
 stmt-of-requires-3 : tie.Need-stmt-of-requires-3
-stmt-of-requires-3 c κs = let F = c .before .before .before .before .before .before .pre .0 .1 in (F .long, F .small, c .before .before .before .before .before .before .pre .3, omega arith)
+unfolding stmtsAt varsAt
+stmt-of-requires-3 c κs = let F = c .before .before .before .before .before .before .pre .0 .1 in (F .small, F .long, c .before .before .before .before .before .before .pre .3, omega arith)
 
 mul-v : tie.Need-mul-v
 mul-v c = omega (arith, c .stmt-of3 .ensures .1)

@@ -3,18 +3,21 @@ use native.Mathlib.Omega.{arith}
 use borrow.Author.Needs.{needs}
 use Rattle.ast.specs.Words.{wordOf}
 use Rattle.builder.specs.Allocating.{stmtIn, isShort}
+use Rattle.builder.specs.Places.{stmtsAt, varsAt}
 use Rattle.builder.proofs.Flats.{short-equation, short-rate}
 use Rattle.builder.proofs.allocate.is_short.Statement.{statement}
 use Rattle.builder.proofs.allocate.is_short.Tie as tie
 
 stmt-of-requires : tie.Need-stmt-of-requires
-stmt-of-requires c κs = let F = c .before .before .before .pre .0 .1 in (F .long, F .small, c .before .before .before .pre .2, omega arith)
+unfolding stmtsAt varsAt
+stmt-of-requires c κs = let F = c .before .before .before .pre .0 .1 in (F .small, F .long, c .before .before .before .pre .2, omega arith)
 
 returns : tie.Need-returns
 returns c = let F = c .before .before .before .before .before .pre .0 .1 in sym (short-rate _ _ _ F _ _ _ (c .before .before .before .before .before .pre .2) (λ e. c .if1 .taken (c .before .stmt-of .ensures .0 ∙ e)))
 
 stmt-of-requires-2 : tie.Need-stmt-of-requires-2
-stmt-of-requires-2 c κs = let F = c .before .before .before .before .before .pre .0 .1 in (F .long, F .small, c .before .before .before .before .before .pre .2, omega arith)
+unfolding stmtsAt varsAt
+stmt-of-requires-2 c κs = let F = c .before .before .before .before .before .pre .0 .1 in (F .small, F .long, c .before .before .before .before .before .pre .2, omega arith)
 
 start-of-requires : tie.Need-start-of-requires
 start-of-requires c κs = let F = c .before .before .before .before .before .before .pre .0 .1 in let e : wordOf (stmtIn (c .before .before .before .before .before .before .args .area .now) (c .before .before .before .before .before .before .args .z) (c .before .before .before .before .before .before .args .i)) 0 ≡ 1 = sym (c .before .before .stmt-of .ensures .0) ∙ c .before .if1 .left in (c .before .before .before .before .before .before .pre .0, c .before .before .before .before .before .before .pre .1, rw (c .stmt-of2 .ensures .0) (F .left _ (c .before .before .before .before .before .before .pre .2) e .0))

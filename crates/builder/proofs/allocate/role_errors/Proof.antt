@@ -7,13 +7,16 @@ use Rattle.builder.proofs.LeftSides.{start-fits, start-calls}
 use Rattle.builder.proofs.Flats.{rate-name}
 use Rattle.builder.proofs.RoleErrors.{errors-equation, errors-rate}
 use borrow.Author.Needs.{needs}
+use Rattle.builder.specs.Places.{stmtsAt, varsAt}
 use Rattle.builder.proofs.allocate.role_errors.Statement.{statement}
 use Rattle.builder.proofs.allocate.role_errors.Tie as tie
 
 stmt-of-requires : tie.Need-stmt-of-requires
+unfolding stmtsAt varsAt
 stmt-of-requires c κs = search needs
 
 stmt-of-requires-2 : tie.Need-stmt-of-requires-2
+unfolding stmtsAt varsAt
 stmt-of-requires-2 c κs = search needs
 
 start-of-requires : tie.Need-start-of-requires
