@@ -3,14 +3,13 @@ use mathlib.Core.Path.{_≡_, refl, ap, _∙_}
 use mathlib.Core.Bool.{Bool, true, false, cond}
 use mathlib.Core.Logic.{⊎-elim}
 use mathlib.Core.List.{List, [], _∷_, map}
-use mathlib.Core.Option.{Option, none, some, Option·some-injective}
+use mathlib.Core.Option.{Option, none, some}
 use Prim.Native.Nat.{ℕ, suc, _+_, _*_, _<_}
 use native.Mathlib.Omega.{arith}
 use borrow.Author.Tests.{ltb-true}
 use lib.Dec.{eqb}
 use lib.ListN.{length, getD}
-use Rattle.functions.specs.Lists.{any, each, placeFrom, place, plusOne, _>>=_}
-use Rattle.functions.proofs.Lists.{clash}
+use Rattle.functions.specs.Lists.{any, each, place, plusOne, _>>=_}
 use Rattle.ast.specs.Tree.{Span, Expr, name, number, binary, unary, call, Args, Flat, equation, rate}
 use Rattle.ast.specs.Words.{wordOf}
 use Rattle.ast.specs.Nodes.{treeAt}
@@ -22,7 +21,7 @@ use Rattle.builder.specs.Tables.{roleNumber}
 use Rattle.builder.specs.declared.places.Sizes.{Sizes}
 use Rattle.builder.specs.Allocating.{flatAt, nodesIn, stmtIn, flatIn, flatsIn, Flattened, lessOne, entryBy, startBy, fewFor, shortCallBy, shortLeftBy, shortBy, startNumber, startErrorsBy, rateNumber, rateErrorsBy, roleBy, roleErrorsBy, Agree}
 use Rattle.builder.proofs.Flats.{flats-count, flat-at, flat-equation, flat-rate}
-use Rattle.builder.proofs.ListLaws.{flag-one}
+use Rattle.builder.proofs.ListLaws.{flag-one, place-below}
 
 -- A statement whose names there are.
 abbrev pub FlatFormed : ℕ → Flat → Type 0
@@ -44,19 +43,9 @@ flat-formed names b z o i h = ⊎-elim (λ e. equation-formed e) (λ e. rate-for
     rate-formed : wordOf (stmtIn b z i) 0 ≡ 2 → FlatFormed names (flatIn b z i)
     rate-formed e = rw (flat-rate b z i (λ g. omega arith)) (o .name i h e, right-formed)
 
--- what is found is among those looked at
-place-below : {A : Type 0} (p : A → Bool) (xs : List A) (i v : ℕ) → placeFrom i p xs ≡ some v → v < i + length xs
-unfolding placeFrom
-place-below p [] i v e = clash (cc)
-place-below p (x ∷ xs) i v e = go (p x) e (λ g. place-below p xs (suc i) v g)
-  where
-    go : (b : Bool) → cond b (some i) (placeFrom (suc i) p xs) ≡ some v → (placeFrom (suc i) p xs ≡ some v → v < suc i + length xs) → v < i + suc (length xs)
-    go true g r = let q : i ≡ v = Option·some-injective _ _ g in omega arith
-    go false g r = let q = r g in omega arith
-
 lookup-below : (c : Scope) (n v : ℕ) → lookup c n ≡ some v → v < length (c .vars)
 unfolding lookup place
-lookup-below c n v e = omega (arith, place-below _ (c .vars) 0 v e)
+lookup-below c n v e = omega (arith, place-below _ 0 (c .vars) v e)
 
 -- one more, one less
 less-plus : (o : Option ℕ) → lessOne (plusOne o) ≡ o

@@ -1,15 +1,13 @@
 -- How much a model stmtFlats in, statement by statement: its instances and its flattened statements; and the model that a statement stmtModels.
 use mathlib.Core.Path.{_≡_, refl, sym, ap, _∙_}
-use mathlib.Core.Bool.{Bool, true, false, cond}
-use mathlib.Core.List.{List, [], _∷_, _++_}
-use mathlib.Core.Option.{Option, none, some, Option·some-injective}
+use mathlib.Core.List.{List, [], _∷_}
+use mathlib.Core.Option.{Option, none, some}
 use Prim.Native.Nat.{ℕ, zero, suc, _+_, _-_, _≤_, _<_}
 use native.Mathlib.Omega.{arith}
 use native.Mathlib.Numerals.{add-one, sub-one}
 use lib.ListN.{length, take, getD, length-map}
 use lib.Seq.{take-suc, take-all}
-use Rattle.functions.specs.Lists.{placeFrom, each, sumOf, toList, plusOne}
-use Rattle.functions.proofs.Lists.{clash}
+use Rattle.functions.specs.Lists.{each, sumOf, toList, plusOne}
 use Rattle.ast.specs.Tree.{Span, Args, Flat, Stmt, own, submodel, File}
 use Rattle.ast.specs.Records.{firstStmt, stmtCount}
 use Rattle.ast.specs.Rows.{atMost}
@@ -17,9 +15,11 @@ use Rattle.ast.specs.Opens.{Open, fileIn}
 use Rattle.ast.specs.declared.sections.Sections.{Sections}
 use Rattle.builder.specs.Flatten.{modelNamed, modelAt, subFlats, stmtFlats, stmtModels, submodels, flatten, instances}
 use Rattle.builder.specs.Tables.{calleeOf}
+use Rattle.builder.specs.Checking.{stmtIn}
 use Rattle.builder.proofs.Counts.{length-each}
-use Rattle.builder.proofs.Open.{modelRecord, stmtIn}
+use Rattle.builder.proofs.Open.{modelRecord}
 use Rattle.builder.proofs.OpenRecords.{model-is}
+use Rattle.builder.proofs.ListLaws.{sum-append}
 
 -- ---- counts with a most
 
@@ -31,11 +31,6 @@ at-most-add most a b x y e g = omega arith
 -- ---- sums
 
 module _ {A : Type 0} where
-  sum-append : (g : A → ℕ) (xs ys : List A) → sumOf g (xs ++ ys) ≡ sumOf g xs + sumOf g ys
-  unfolding sumOf
-  sum-append g [] ys = omega arith
-  sum-append g (x ∷ xs) ys = omega (arith, sum-append g xs ys)
-
   -- over the elements before place i
   pub sum-none : (g : A → ℕ) (xs : List A) → sumOf g (take 0 xs) ≡ 0
   unfolding sumOf
@@ -51,17 +46,6 @@ sum-each g h [] = refl
 sum-each g h (x ∷ xs) = sum-append g (h x) (each h xs) ∙ ap (λ (n : ℕ). sumOf g (h x) + n) (sum-each g h xs)
 
 -- ---- the model that a statement stmtModels
-
-module _ {A : Type 0} (p : A → Bool) where
-  below-step : (k n i : ℕ) (b : Bool) (o : Option ℕ) → cond b (some k) o ≡ some i → (o ≡ some i → i < suc k + n) → i < k + suc n
-  below-step k n i true o e g = let h : k ≡ i = Option·some-injective _ _ e in omega arith
-  below-step k n i false o e g = omega (arith, g e)
-
-  -- what is found stands in the list
-  pub place-below : (k : ℕ) (xs : List A) (i : ℕ) → placeFrom k p xs ≡ some i → i < k + length xs
-  unfolding placeFrom
-  place-below k [] i e = clash (cc)
-  place-below k (x ∷ xs) i e = below-step k (length xs) i (p x) (placeFrom (suc k) p xs) e (place-below (suc k) xs i)
 
 module _ (f : File) where
   to-list-none : (o : Option ℕ) (c : ℕ) → c ≡ plusOne o → c ≡ 0 → toList o ≡ []

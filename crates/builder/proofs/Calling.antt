@@ -1,14 +1,13 @@
 -- The models that statements call: each is one of the models, and what the table of submodels says of a statement.
 use mathlib.Core.Path.{_≡_, refl, ap}
-use mathlib.Core.Bool.{Bool}
 use mathlib.Core.List.{List, [], _∷_}
 use mathlib.Core.Option.{Option, none, some}
 use Prim.Native.Nat.{ℕ, suc, _-_, _≤_, _<_}
 use native.Mathlib.Omega.{arith}
 use native.Mathlib.Numerals.{sub-one}
 use lib.ListN.{length, getD}
-use Rattle.functions.specs.Lists.{place, plusOne, toList}
-use Rattle.functions.proofs.Places.{place-at}
+use lib.Dec.{eqb}
+use Rattle.functions.specs.Lists.{plusOne, toList, place}
 use Rattle.ast.specs.Tree.{Stmt, own, submodel, File}
 use Rattle.ast.specs.Nodes.{kindAt}
 use Rattle.builder.specs.Flatten.{modelNamed, modelAt, stmtModels, submodels}
@@ -18,27 +17,16 @@ use Rattle.ast.specs.Opens.{Open, contentsIn, fileIn}
 use Rattle.ast.specs.declared.sections.Sections.{Sections}
 use Rattle.builder.proofs.Everywhere.{All, all-every, all-each}
 use Rattle.builder.proofs.OpenRecords.{long, stmt-equation, stmt-rate, by-stmt-kind, stmt-is}
-use Rattle.builder.proofs.ListLaws.{element-below}
+use Rattle.builder.proofs.ListLaws.{place-small, place-below}
 
 -- ---- the model that a statement stmtModels is one of the models
 
--- a place that is found is below the length
-pub place-below : {A : Type 0} (p : A → Bool) (xs : List A) (i : ℕ) → place p xs ≡ some i → i < length xs
-unfolding place
-place-below p xs i e = let (j, x, q, g, _) = place-at p 0 xs i e in omega (arith, element-below xs j x g)
-
 module _ (f : File) where
-  -- a model found by name, plus 1, is at most the count of models
-  named-below : (o : Option ℕ) (n : ℕ) → modelNamed f n ≡ o → plusOne o ≤ length (f .models)
-  unfolding modelNamed plusOne
-  named-below none n e = omega arith
-  named-below (some i) n e = omega (arith, place-below _ (f .models) i e)
-
-  -- so is the one that a statement stmtModels
+  -- the model that a statement calls, plus 1, is at most the count of models
   pub callee-below : (q : Stmt) → calleeOf f q ≤ length (f .models)
-  unfolding calleeOf
+  unfolding calleeOf modelNamed place
   callee-below (own q) = omega arith
-  callee-below (submodel n a c s) = named-below (modelNamed f n) n refl
+  callee-below (submodel n a c s) = omega (arith, place-small (λ x. eqb n (x .name)) 0 (f .models))
 
   -- a statement whose callee is 0 stmtModels nothing
   pub calls-none : (q : Stmt) → calleeOf f q ≡ 0 → stmtModels f q ≡ []
@@ -62,9 +50,9 @@ module _ (f : File) where
 
   -- every model found by name is one of the models
   callee-all : (o : Option ℕ) (n : ℕ) → modelNamed f n ≡ o → All (λ (m : ℕ). m < length (f .models)) (toList o)
-  unfolding modelNamed toList
+  unfolding modelNamed place toList
   callee-all none n e = tt
-  callee-all (some i) n e = (place-below _ (f .models) i e, tt)
+  callee-all (some i) n e = (omega (arith, place-below _ 0 (f .models) i e), tt)
 
   -- so is every model that a statement stmtModels
   calls-all : (q : Stmt) → All (λ (m : ℕ). m < length (f .models)) (stmtModels f q)

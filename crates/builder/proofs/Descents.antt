@@ -12,7 +12,7 @@ use native.Mathlib.Numerals.{add-one, sub-one}
 use lib.ListN.{length, take, drop, getD}
 use lib.Seq.{getD-take, take-take}
 use Rattle.functions.specs.Lists.{each, sumOf}
-use Rattle.functions.proofs.Lists.{clash, drop-past}
+use Rattle.functions.proofs.Lists.{drop-past}
 use Rattle.functions.proofs.Loops.{each-step}
 use Rattle.ast.specs.Tree.{Flat, Stmt, File, size, flatSize}
 use Rattle.ast.specs.Subst.{Replacements}
@@ -32,16 +32,14 @@ use Rattle.builder.proofs.Flattening.{map-each, flats-found}
 use Rattle.builder.proofs.OpenStmts.{nodes-from, nodes-few, names-few, called-none, called-some}
 use Rattle.builder.proofs.ListLaws.{sum-append}
 use Rattle.builder.proofs.OpenRecords.{stmt-equation, stmt-rate, stmt-submodel, passes, model-is}
+use Rattle.builder.proofs.Amounts.{at-most-add}
+use Rattle.builder.proofs.Counts.{or-false}
 
 -- ---- two tests at once
 
 or-true : (a b : Bool) → (a || b) ≡ true → (a ≡ true) ⊎ (b ≡ true)
 or-true true b e = inl refl
 or-true false b e = inr e
-
-or-false : (a b : Bool) → (a || b) ≡ false → (a ≡ false) × (b ≡ false)
-or-false true b e = clash (cc)
-or-false false b e = (refl, e)
 
 pub either-zero : (a b : ℕ) → (eqb a 0 || eqb b 0) ≡ true → (a ≡ 0) ⊎ (b ≡ 0)
 either-zero a b e = ⊎-elim (λ h. inl (eqb-true a 0 h)) (λ h. inr (eqb-true b 0 h)) (or-true (eqb a 0) (eqb b 0) e)
@@ -175,10 +173,6 @@ module _ (f : List ℕ) (s : Sections) (rows : List ℕ) (level q : ℕ) (sub : 
 
 -- ---- counted
 
-pub at-most-sum : (m x y a b : ℕ) → a ≡ atMost m x → b ≡ atMost (m - a) y → a + b ≡ atMost m (x + y)
-unfolding atMost
-at-most-sum m x y a b e g = omega arith
-
 module _ (f : List ℕ) (s : Sections) (o : Open f s) (rows : List ℕ) (level q : ℕ) (most : ℕ) where
   pub rate-counted : (i r : ℕ) → kindOfStmt (getD (contentsIn f s .stmts) q []) ≡ 2 → i ≡ rightTop (getD (contentsIn f s .stmts) q []) → r ≡ atMost most (size (read (section 8 (s .counts .nodes) (s .starts .nodes) f) rows level i))
       → (sub : ℕ → List Flat) → r ≡ atMost most (sumOf flatSize (broughtAt f s rows level sub q))
@@ -192,7 +186,7 @@ module _ (f : List ℕ) (s : Sections) (o : Open f s) (rows : List ℕ) (level q
   equation-counted i j a b k ei ej ea eb sub =
       let ga : a ≡ atMost most (size (read (contentsIn f s .nodes) rows level (leftTop (getD (contentsIn f s .stmts) q [])))) = rw (nodes-from f s o, ei) at ea in
       let gb : b ≡ atMost (most - a) (size (read (contentsIn f s .nodes) rows level (rightTop (getD (contentsIn f s .stmts) q [])))) = rw (nodes-from f s o, ej) at eb in
-      at-most-sum most _ _ a b ga gb ∙ ap (atMost most) (sym (own-equation f s rows level q sub k))
+      at-most-add most a b _ _ ga gb ∙ ap (atMost most) (sym (own-equation f s rows level q sub k))
 
 -- a loop over a model's statements counts: `total` so far, of the statements before number i
 module _ (f : List ℕ) (s : Sections) (k m : ℕ) (rows₀ : List ℕ) (level most : ℕ) where

@@ -1,14 +1,14 @@
 -- Models found by a test, number after number, and the model that a statement calls.
 use mathlib.Core.Path.{_≡_, refl, sym, ap, _∙_}
-use mathlib.Core.List.{List, [], _∷_}
+use mathlib.Core.List.{List}
 use mathlib.Core.Bool.{Bool, true, false, cond}
 use mathlib.Core.Option.{none, some}
-use Prim.Native.Nat.{ℕ, suc, _+_, _≤_, _<_}
+use Prim.Native.Nat.{ℕ, _+_, _≤_, _<_}
 use native.Mathlib.Omega.{arith}
 use native.Mathlib.Numerals.{add-one}
 use borrow.Author.Tests.{eqb-false}
 use lib.Dec.{eqb}
-use lib.ListN.{length, drop}
+use lib.ListN.{drop}
 use Rattle.functions.specs.Lists.{placeFrom, place, plusOne, sameText}
 use Rattle.functions.proofs.Lists.{drop-here, drop-past}
 use Rattle.ast.specs.Tree.{Model, File}
@@ -23,18 +23,9 @@ use Rattle.builder.specs.Build.{rootOf}
 use Rattle.builder.specs.Tables.{calleeOf}
 use Rattle.builder.proofs.Open.{modelRecord, stmtRecord, models-long, model-name-is}
 use Rattle.builder.proofs.OpenRecords.{stmt-submodel, stmt-is}
+use Rattle.builder.proofs.ListLaws.{place-small}
 
 -- ---- the first that passes, plus 1
-
--- is at most as many as there are
-place-below : {A : Type 0} (p : A → Bool) (xs : List A) (i : ℕ) → plusOne (placeFrom i p xs) ≤ i + length xs
-unfolding placeFrom plusOne
-place-below p [] i = omega arith
-place-below p (x ∷ xs) i = go (p x) (place-below p xs (suc i))
-  where
-    go : (b : Bool) → plusOne (placeFrom (suc i) p xs) ≤ suc i + length xs → plusOne (cond b (some i) (placeFrom (suc i) p xs)) ≤ i + suc (length xs)
-    go true h = omega arith
-    go false h = omega arith
 
 module _ (f : List ℕ) (s : Sections) where
   -- the models from number m on, by model m and those behind it
@@ -77,11 +68,11 @@ module _ (f : List ℕ) (s : Sections) where
   -- a model found has a number
   pub root-below : (root : List ℕ) → plusOne (rootOf (fileIn f s) root) ≤ s .counts .models
   unfolding rootOf place
-  root-below root = omega (arith, place-below (isRoot root) (fileIn f s .models) 0, models-long f s)
+  root-below root = omega (arith, place-small (isRoot root) 0 (fileIn f s .models), models-long f s)
 
   pub named-below : (n : ℕ) → plusOne (modelNamed (fileIn f s) n) ≤ s .counts .models
   unfolding modelNamed place
-  named-below n = omega (arith, place-below (isNamed n) (fileIn f s .models) 0, models-long f s)
+  named-below n = omega (arith, place-small (isNamed n) 0 (fileIn f s .models), models-long f s)
 
   -- ---- the model that a statement calls
 

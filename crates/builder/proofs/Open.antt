@@ -9,7 +9,7 @@ use Rattle.ast.specs.Records.{textOfName, unknownOf, stmtOf, modelOf}
 use Rattle.ast.specs.File.{namesAt, unknownsAt, stmtsAt, modelsAt, contentsOf, fileOf}
 use Rattle.ast.specs.declared.sections.Sections.{Sections}
 use Rattle.ast.specs.Opens.{Open, contentsIn, fileIn}
-use Rattle.ast.specs.Tree.{Stmt, Model}
+use Rattle.ast.specs.Tree.{Model}
 use Rattle.ast.proofs.Fields.{length-section}
 use Rattle.ast.proofs.Files.{parts, model-at}
 use Rattle.ast.proofs.Opened.{ranges}
@@ -29,10 +29,6 @@ module _ (f : List ℕ) (s : Sections) where
 
   abbrev pub unknownRecord : ℕ → List ℕ
   unknownRecord u = getD (contentsIn f s .unknowns) u []
-
-  -- statement q
-  abbrev pub stmtIn : ℕ → Stmt
-  stmtIn q = stmtOf (contentsIn f s .nodes) (stmtRecord q)
 
   pub name-records : length (contentsIn f s .names) ≡ s .counts .names
   unfolding contentsOf

@@ -21,7 +21,8 @@ use Rattle.ast.proofs.Opened.{ranges}
 use Rattle.ast.proofs.Files.{all-at, unknown-fits, stmt-fits, model-fits, unknown-run, model-runs, top-is, equation-tops, rate-top, submodel-top, unknown-at, stmt-at, unknown-count, stmt-count, dep-of, dep-count, parts}
 use Rattle.builder.specs.Flatten.{modelAt}
 use Rattle.ast.proofs.Fitting.{LastArg, node-ok, last-arg}
-use Rattle.builder.proofs.Open.{modelRecord, unknownRecord, stmtRecord, stmtIn, name-records, unknown-records, stmt-records, model-records, names-long, models-long, model-by-record, model-name-is}
+use Rattle.builder.specs.Checking.{stmtIn}
+use Rattle.builder.proofs.Open.{modelRecord, unknownRecord, stmtRecord, name-records, unknown-records, stmt-records, model-records, names-long, models-long, model-by-record, model-name-is}
 
 -- ---- how many records
 
@@ -151,6 +152,14 @@ unknown-is f s o u h =
     let w = unknown-run (s .counts .names) (s .counts .deps) first r fits in
     let (n, d) = unknown-name-below (s .counts .names) (s .counts .deps) first r fits in
     record { name-below = n; deps-within = w; domain-fits = d; deps-long = dep-count t r (omega (arith, w, l .deps)); dep = dep-of t r }
+
+-- each dependent that it lists is one of the names
+pub listed-below : (f : List ℕ) (s : Sections) → Open f s → (u : ℕ) → u < s .counts .unknowns → (j : ℕ) → j < length (unknownOf (contentsIn f s .deps) (unknownRecord f s u) .deps)
+    → getD (unknownOf (contentsIn f s .deps) (unknownRecord f s u) .deps) j 0 < s .counts .names
+listed-below f s o u h j l =
+    let a = unknown-is f s o u h in
+    let q : j < depCount (unknownRecord f s u) = omega (arith, a .deps-long, l) in
+    omega (arith, a .dep j q, dep-below f s o (firstDep (unknownRecord f s u) + j) (omega (arith, a .deps-within, q)))
 
 -- ---- statement q, by its record and its kind
 

@@ -8,7 +8,6 @@ use native.Mathlib.Omega.{arith}
 use lib.Dec.{eqb}
 use lib.ListN.{getD}
 use Rattle.functions.specs.Lists.{place, plusOne}
-use Rattle.functions.proofs.Places.{place-at}
 use Rattle.ast.specs.Words.{section}
 use Rattle.ast.specs.Nodes.{kindAt, nameAt, isExpr}
 use Rattle.ast.specs.Records.{kindOfStmt, leftTop, rightTop}
@@ -18,7 +17,7 @@ use Rattle.ast.specs.declared.sections.Sections.{Sections}
 use Rattle.ast.proofs.Opened.{ranges}
 use Rattle.builder.specs.Flatten.{modelNamed}
 use Rattle.builder.specs.Tables.{calleeOf, Callees}
-use Rattle.builder.proofs.ListLaws.{element-below}
+use Rattle.builder.proofs.ListLaws.{place-below}
 use Rattle.builder.proofs.OpenRecords.{stmt-submodel, stmt-is, by-stmt-kind}
 use Rattle.builder.proofs.Open.{stmtRecord, models-long}
 
@@ -72,9 +71,7 @@ module _ (f : List ℕ) (s : Sections) (o : Open f s) where
 
   pub named-below : (n m : ℕ) → modelNamed (fileIn f s) n ≡ some m → m < s .counts .models
   unfolding modelNamed place
-  named-below n m e =
-      let p = place-at (λ x. eqb n (x .name)) 0 (fileIn f s .models) m e in
-      omega (arith, p .2, element-below (fileIn f s .models) (p .0) (p .1) (p .3), models-long f s)
+  named-below n m e = omega (arith, place-below (λ x. eqb n (x .name)) 0 (fileIn f s .models) m e, models-long f s)
 
   -- the model that submodel statement q calls, by the table of them
   module _ (q : ℕ) (l : q < s .counts .stmts) (calls : List ℕ) (t : Callees f s calls) (c : ℕ) (e : c ≡ getD calls q 0) (k : kindOfStmt (stmtRecord f s q) ≡ 3) where

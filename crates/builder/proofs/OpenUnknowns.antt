@@ -10,7 +10,7 @@ use Rattle.ast.specs.Records.{firstDep, depCount, unknownOf, firstUnknown, unkn
 use Rattle.ast.specs.Opens.{Open, contentsIn}
 use Rattle.ast.specs.declared.sections.Sections.{Sections}
 use Rattle.builder.specs.VariableTables.{unknownsIn, unknownIn}
-use Rattle.builder.proofs.OpenRecords.{dep-below, model-is, unknown-is}
+use Rattle.builder.proofs.OpenRecords.{dep-below, model-is, unknown-is, listed-below}
 
 -- an unknown that stands for none
 pub noUnknown : Unknown
@@ -49,10 +49,8 @@ module _ (f : List ℕ) (s : Sections) (o : Open f s) where
 
   -- every dependent that an unknown lists is a name
   pub unknown-deps-below : (u : ℕ) → u < s .counts .unknowns → (j : ℕ) → j < length (unknownIn f s u .deps) → getD (unknownIn f s u .deps) j 0 < s .counts .names
-  unknown-deps-below u h j l =
-      let r = getD (contentsIn f s .unknowns) u [] in
-      let k : j < depCount r = omega (arith, unknown-deps-count u h) in
-      rw (unknown-dep u h j k) (dep-below f s o (firstDep r + j) (omega (arith, unknown-is f s o u h .deps-within)))
+  unfolding unknownIn
+  unknown-deps-below u h j l = listed-below f s o u h j l
 
   -- ---- model m
 

@@ -20,8 +20,7 @@ use Rattle.builder.specs.declared.places.Sizes.{Sizes}
 use Rattle.builder.proofs.Open.{names-long}
 use Rattle.builder.proofs.Rosters.{listing-name}
 use Rattle.builder.proofs.VarAnswers.{names-first, time-last}
-use Rattle.builder.proofs.ListLaws.{place-map}
-use Rattle.builder.proofs.SoundVariables.{place-small}
+use Rattle.builder.proofs.ListLaws.{place-map, place-small}
 
 -- ---- places
 

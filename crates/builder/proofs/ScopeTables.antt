@@ -16,7 +16,7 @@ use Rattle.functions.proofs.Lists.{clash, drop-here, drop-past}
 use Rattle.ast.specs.Tree.{Unknown}
 use Rattle.ast.specs.Words.{wordOf}
 use Rattle.ast.specs.Records.{unknownOf}
-use Rattle.ast.specs.Opens.{Open, contentsIn, fileIn}
+use Rattle.ast.specs.Opens.{contentsIn, fileIn}
 use Rattle.ast.specs.declared.sections.Sections.{Sections}
 use Rattle.ast.proofs.Encodes.{each-append}
 use Rattle.builder.specs.Names.{textOf, spells, isTime, isReserved, timeName}
@@ -26,9 +26,8 @@ use Rattle.builder.specs.Flatten.{modelAt, scopeOf}
 use Rattle.builder.specs.Tables.{classOf, Classes, Marks, keptIn, entryOf, VarsOf}
 use Rattle.builder.specs.Checking.{scopeIn, unknownIn}
 use Rattle.builder.proofs.Classes.{class-time, class-reserved}
-use Rattle.builder.proofs.OpenRecords.{unknown-is, dep-below}
-use Rattle.builder.proofs.Amounts.{sum-next, place-below}
-use Rattle.builder.proofs.ListLaws.{any-append}
+use Rattle.builder.proofs.Amounts.{sum-next}
+use Rattle.builder.proofs.ListLaws.{any-append, place-below}
 
 -- ---- the first name that is t
 
@@ -320,12 +319,3 @@ counted-vars f s m n i j t en l c =
 
 pub counted-next : (n i : ℕ) (vs : List ℕ) (us : List Unknown) (t : List ℕ) (u : Unknown) → i < length us → getD us i u ≡ u → Counted n (i + 1) vs (take i us ++ u ∷ []) t → Counted n (i + 1) vs (take (i + 1) us) t
 counted-next n i vs us t u l e c = let q : take (i + 1) us ≡ take i us ++ u ∷ [] = rw (add-one, take-suc us i u, e) refl in rw q c
-
--- the dependents of unknown u are names
-pub deps-below : (f : List ℕ) (s : Sections) (o : Open f s) (u : ℕ) → u < s .counts .unknowns → (j : ℕ) → j < length (unknownIn f s u .deps) → getD (unknownIn f s u .deps) j 0 < s .counts .names
-deps-below f s o u h j l =
-    let a = unknown-is f s o u h in
-    let r = getD (contentsIn f s .unknowns) u [] in
-    let q : j < wordOf r 2 = omega (arith, a .deps-long, l) in
-    let b = dep-below f s o (wordOf r 1 + j) (omega (arith, a .deps-within, q)) in
-    omega (arith, a .dep j q, b)

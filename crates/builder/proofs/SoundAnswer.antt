@@ -24,12 +24,13 @@ use Rattle.builder.proofs.Everywhere.{All, all-append, all-take, all-tr
 use Rattle.builder.proofs.Sound.{Word, Byte, Double, Spanned, Sound, SoundArgs, SoundFlat}
 use Rattle.builder.proofs.SoundFile.{SoundFile, file-sound, flatten-sound}
 use Rattle.builder.proofs.SoundErrors.{SoundError, built-errors, role-errors, count-errors, starting-errors}
-use Rattle.builder.proofs.SoundVariables.{Doubles, SoundVariable, variables-sound, time-doubles, FateSmall, RoleSmall, fates-small, queue-small, role-small, place-small, length-keep}
+use Rattle.builder.proofs.SoundVariables.{Doubles, SoundVariable, variables-sound, time-doubles, FateSmall, RoleSmall, fates-small, queue-small, role-small, length-keep}
 use Rattle.builder.proofs.Accepted.{scope, time, flats, answered, answered-of, written-of}
 use Rattle.builder.proofs.Counts.{some-variable, length-each}
 use Rattle.builder.proofs.Area.{fate-each}
 use Rattle.builder.proofs.Mosts.{within-mosts}
 use Rattle.builder.proofs.ErrorCount.{count-sizes}
+use Rattle.builder.proofs.ListLaws.{place-small}
 
 -- ---- sound
 

@@ -19,18 +19,9 @@ use Rattle.builder.specs.Answer.{fateVariable}
 use Rattle.builder.proofs.Everywhere.{If, if-bind, if-any, All, all-append, all-cond, all-each, all-map, all-every, cond-either}
 use Rattle.builder.proofs.Sound.{Double}
 use Rattle.builder.proofs.SoundFile.{SoundDomain, SoundUnknown}
+use Rattle.builder.proofs.ListLaws.{place-small}
 
 -- ---- places
-
-place-step : (b : Bool) (k n : ℕ) (o : Option ℕ) → plusOne o ≤ suc k + n → plusOne (cond b (some k) o) ≤ k + suc n
-unfolding plusOne
-place-step true k n o h = omega arith
-place-step false k n o h = omega arith
-
-pub place-small : {A : Type 0} (p : A → Bool) (k : ℕ) (xs : List A) → plusOne (placeFrom k p xs) ≤ k + length xs
-unfolding placeFrom plusOne
-place-small p k [] = omega arith
-place-small p k (x ∷ xs) = place-step (p x) k (length xs) (placeFrom (suc k) p xs) (place-small p (suc k) xs)
 
 if-small : (n : ℕ) (o : Option ℕ) → plusOne o ≤ n → If (λ (i : ℕ). i < n) o
 unfolding plusOne

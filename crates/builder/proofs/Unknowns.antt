@@ -17,7 +17,7 @@ use Rattle.ast.specs.declared.sections.Sections.{Sections}
 use Rattle.ast.proofs.Files.{dep-of}
 use Rattle.builder.specs.Flatten.{modelAt}
 use Rattle.builder.specs.Check.{lookup}
-use Rattle.builder.specs.Checking.{scopeIn, keptNames, Scoped}
+use Rattle.builder.specs.Checking.{scopeIn, keptNames, Scoped, unknownIn}
 use Rattle.builder.proofs.Dependents.{listsAs, kept-member}
 use Rattle.builder.proofs.Calls.{entry-is, has-entry, some-entry}
 use Rattle.builder.proofs.OpenRecords.{model-is}
@@ -36,9 +36,6 @@ module _ {A : Type 0} (p : A → Bool) (xs : List A) (d : A) (i : ℕ) where
   any-done h = ap (any p) (drop-past xs i h)
 
 -- ---- the dependents of unknown u
-
-abbrev pub unknownIn : List ℕ → Sections → ℕ → Unknown
-unknownIn f s u = unknownOf (contentsIn f s .deps) (getD (contentsIn f s .unknowns) u [])
 
 module _ {f : List ℕ} {s : Sections} (o : Open f s) where
   -- dependent j of unknown u

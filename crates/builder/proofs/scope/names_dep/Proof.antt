@@ -6,7 +6,8 @@ use lib.Dec.{eqb}
 use lib.ListN.{length, drop}
 use borrow.Author.Tests.{eq-eqb, ne-eqb}
 use Rattle.functions.specs.Lists.{any, member}
-use Rattle.builder.proofs.Unknowns.{unknownIn, any-here, any-next, any-done, deps-at}
+use Rattle.builder.specs.Checking.{unknownIn}
+use Rattle.builder.proofs.Unknowns.{any-here, any-next, any-done, deps-at}
 use Rattle.builder.proofs.OpenRecords.{unknown-is}
 use Rattle.builder.proofs.scope.names_dep.Statement.{statement}
 use Rattle.builder.proofs.scope.names_dep.Tie as tie

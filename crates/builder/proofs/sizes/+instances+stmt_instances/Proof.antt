@@ -11,9 +11,10 @@ use Rattle.ast.specs.Rows.{atMost}
 use Rattle.ast.proofs.Capped.{at-most-le, at-most-zero, at-most-none, at-most-one}
 use Rattle.ast.proofs.records.model.Reads as model-reads
 use Rattle.builder.specs.Flatten.{modelAt}
+use Rattle.builder.specs.Checking.{stmtIn}
 use Rattle.builder.proofs.Amounts.{calledInstances, at-most-add, sum-none, called-none, called-one, instances-zero, instances-more, run-next, run-end}
 use Rattle.builder.proofs.Calling.{callee-below}
-use Rattle.builder.proofs.Open.{stmtIn, models-long}
+use Rattle.builder.proofs.Open.{models-long}
 use Rattle.builder.proofs.OpenRecords.{model-is}
 use Rattle.builder.proofs.sizes.+instances+stmt_instances.{statement}
 use Rattle.builder.proofs.sizes.+instances+stmt_instances.Tie.{close}
