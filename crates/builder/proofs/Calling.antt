@@ -16,8 +16,9 @@ use Rattle.ast.specs.Records.{kindOfStmt, rightTop, stmtOf}
 use Rattle.ast.specs.Opens.{Open, contentsIn, fileIn}
 use Rattle.ast.specs.declared.sections.Sections.{Sections}
 use Rattle.builder.proofs.Everywhere.{All, all-every, all-each}
-use Rattle.builder.proofs.OpenRecords.{long, stmt-equation, stmt-rate, by-stmt-kind, stmt-is}
+use Rattle.builder.proofs.OpenRecords.{long, stmt-is}
 use Rattle.builder.proofs.ListLaws.{place-small, place-below}
+use Rattle.builder.proofs.StmtKinds.{stmt-equation, stmt-rate, by-stmt-kind}
 
 -- ---- the model that a statement stmtModels is one of the models
 

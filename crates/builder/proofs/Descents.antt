@@ -31,9 +31,10 @@ use Rattle.builder.specs.Descent.{flatAt, broughtAt, RowsIn, RowsKept}
 use Rattle.builder.proofs.Flattening.{map-each, flats-found}
 use Rattle.builder.proofs.OpenStmts.{nodes-from, nodes-few, names-few, called-none, called-some}
 use Rattle.builder.proofs.ListLaws.{sum-append}
-use Rattle.builder.proofs.OpenRecords.{stmt-equation, stmt-rate, stmt-submodel, passes, model-is}
+use Rattle.builder.proofs.OpenRecords.{passes, model-is}
 use Rattle.builder.proofs.Amounts.{at-most-add}
 use Rattle.builder.proofs.Counts.{or-false}
+use Rattle.builder.proofs.StmtKinds.{stmt-equation, stmt-rate, stmt-submodel}
 
 -- ---- two tests at once
 

@@ -1,5 +1,5 @@
 -- How many errors there can be: all are counted, and the count is a word.
-use mathlib.Core.Path.{_≡_, refl}
+use mathlib.Core.Path.{_≡_}
 use Prim.Native.Nat.{ℕ, zero, suc, _+_, _-_, _*_, _≤_}
 use native.Mathlib.Omega.{arith}
 use native.Mathlib.Nat.{mul-add}
@@ -12,8 +12,8 @@ use borrow.Author.Tests.{eqb-true}
 use Rattle.functions.specs.Lists.{each, place, sumOf, unless, toList}
 use Rattle.functions.proofs.Lists.{and-both}
 use Rattle.ast.specs.Tree.{Span, Expr, name, number, binary, unary, call, Args, empty, snoc, Flat, equation, rate, Stmt, own, submodel, Domain, unstated, range, named, Unknown, Model, File, count, size, sizes, flatSize}
-use Rattle.ast.specs.Nodes.{opAt, sizeAt, nodeAt, treeAt, nodesFit}
-use Rattle.ast.specs.Records.{nameOfStmt, spanOfStmt, kindOfStmt, leftTop, rightTop, stmtFits, stmtsFit, submodelOf, stmtOf, unknownOf, firstStmt, stmtCount, modelOf}
+use Rattle.ast.specs.Nodes.{opAt, sizeAt, nodesFit}
+use Rattle.ast.specs.Records.{leftTop, rightTop, stmtFits, stmtsFit, stmtOf, unknownOf, firstStmt, stmtCount, modelOf}
 use Rattle.ast.specs.File.{Contents, contentsOf, fileOf, openFile, opened}
 use Rattle.ast.specs.Write.{stmtSize}
 use Rattle.ast.proofs.Fitting.{node-ok}
@@ -28,8 +28,8 @@ use Rattle.builder.specs.Flatten.{noModel, modelNamed, modelAt, scopeOf,
 use Rattle.builder.proofs.Opened.{any-model, sum-take, sum-drop, model-unknowns}
 use Rattle.builder.specs.Roles.{Start, startOf, atLower, startErrors, takesRate, rateErrors, roleErrors}
 use Rattle.builder.specs.Allocate.{Fate, numbersFrom, countErrors, isHeldBy, isInitialOf, conditions, noFlat, rightSpanAt, heldErrors, stateErrors, startingErrors}
-use Rattle.builder.proofs.SoundFile.{stmt-third}
 use Rattle.builder.proofs.ListLaws.{sum-append}
+use Rattle.builder.proofs.StmtKinds.{stmt-cases}
 
 pub length-unless : (b : Bool) (x : Error) → length (unless b x) ≤ 1
 unfolding unless
@@ -166,33 +166,24 @@ module _ (f : File) (most : ℕ) (h : (m : ℕ) → 2 * length (modelAt f m .unk
 
 module _ (names limit : ℕ) (ns : List (List ℕ)) (ok : nodesFit names ns limit ≡ true) where
   module _ (first : ℕ) (r : List ℕ) (h : stmtFits names limit ns first r ≡ true) where
-    size-submodel : kindOfStmt r ≡ 3 → first + stmtSize (submodelOf ns (rightTop r) (nodeAt ns (rightTop r)) (spanOfStmt r)) ≡ rightTop r + 1
-    unfolding submodelOf stmtSize
-    size-submodel k =
+    size-stmt : first + stmtSize (stmtOf ns r) ≡ rightTop r + 1
+    unfolding stmtSize flatSize
+    size-stmt = stmt-cases (λ q. first + stmtSize q ≡ rightTop r + 1) names limit ns first r h
+        (λ k.
+        let (t, u) = equation-tops names limit ns first r h k in
+        let (l, x, z) = top-is names limit ns first (leftTop r) t in
+        let (m, y, w) = top-is names limit ns (leftTop r + 1) (rightTop r) u in
+        omega (arith, z, w, size-at names ns limit ok (leftTop r) l x, size-at names ns limit ok (rightTop r) m y))
+        (λ k.
+        let (_, t) = rate-top names limit ns first r h k in
+        let (l, x, z) = top-is names limit ns first (rightTop r) t in
+        omega (arith, z, size-at names ns limit ok (rightTop r) l x))
+        (λ k.
         let (t, five) = submodel-top names limit ns first r h k in
         let i = rightTop r in
         let (l, _, z) = top-is names limit ns first i t in
         let o = node-ok names ns limit ok i l in
-        omega (arith, z, o .pos, sizes-before names ns limit ok i (opAt ns i) (sizeAt ns i - 1) (omega arith) (o .call five))
-
-    size-by : (b d : Bool) → eqb (kindOfStmt r) 1 ≡ b → eqb (kindOfStmt r) 2 ≡ d
-        → first + stmtSize (cond b (own (equation (treeAt ns (leftTop r)) (treeAt ns (rightTop r)) (spanOfStmt r)))
-        (cond d (own (rate (nameOfStmt r) (treeAt ns (rightTop r)) (spanOfStmt r))) (submodelOf ns (rightTop r) (nodeAt ns (rightTop r)) (spanOfStmt r)))) ≡ rightTop r + 1
-    unfolding stmtSize flatSize
-    size-by true d e₁ e₂ =
-        let (t, u) = equation-tops names limit ns first r h (eqb-true _ _ e₁) in
-        let (l, x, z) = top-is names limit ns first (leftTop r) t in
-        let (k, y, w) = top-is names limit ns (leftTop r + 1) (rightTop r) u in
-        omega (arith, z, w, size-at names ns limit ok (leftTop r) l x, size-at names ns limit ok (rightTop r) k y)
-    size-by false true e₁ e₂ =
-        let (_, t) = rate-top names limit ns first r h (eqb-true _ _ e₂) in
-        let (l, x, z) = top-is names limit ns first (rightTop r) t in
-        omega (arith, z, size-at names ns limit ok (rightTop r) l x)
-    size-by false false e₁ e₂ = size-submodel (stmt-third names limit ns first r h e₁ e₂)
-
-    size-stmt : first + stmtSize (stmtOf ns r) ≡ rightTop r + 1
-    unfolding stmtOf
-    size-stmt = size-by _ _ refl refl
+        omega (arith, z, o .pos, sizes-before names ns limit ok i (opAt ns i) (sizeAt ns i - 1) (omega arith) (o .call five)))
 
   pub stmts-total : (first : ℕ) (rs : List (List ℕ)) → stmtsFit names limit ns first rs ≡ true → first + sumOf stmtSize (map (stmtOf ns) rs) ≡ limit
   unfolding stmtsFit sumOf

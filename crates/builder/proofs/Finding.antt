@@ -22,8 +22,9 @@ use Rattle.builder.specs.Flatten.{noModel, modelAt, modelNamed}
 use Rattle.builder.specs.Build.{rootOf}
 use Rattle.builder.specs.Tables.{calleeOf}
 use Rattle.builder.proofs.Open.{modelRecord, stmtRecord, models-long, model-name-is}
-use Rattle.builder.proofs.OpenRecords.{stmt-submodel, stmt-is}
+use Rattle.builder.proofs.OpenRecords.{stmt-is}
 use Rattle.builder.proofs.ListLaws.{place-small}
+use Rattle.builder.proofs.StmtKinds.{stmt-submodel}
 
 -- ---- the first that passes, plus 1
 

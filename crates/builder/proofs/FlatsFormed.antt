@@ -1,5 +1,5 @@
 -- The statements of an open file, and the flattened statements of each model, have well-formed trees.
-use mathlib.Core.Path.{_≡_, refl}
+use mathlib.Core.Path.{_≡_}
 use Prim.Native.Nat.{ℕ, zero, suc, _+_, _-_}
 use native.Mathlib.Omega.{arith}
 use mathlib.Core.Bool.{Bool, true, false, cond}
@@ -7,12 +7,12 @@ use mathlib.Core.List.{List, [], _∷_, map}
 use mathlib.Core.Option.{Option, none, some}
 use lib.Dec.{eqb}
 use lib.ListN.{drop}
-use borrow.Author.Tests.{eqb-true, ltb-true}
+use borrow.Author.Tests.{ltb-true}
 use Rattle.functions.proofs.Lists.{and-both}
 use Rattle.ast.specs.Tree.{Args, empty, snoc, Flat, equation, rate, Stmt, own, submodel, Unknown, Model, File, count}
 use Rattle.ast.specs.Subst.{Replacements, substFlat}
-use Rattle.ast.specs.Nodes.{nodeAt, opAt, sizeAt, treeAt, nodesFit}
-use Rattle.ast.specs.Records.{unknownOf, kindOfStmt, nameOfStmt, leftTop, rightTop, spanOfStmt, topFits, stmtFits, stmtsFit, submodelOf, stmtOf, firstStmt, stmtCount, modelOf}
+use Rattle.ast.specs.Nodes.{opAt, sizeAt, treeAt, nodesFit}
+use Rattle.ast.specs.Records.{unknownOf, leftTop, rightTop, topFits, stmtFits, stmtsFit, stmtOf, firstStmt, stmtCount, modelOf}
 use Rattle.ast.specs.File.{Contents, contentsOf, fileOf}
 use Rattle.ast.specs.Opens.{Open, contentsIn, fileIn}
 use Rattle.ast.specs.declared.sections.Sections.{Sections}
@@ -22,8 +22,8 @@ use Rattle.ast.proofs.Files.{Parts, parts, top-is, equation-tops, rate-top, sub
 use Rattle.builder.specs.Flatten.{noModel, modelNamed, modelAt, replacements, replacedName, subFlats, stmtFlats, flatten}
 use Rattle.builder.proofs.Arguments.{replaced-last}
 use Rattle.builder.proofs.Everywhere.{All, all-take, all-drop, all-getD, all-map, all-each}
-use Rattle.builder.proofs.SoundFile.{stmt-third}
 use Rattle.builder.proofs.Allocations.{FlatFormed}
+use Rattle.builder.proofs.StmtKinds.{stmt-cases}
 
 abbrev StmtFormed : ℕ → Stmt → Type 0
 StmtFormed names (own q) = FlatFormed names q
@@ -36,28 +36,15 @@ module _ (names limit : ℕ) (ns : List (List ℕ)) (ok : nodesFit names ns limi
   top-formed first top h = let (l, x, _) = top-is names limit ns first top h in tree-formed names ns limit ok top l x
 
   module _ (first : ℕ) (r : List ℕ) (h : stmtFits names limit ns first r ≡ true) where
-    submodel-formed : kindOfStmt r ≡ 3 → StmtFormed names (submodelOf ns (rightTop r) (nodeAt ns (rightTop r)) (spanOfStmt r))
-    unfolding submodelOf
-    submodel-formed k =
+    stmt-formed : StmtFormed names (stmtOf ns r)
+    stmt-formed = stmt-cases (StmtFormed names) names limit ns first r h
+        (λ k. let (t, u) = equation-tops names limit ns first r h k in (top-formed first (leftTop r) t, top-formed (leftTop r + 1) (rightTop r) u))
+        (λ k. let (n, t) = rate-top names limit ns first r h k in (ltb-true _ _ n, top-formed first (rightTop r) t))
+        (λ k.
         let (t, five) = submodel-top names limit ns first r h k in
         let i = rightTop r in
         let (l, _, _) = top-is names limit ns first i t in
-        args-formed names ns limit ok i (opAt ns i) (sizeAt ns i - 1) (omega arith) (node-ok names ns limit ok i l .call five)
-
-    by-stmt : (b d : Bool) → eqb (kindOfStmt r) 1 ≡ b → eqb (kindOfStmt r) 2 ≡ d
-        → StmtFormed names (cond b (own (equation (treeAt ns (leftTop r)) (treeAt ns (rightTop r)) (spanOfStmt r)))
-        (cond d (own (rate (nameOfStmt r) (treeAt ns (rightTop r)) (spanOfStmt r))) (submodelOf ns (rightTop r) (nodeAt ns (rightTop r)) (spanOfStmt r))))
-    by-stmt true d e₁ e₂ =
-        let (t, u) = equation-tops names limit ns first r h (eqb-true _ _ e₁) in
-        (top-formed first (leftTop r) t, top-formed (leftTop r + 1) (rightTop r) u)
-    by-stmt false true e₁ e₂ =
-        let (n, t) = rate-top names limit ns first r h (eqb-true _ _ e₂) in
-        (ltb-true _ _ n, top-formed first (rightTop r) t)
-    by-stmt false false e₁ e₂ = submodel-formed (stmt-third names limit ns first r h e₁ e₂)
-
-    stmt-formed : StmtFormed names (stmtOf ns r)
-    unfolding stmtOf
-    stmt-formed = by-stmt _ _ refl refl
+        args-formed names ns limit ok i (opAt ns i) (sizeAt ns i - 1) (omega arith) (node-ok names ns limit ok i l .call five))
 
   stmts-formed : (first : ℕ) (rs : List (List ℕ)) → stmtsFit names limit ns first rs ≡ true → All (StmtFormed names) (map (stmtOf ns) rs)
   unfolding stmtsFit

@@ -28,6 +28,7 @@ pub mod Filled
 pub mod Finding
 pub mod Amounts
 pub mod RoleLoops
+pub mod StmtKinds
 pub mod OpenRecords
 pub mod Runs
 pub mod Calling

@@ -27,9 +27,10 @@ use Rattle.builder.specs.Tables.{classOf, calleeOf, VarsOf}
 use Rattle.builder.specs.Listing.{Lists, Room}
 use Rattle.builder.specs.Checking.{nodesOf, scopeIn, treeIn, argsIn, argsOf, unknownIn, stmtIn, UnknownIn, ExprIn, CallIn, ArgsIn, Against, Tabled}
 use Rattle.builder.proofs.Classes.{class-time, class-reserved, class-non-negative, class-real}
-use Rattle.builder.proofs.OpenRecords.{long, model-is, unknown-is, stmt-is, stmt-equation, stmt-rate, stmt-submodel}
+use Rattle.builder.proofs.OpenRecords.{long, model-is, unknown-is, stmt-is}
 use Rattle.builder.proofs.Listings.{Joins, lists-none, lists-then, room-first, room-then}
 use Rattle.builder.proofs.Checks.{args-are}
+use Rattle.builder.proofs.StmtKinds.{stmt-equation, stmt-rate, stmt-submodel}
 
 -- ---- a domain, by its kind k
 

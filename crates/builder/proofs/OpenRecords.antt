@@ -1,18 +1,18 @@
 -- Every record of an open file: how many each section has, that each keeps the layout, and what each model, unknown and statement is by its record.
 use mathlib.Core.Path.{_≡_, refl, ap, _∙_}
-use mathlib.Core.Bool.{Bool, true, false, cond}
+use mathlib.Core.Bool.{true}
 use mathlib.Core.List.{List, [], map}
-use Prim.Native.Nat.{ℕ, zero, suc, _+_, _-_, _≤_, _<_}
+use Prim.Native.Nat.{ℕ, _+_, _-_, _≤_, _<_}
 use native.Mathlib.Omega.{arith}
-use borrow.Author.Tests.{ltb-true, ne-eqb}
-use lib.Dec.{ltb, eqb}
+use borrow.Author.Tests.{ltb-true}
+use lib.Dec.{ltb}
 use lib.ListN.{length, getD, length-map}
 use Rattle.functions.specs.Lists.{all}
-use Rattle.functions.proofs.Lists.{clash, and-both}
-use Rattle.ast.specs.Tree.{Unknown, Stmt, own, submodel, equation, rate, Model, Flat}
-use Rattle.ast.specs.Nodes.{kindAt, nameAt, opAt, sizeAt, spanAt, isExpr, nodesFit, treeAt, argsBefore, argsFit}
+use Rattle.functions.proofs.Lists.{and-both}
+use Rattle.ast.specs.Tree.{Unknown, Stmt, own, Model, Flat}
+use Rattle.ast.specs.Nodes.{kindAt, opAt, sizeAt, isExpr, nodesFit, argsFit}
 use Rattle.ast.specs.Words.{inOrder}
-use Rattle.ast.specs.Records.{nameOfUnknown, firstDep, depCount, spanOfUnknown, domainFits, unknownFits, unknownsFit, unknownOf, kindOfStmt, nameOfStmt, leftTop, rightTop, spanOfStmt, stmtKindFits, stmtFits, stmtsFit, submodelOf, stmtOf, nameOfModel, firstUnknown, unknownCount, firstStmt, stmtCount, spanOfModel, modelFits, modelsFit}
+use Rattle.ast.specs.Records.{nameOfUnknown, firstDep, depCount, spanOfUnknown, domainFits, unknownFits, unknownsFit, unknownOf, kindOfStmt, nameOfStmt, leftTop, rightTop, stmtsFit, stmtOf, nameOfModel, firstUnknown, unknownCount, firstStmt, stmtCount, spanOfModel, modelFits, modelsFit}
 use Rattle.ast.specs.File.{depsAt, contentsOf}
 use Rattle.ast.specs.Opens.{Open, contentsIn, fileIn}
 use Rattle.ast.specs.declared.sections.Sections.{Sections}
@@ -23,6 +23,7 @@ use Rattle.builder.specs.Flatten.{modelAt}
 use Rattle.ast.proofs.Fitting.{LastArg, node-ok, last-arg}
 use Rattle.builder.specs.Checking.{stmtIn}
 use Rattle.builder.proofs.Open.{modelRecord, unknownRecord, stmtRecord, name-records, unknown-records, stmt-records, model-records, names-long, models-long, model-by-record, model-name-is}
+use Rattle.builder.proofs.StmtKinds.{stmt-equation, stmt-rate, stmt-kinds, by-stmt-kind}
 
 -- ---- how many records
 
@@ -170,49 +171,6 @@ module _ (f : List ℕ) (s : Sections) (q : ℕ) where
     pub left : kindOfStmt (stmtRecord f s q) ≡ 1 → (leftTop (stmtRecord f s q) < s .counts .nodes) × (isExpr (contentsIn f s .nodes) (leftTop (stmtRecord f s q)) ≡ true)
     pub rate-name : kindOfStmt (stmtRecord f s q) ≡ 2 → nameOfStmt (stmtRecord f s q) < s .counts .names
     pub call : kindOfStmt (stmtRecord f s q) ≡ 3 → kindAt (contentsIn f s .nodes) (rightTop (stmtRecord f s q)) ≡ 5
-
-module _ (ns : List (List ℕ)) (r : List ℕ) where
-  -- what a record of kind 1 says
-  pub stmt-equation : kindOfStmt r ≡ 1 → stmtOf ns r ≡ own (equation (treeAt ns (leftTop r)) (treeAt ns (rightTop r)) (spanOfStmt r))
-  unfolding stmtOf
-  stmt-equation k = simp k
-
-  -- of kind 2
-  pub stmt-rate : kindOfStmt r ≡ 2 → stmtOf ns r ≡ own (rate (nameOfStmt r) (treeAt ns (rightTop r)) (spanOfStmt r))
-  unfolding stmtOf
-  stmt-rate k = simp k
-
-  -- of kind 3
-  pub stmt-submodel : kindOfStmt r ≡ 3
-      → stmtOf ns r ≡ submodel (nameAt ns (rightTop r)) (argsBefore ns (rightTop r) (opAt ns (rightTop r)) (sizeAt ns (rightTop r) - 1)) (spanAt ns (rightTop r)) (spanOfStmt r)
-  unfolding stmtOf submodelOf
-  stmt-submodel k = simp k
-
--- there are three kinds
-kind-among : (k : ℕ) (a b c : Bool) → cond (eqb k 1) a (cond (eqb k 2) b (cond (eqb k 3) c false)) ≡ true → (1 ≤ k) × (k ≤ 3)
-kind-among zero a b c h = clash (cc)
-kind-among (suc zero) a b c h = (omega arith, omega arith)
-kind-among (suc (suc zero)) a b c h = (omega arith, omega arith)
-kind-among (suc (suc (suc zero))) a b c h = (omega arith, omega arith)
-kind-among (suc (suc (suc (suc k)))) a b c h =
-    let n = suc (suc (suc (suc k))) in
-    let e₁ : eqb n 1 ≡ false = ne-eqb n 1 (λ e. omega arith) in
-    let e₂ : eqb n 2 ≡ false = ne-eqb n 2 (λ e. omega arith) in
-    let e₃ : eqb n 3 ≡ false = ne-eqb n 3 (λ e. omega arith) in
-    clash (cc (simp (e₁, e₂, e₃) at h))
-
--- so of a record that keeps the layout
-stmt-kinds : (names count : ℕ) (ns : List (List ℕ)) (first : ℕ) (r : List ℕ) → stmtFits names count ns first r ≡ true → (1 ≤ kindOfStmt r) × (kindOfStmt r ≤ 3)
-unfolding stmtFits stmtKindFits
-stmt-kinds names count ns first r h = kind-among (kindOfStmt r) _ _ _ (and-both (inOrder (spanOfStmt r)) _ h .1)
-
--- by the kind of a statement
-pub by-stmt-kind : {C : Type 0} (k : ℕ) → (1 ≤ k) × (k ≤ 3) → (k ≡ 1 → C) → (k ≡ 2 → C) → (k ≡ 3 → C) → C
-by-stmt-kind zero h a b c = absurd (omega (arith, h .0))
-by-stmt-kind (suc zero) h a b c = a refl
-by-stmt-kind (suc (suc zero)) h a b c = b refl
-by-stmt-kind (suc (suc (suc zero))) h a b c = c refl
-by-stmt-kind (suc (suc (suc (suc k)))) h a b c = absurd (omega (arith, h .1))
 
 -- of an open file
 pub stmt-is : (f : List ℕ) (s : Sections) → Open f s → (q : ℕ) → q < s .counts .stmts → StmtIs f s q

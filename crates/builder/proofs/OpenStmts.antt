@@ -18,8 +18,9 @@ use Rattle.ast.proofs.Opened.{ranges}
 use Rattle.builder.specs.Flatten.{modelNamed}
 use Rattle.builder.specs.Tables.{calleeOf, Callees}
 use Rattle.builder.proofs.ListLaws.{place-below}
-use Rattle.builder.proofs.OpenRecords.{stmt-submodel, stmt-is, by-stmt-kind}
+use Rattle.builder.proofs.OpenRecords.{stmt-is}
 use Rattle.builder.proofs.Open.{stmtRecord, models-long}
+use Rattle.builder.proofs.StmtKinds.{stmt-submodel, by-stmt-kind}
 
 -- ---- a place, plus 1
 

@@ -25,7 +25,8 @@ use Rattle.builder.proofs.OpenStmts.{nodes-from}
 use Rattle.builder.proofs.Descents.{levels-kept, rest, rest-step, rest-end, rest-all, own-rate, own-equation}
 use Rattle.builder.proofs.ListLaws.{sum-append}
 use Rattle.builder.proofs.Puts.{length-put, put-none, put-again}
-use Rattle.builder.proofs.OpenRecords.{stmt-equation, stmt-rate, passes, model-is}
+use Rattle.builder.proofs.OpenRecords.{passes, model-is}
+use Rattle.builder.proofs.StmtKinds.{stmt-equation, stmt-rate}
 
 -- ---- nodes of statements
 

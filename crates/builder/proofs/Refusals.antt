@@ -22,9 +22,10 @@ use Rattle.ast.specs.Records.{unknownOf, rightTop, stmtOf}
 use Rattle.ast.specs.Opens.{Open, contentsIn, fileIn}
 use Rattle.ast.specs.declared.sections.Sections.{Sections}
 use Rattle.builder.proofs.Classes.{class-time, class-reserved}
-use Rattle.builder.proofs.OpenRecords.{long, passes, model-is, unknown-is, stmt-submodel}
+use Rattle.builder.proofs.OpenRecords.{long, passes, model-is, unknown-is}
 use Rattle.builder.proofs.Calling.{call-is, entry-below}
 use Rattle.builder.proofs.Rounds.{reaching-flag}
+use Rattle.builder.proofs.StmtKinds.{stmt-submodel}
 
 -- ---- the models reached, from the last down
 

@@ -7,12 +7,11 @@ use mathlib.Core.List.{List, [], _∷_, map}
 use mathlib.Core.Option.{Option, none, some}
 use lib.Dec.{ltb, leb, eqb}
 use lib.ListN.{length, drop, length-map}
-use borrow.Author.Tests.{eqb-true}
 use Rattle.functions.proofs.Lists.{clash, and-both}
-use Rattle.ast.specs.Tree.{Args, empty, snoc, Flat, equation, rate, Stmt, own, submodel, Domain, unstated, range, named, Unknown, Model, File, count}
+use Rattle.ast.specs.Tree.{Args, empty, snoc, Flat, Stmt, own, submodel, Domain, unstated, range, named, Unknown, Model, File, count}
 use Rattle.ast.specs.Words.{wordOf, blank, inOrder}
-use Rattle.ast.specs.Nodes.{nodeAt, opAt, sizeAt, treeAt, argsBefore, nodesFit}
-use Rattle.ast.specs.Records.{depCount, firstDep, nameOfUnknown, domainKind, domainName, spanOfUnknown, domainFits, domainOf, unknownFits, unknownsFit, unknownOf, kindOfStmt, nameOfStmt, leftTop, rightTop, spanOfStmt, topFits, stmtKindFits, stmtFits, stmtsFit, submodelOf, stmtOf, nameOfModel, firstUnknown, unknownCount, firstStmt, stmtCount, spanOfModel, modelFits, modelsFit, modelOf}
+use Rattle.ast.specs.Nodes.{opAt, sizeAt, treeAt, argsBefore, nodesFit}
+use Rattle.ast.specs.Records.{depCount, firstDep, nameOfUnknown, domainKind, domainName, spanOfUnknown, domainFits, domainOf, unknownFits, unknownsFit, unknownOf, leftTop, rightTop, spanOfStmt, topFits, stmtFits, stmtsFit, stmtOf, nameOfModel, firstUnknown, unknownCount, firstStmt, stmtCount, spanOfModel, modelFits, modelsFit, modelOf}
 use Rattle.ast.specs.File.{namesAt, nodesAt, unknownsAt, stmtsAt, modelsAt, Contents, contentsOf, fileOf, openFile, opened}
 use Rattle.ast.proofs.Fields.{length-section}
 use Rattle.ast.proofs.Trailers.{is-within}
@@ -23,17 +22,9 @@ use Rattle.builder.specs.Flatten.{noModel, modelNamed, modelAt, replacem
 use Rattle.builder.proofs.Arguments.{replaced-last}
 use Rattle.builder.proofs.Everywhere.{All, all-take, all-drop, all-getD, all-map, all-each}
 use Rattle.builder.proofs.Sound.{Word, Byte, section-small, span-small, float-small, Double, expr-worded, args-worded, Sound, SoundArgs, SoundSpan, SoundFlat, SoundStmt, SoundIf, flat-sound}
+use Rattle.builder.proofs.StmtKinds.{stmt-cases}
 
 -- ---- one statement's record
-
-third : (b x : Bool) → cond b x false ≡ true → b ≡ true
-third true x e = refl
-third false x e = e
-
--- a statement that is neither an equation nor a rate equation is a submodel
-pub stmt-third : (names limit : ℕ) (ns : List (List ℕ)) (first : ℕ) (r : List ℕ) → stmtFits names limit ns first r ≡ true → eqb (kindOfStmt r) 1 ≡ false → eqb (kindOfStmt r) 2 ≡ false → kindOfStmt r ≡ 3
-unfolding stmtFits stmtKindFits
-stmt-third names limit ns first r h e₁ e₂ = eqb-true _ _ (third _ _ (rw (e₁, e₂) at (and-both (inOrder (spanOfStmt r)) _ h .1)))
 
 module _ (names limit : ℕ) (ns : List (List ℕ)) (ok : nodesFit names ns limit ≡ true) (small : All (All Word) ns) where
   tree-sound : (first top : ℕ) → topFits limit ns first top ≡ true → Sound names (treeAt ns top)
@@ -47,29 +38,17 @@ module _ (names limit : ℕ) (ns : List (List ℕ)) (ok : nodesFit names ns limi
     unfolding stmtFits
     stmt-span = (and-both (inOrder (spanOfStmt r)) _ h .0, span-small r 4 hr)
 
-    submodel-sound : kindOfStmt r ≡ 3 → SoundStmt names (submodelOf ns (rightTop r) (nodeAt ns (rightTop r)) (spanOfStmt r))
-    unfolding submodelOf argsBefore
-    submodel-sound k =
+    stmt-sound : SoundStmt names (stmtOf ns r)
+    unfolding argsBefore
+    stmt-sound = stmt-cases (SoundStmt names) names limit ns first r h
+        (λ k. let (t, u) = equation-tops names limit ns first r h k in (tree-sound first (leftTop r) t, tree-sound (leftTop r + 1) (rightTop r) u, stmt-span))
+        (λ k. let (n, t) = rate-top names limit ns first r h k in (n, tree-sound first (rightTop r) t, stmt-span))
+        (λ k.
         let (t, five) = submodel-top names limit ns first r h k in
         let i = rightTop r in
         let (l, _, _) = top-is names limit ns first i t in
         let o = node-ok names ns limit ok i l in
-        (o .call-name five, (args-formed names ns limit ok i (opAt ns i) (sizeAt ns i - 1) (omega arith) (o .call five), args-worded ns small (sizeAt ns i - 1) i (opAt ns i)), stmt-span)
-
-    by-stmt : (b d : Bool) → eqb (kindOfStmt r) 1 ≡ b → eqb (kindOfStmt r) 2 ≡ d
-        → SoundStmt names (cond b (own (equation (treeAt ns (leftTop r)) (treeAt ns (rightTop r)) (spanOfStmt r)))
-        (cond d (own (rate (nameOfStmt r) (treeAt ns (rightTop r)) (spanOfStmt r))) (submodelOf ns (rightTop r) (nodeAt ns (rightTop r)) (spanOfStmt r))))
-    by-stmt true d e₁ e₂ =
-        let (t, u) = equation-tops names limit ns first r h (eqb-true _ _ e₁) in
-        (tree-sound first (leftTop r) t, tree-sound (leftTop r + 1) (rightTop r) u, stmt-span)
-    by-stmt false true e₁ e₂ =
-        let (n, t) = rate-top names limit ns first r h (eqb-true _ _ e₂) in
-        (n, tree-sound first (rightTop r) t, stmt-span)
-    by-stmt false false e₁ e₂ = submodel-sound (stmt-third names limit ns first r h e₁ e₂)
-
-    stmt-sound : SoundStmt names (stmtOf ns r)
-    unfolding stmtOf
-    stmt-sound = by-stmt _ _ refl refl
+        (o .call-name five, (args-formed names ns limit ok i (opAt ns i) (sizeAt ns i - 1) (omega arith) (o .call five), args-worded ns small (sizeAt ns i - 1) i (opAt ns i)), stmt-span))
 
   stmts-sound : (first : ℕ) (rs : List (List ℕ)) → stmtsFit names limit ns first rs ≡ true → All (All Word) rs → All (SoundStmt names) (map (stmtOf ns) rs)
   unfolding stmtsFit
