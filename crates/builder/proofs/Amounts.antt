@@ -13,10 +13,10 @@ use Rattle.ast.specs.Records.{firstStmt, stmtCount}
 use Rattle.ast.specs.Rows.{atMost}
 use Rattle.ast.specs.Opens.{Open, fileIn}
 use Rattle.ast.specs.declared.sections.Sections.{Sections}
+use Rattle.ast.proofs.FromBytes.{length-each}
 use Rattle.builder.specs.Flatten.{modelNamed, modelAt, subFlats, stmtFlats, stmtModels, submodels, flatten, instances}
 use Rattle.builder.specs.Tables.{calleeOf}
 use Rattle.builder.specs.Checking.{stmtIn}
-use Rattle.builder.proofs.Counts.{length-each}
 use Rattle.builder.proofs.Open.{modelRecord}
 use Rattle.builder.proofs.OpenRecords.{model-is}
 use Rattle.builder.proofs.ListLaws.{sum-append}

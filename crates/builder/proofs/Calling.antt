@@ -15,7 +15,9 @@ use Rattle.builder.specs.Tables.{calleeOf, Callees}
 use Rattle.ast.specs.Records.{kindOfStmt, rightTop, stmtOf}
 use Rattle.ast.specs.Opens.{Open, contentsIn, fileIn}
 use Rattle.ast.specs.declared.sections.Sections.{Sections}
-use Rattle.builder.proofs.Everywhere.{All, all-every, all-each}
+use Rattle.ast.specs.WellFormed.{Each}
+use Rattle.ast.proofs.FromBytes.{every-each}
+use Rattle.builder.proofs.Everywhere.{all-every}
 use Rattle.builder.proofs.OpenRecords.{long, stmt-is}
 use Rattle.builder.proofs.ListLaws.{place-small, place-below}
 use Rattle.builder.proofs.StmtKinds.{stmt-equation, stmt-rate, by-stmt-kind}
@@ -50,21 +52,21 @@ module _ (f : File) where
       go (some i) e = rw (sub-one (suc i)) refl
 
   -- every model found by name is one of the models
-  callee-all : (o : Option ℕ) (n : ℕ) → modelNamed f n ≡ o → All (λ (m : ℕ). m < length (f .models)) (toList o)
+  callee-all : (o : Option ℕ) (n : ℕ) → modelNamed f n ≡ o → Each (λ (m : ℕ). m < length (f .models)) (toList o)
   unfolding modelNamed place toList
   callee-all none n e = tt
   callee-all (some i) n e = (omega (arith, place-below _ 0 (f .models) i e), tt)
 
   -- so is every model that a statement stmtModels
-  calls-all : (q : Stmt) → All (λ (m : ℕ). m < length (f .models)) (stmtModels f q)
+  calls-all : (q : Stmt) → Each (λ (m : ℕ). m < length (f .models)) (stmtModels f q)
   unfolding stmtModels
   calls-all (own q) = tt
   calls-all (submodel n a c s) = callee-all (modelNamed f n) n refl
 
   -- and every model that a model stmtModels
-  pub callees-all : (a : ℕ) → All (λ (m : ℕ). m < length (f .models)) (submodels f a)
+  pub callees-all : (a : ℕ) → Each (λ (m : ℕ). m < length (f .models)) (submodels f a)
   unfolding submodels
-  callees-all a = all-each (λ (q : Stmt). Unit {0}) _ (stmtModels f) (λ q u. calls-all q) (modelAt f a .stmts) (all-every (λ (q : Stmt). Unit {0}) (λ q. tt) (modelAt f a .stmts))
+  callees-all a = every-each _ (λ (q : Stmt). Unit {0}) (stmtModels f) (λ q u. calls-all q) (modelAt f a .stmts) (all-every (λ (q : Stmt). Unit {0}) (λ q. tt) (modelAt f a .stmts))
 
 -- ---- the statements that call
 

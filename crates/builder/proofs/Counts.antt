@@ -1,5 +1,5 @@
 -- How many variables and kept dependents a model has, by its unknowns and their dependents.
-use mathlib.Core.Path.{_≡_, refl, ap, _∙_}
+use mathlib.Core.Path.{_≡_, refl, ap}
 use Prim.Native.Nat.{ℕ, suc, _+_, _≤_}
 use native.Mathlib.Omega.{arith}
 use mathlib.Core.Bool.{Bool, true, false, cond, _||_}
@@ -11,16 +11,9 @@ use lib.ListN.{length, length-append, length-map}
 use Rattle.functions.specs.Lists.{any, each, member, sumOf, toList, flag, times}
 use Rattle.functions.proofs.Lists.{clash}
 use Rattle.ast.specs.Tree.{Unknown}
+use Rattle.ast.proofs.FromBytes.{length-each}
 use Rattle.builder.specs.Names.{isReserved, timeName}
 use Rattle.builder.specs.Variables.{declare, variableNames, numberOf, keptDeps, variable, variablesOf}
-
--- ---- sums
-
-module _ {A : Type 0} where
-  pub length-each : {B : Type 0} (f : A → List B) (xs : List A) → length (each f xs) ≡ sumOf (λ x. length (f x)) xs
-  unfolding each sumOf
-  length-each f [] = refl
-  length-each f (x ∷ xs) = length-append (f x) (each f xs) ∙ ap (λ (n : ℕ). length (f x) + n) (length-each f xs)
 
 -- ---- the variables' names: one more than the unknowns at most, each once
 

@@ -11,12 +11,12 @@ use Rattle.ast.specs.Tree.{Expr, File, Flat, equation, rate, size, flatSize}
 use Rattle.ast.specs.Words.{section, wordOf, spanFrom}
 use Rattle.ast.specs.Nodes.{treeAt, isExpr, nodesFit}
 use Rattle.ast.specs.Encode.{nodes, flatNodes, encode}
-use Rattle.ast.specs.WellFormed.{Each}
 use Rattle.ast.specs.Opens.{Open, fileIn}
 use Rattle.ast.specs.declared.sections.Sections.{Sections}
+use Rattle.ast.specs.WellFormed.{Each}
 use Rattle.ast.proofs.Encodes.{length-nodes}
 use Rattle.ast.proofs.Formed.{WellFormed}
-use Rattle.ast.proofs.FromBytes.{joined, bytes-joined, section-joined}
+use Rattle.ast.proofs.FromBytes.{joined, bytes-joined, section-joined, Wide}
 use Rattle.ast.proofs.Roundtrip.{Holds, holds-left, holds-right, stands, tree-back}
 use Rattle.ast.proofs.StmtsBack.{size-pos}
 use Rattle.builder.specs.Roles.{roleOf}
@@ -28,23 +28,17 @@ use Rattle.builder.specs.Allocating.{flatAt, nodesIn, stmtsIn, flatsIn, 
 use Rattle.builder.specs.Starting.{Righted}
 use Rattle.builder.specs.Root.{flatsOf, scopeAt, timeAt, rolesAt, fatesAt, SizesOf, part, Laid, Unfated, Fated}
 use Rattle.builder.specs.declared.places.Sizes.{Sizes}
-use Rattle.builder.proofs.Everywhere.{All}
-use Rattle.builder.proofs.Sections.{Wide}
 use Rattle.builder.proofs.Lengths.{length-flat-nodes, nodes-wide, count-nodes, length-fates}
 use Rattle.builder.proofs.Allocations.{FlatFormed}
 use Rattle.builder.proofs.FlatsFormed.{formed}
 
 -- ---- sections
 
-each-wide : (w : ℕ) (rs : List (List ℕ)) → Wide w rs → Each (λ r. length r ≡ w) rs
-each-wide w [] h = tt
-each-wide w (r ∷ rs) h = (h .0, each-wide w rs (h .1))
-
 -- records of w words whose bytes stand somewhere
 pub section-read : (w n at k : ℕ) (rs : List (List ℕ)) (b : List ℕ) → Wide w rs → length rs ≡ n → part at k b ≡ encode rs → section w n at b ≡ rs
 unfolding part
 section-read w n at k rs b h l e =
-    section-joined w n at rs b (joined rs) (drop k (drop at b)) (each-wide w rs h) l refl
+    section-joined w n at rs b (joined rs) (drop k (drop at b)) h l refl
     (sym (take-append-drop k (drop at b)) ∙ ap (λ (x : List ℕ). x ++ drop k (drop at b)) (e ∙ sym (bytes-joined rs)))
 
 module _ (F : File) (m : ℕ) (z : Sizes) (rs : List (List ℕ)) (b : List ℕ) (o : SizesOf F m z) (a : Laid F m z rs b) where
@@ -194,7 +188,7 @@ module _ (names : ℕ) (ns : List (List ℕ)) where
     holds : (i : ℕ) → i < length qs → Fits names ns n (getD rs i [])
     fits : nodesFit names ns p ≡ true → nodesFit names ns n ≡ true
 
-  stmts-at : (qs : List Flat) (rs : List (List ℕ)) (n p : ℕ) → All (FlatFormed names) qs → Tells p qs rs → p + sumOf flatSize qs ≡ n → Holds ns p (each flatNodes qs) → StmtsFrom n p qs rs
+  stmts-at : (qs : List Flat) (rs : List (List ℕ)) (n p : ℕ) → Each (FlatFormed names) qs → Tells p qs rs → p + sumOf flatSize qs ≡ n → Holds ns p (each flatNodes qs) → StmtsFrom n p qs rs
   unfolding sumOf each
   stmts-at [] [] n p w t e h =
       let j : p ≡ n = omega arith in
@@ -223,7 +217,7 @@ holds-all ns j l =
 
 -- ---- the statements in an area
 
-module _ (names : ℕ) (qs : List Flat) (rs : List (List ℕ)) (b : List ℕ) (z : Sizes) (w : All (FlatFormed names) qs) (t : Tells 0 qs rs) (en : nodesIn b z ≡ each flatNodes qs) (er : stmtsIn b z ≡ rs) where
+module _ (names : ℕ) (qs : List Flat) (rs : List (List ℕ)) (b : List ℕ) (z : Sizes) (w : Each (FlatFormed names) qs) (t : Tells 0 qs rs) (en : nodesIn b z ≡ each flatNodes qs) (er : stmtsIn b z ≡ rs) where
   all-stmts : (n : ℕ) → n ≡ sumOf flatSize qs → StmtsFrom names (each flatNodes qs) n 0 qs rs
   all-stmts n e = stmts-at names (each flatNodes qs) qs rs n 0 w t (omega arith) (holds-all (each flatNodes qs))
 

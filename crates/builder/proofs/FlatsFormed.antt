@@ -16,12 +16,14 @@ use Rattle.ast.specs.Records.{unknownOf, leftTop, rightTop, topFits, stmtFits, 
 use Rattle.ast.specs.File.{Contents, contentsOf, fileOf}
 use Rattle.ast.specs.Opens.{Open, contentsIn, fileIn}
 use Rattle.ast.specs.declared.sections.Sections.{Sections}
+use Rattle.ast.specs.WellFormed.{Each}
 use Rattle.ast.proofs.Fitting.{node-ok}
 use Rattle.ast.proofs.Formed.{WellFormed, WellFormedArgs, FormedIf, tree-formed, args-formed, subst-formed}
 use Rattle.ast.proofs.Files.{Parts, parts, top-is, equation-tops, rate-top, submodel-top}
+use Rattle.ast.proofs.FromBytes.{every-each}
 use Rattle.builder.specs.Flatten.{noModel, modelNamed, modelAt, replacements, replacedName, subFlats, stmtFlats, flatten}
 use Rattle.builder.proofs.Arguments.{replaced-last}
-use Rattle.builder.proofs.Everywhere.{All, all-take, all-drop, all-getD, all-map, all-each}
+use Rattle.builder.proofs.Everywhere.{all-take, all-drop, all-getD, all-map}
 use Rattle.builder.proofs.Allocations.{FlatFormed}
 use Rattle.builder.proofs.StmtKinds.{stmt-cases}
 
@@ -46,7 +48,7 @@ module _ (names limit : ℕ) (ns : List (List ℕ)) (ok : nodesFit names ns limi
         let (l, _, _) = top-is names limit ns first i t in
         args-formed names ns limit ok i (opAt ns i) (sizeAt ns i - 1) (omega arith) (node-ok names ns limit ok i l .call five))
 
-  stmts-formed : (first : ℕ) (rs : List (List ℕ)) → stmtsFit names limit ns first rs ≡ true → All (StmtFormed names) (map (stmtOf ns) rs)
+  stmts-formed : (first : ℕ) (rs : List (List ℕ)) → stmtsFit names limit ns first rs ≡ true → Each (StmtFormed names) (map (stmtOf ns) rs)
   unfolding stmtsFit
   stmts-formed first [] h = tt
   stmts-formed first (r ∷ rs) h =
@@ -57,19 +59,19 @@ module _ (names limit : ℕ) (ns : List (List ℕ)) (ok : nodesFit names ns limi
 
 module _ (names : ℕ) where
   abbrev ModelFormed : Model → Type 0
-  ModelFormed m = All (StmtFormed names) (m .stmts)
+  ModelFormed m = Each (StmtFormed names) (m .stmts)
 
   none-formed : ModelFormed noModel
   unfolding noModel
   none-formed = tt
 
-  models-formed : (us : List Unknown) (qs : List Stmt) → All (StmtFormed names) qs → (rs : List (List ℕ)) → All ModelFormed (map (modelOf us qs) rs)
+  models-formed : (us : List Unknown) (qs : List Stmt) → Each (StmtFormed names) qs → (rs : List (List ℕ)) → Each ModelFormed (map (modelOf us qs) rs)
   unfolding modelOf
   models-formed us qs h [] = tt
   models-formed us qs h (r ∷ rs) =
       (all-take (StmtFormed names) (stmtCount r) (drop (firstStmt r) qs) (all-drop (StmtFormed names) (firstStmt r) qs h), models-formed us qs h rs)
 
-contents-formed : (s : Contents) → Parts s → (m : ℕ) → All (StmtFormed (s .counts .names)) (modelAt (fileOf s) m .stmts)
+contents-formed : (s : Contents) → Parts s → (m : ℕ) → Each (StmtFormed (s .counts .names)) (modelAt (fileOf s) m .stmts)
 unfolding fileOf modelAt
 contents-formed s p m =
     let names = s .counts .names in
@@ -95,24 +97,24 @@ module _ (names : ℕ) where
       go true y = x .1
       go false y = y
 
-  module _ (f : File) (h : (m : ℕ) → All (StmtFormed names) (modelAt f m .stmts)) where
-    sub-formed : (sub : ℕ → List Flat) → ((m : ℕ) → All (FlatFormed names) (sub m)) → (a : Args) → WellFormedArgs names a → (o : Option ℕ) → All (FlatFormed names) (subFlats f sub a o)
+  module _ (f : File) (h : (m : ℕ) → Each (StmtFormed names) (modelAt f m .stmts)) where
+    sub-formed : (sub : ℕ → List Flat) → ((m : ℕ) → Each (FlatFormed names) (sub m)) → (a : Args) → WellFormedArgs names a → (o : Option ℕ) → Each (FlatFormed names) (subFlats f sub a o)
     unfolding subFlats
     sub-formed sub k a x none = tt
     sub-formed sub k a x (some m) =
         all-map (FlatFormed names) (FlatFormed names) _ (flat-kept (replacements (modelAt f m .unknowns) a) (replacement-formed (modelAt f m .unknowns) a x)) (sub m) (k m)
 
-    flats-formed : (sub : ℕ → List Flat) → ((m : ℕ) → All (FlatFormed names) (sub m)) → (q : Stmt) → StmtFormed names q → All (FlatFormed names) (stmtFlats f sub q)
+    flats-formed : (sub : ℕ → List Flat) → ((m : ℕ) → Each (FlatFormed names) (sub m)) → (q : Stmt) → StmtFormed names q → Each (FlatFormed names) (stmtFlats f sub q)
     unfolding stmtFlats
     flats-formed sub k (own q) x = (x, tt)
     flats-formed sub k (submodel n a c s) x = sub-formed sub k a x (modelNamed f n)
 
-    flatten-formed : (k m : ℕ) → All (FlatFormed names) (flatten f k m)
+    flatten-formed : (k m : ℕ) → Each (FlatFormed names) (flatten f k m)
     unfolding flatten
     flatten-formed zero m = tt
-    flatten-formed (suc k) m = all-each (StmtFormed names) (FlatFormed names) _ (flats-formed (λ j. flatten f k j) (λ j. flatten-formed k j)) (modelAt f m .stmts) (h m)
+    flatten-formed (suc k) m = every-each (FlatFormed names) (StmtFormed names) _ (flats-formed (λ j. flatten f k j) (λ j. flatten-formed k j)) (modelAt f m .stmts) (h m)
 
 -- of an open file
-pub formed : (f : List ℕ) (s : Sections) → Open f s → (k m : ℕ) → All (FlatFormed (s .counts .names)) (flatten (fileIn f s) k m)
+pub formed : (f : List ℕ) (s : Sections) → Open f s → (k m : ℕ) → Each (FlatFormed (s .counts .names)) (flatten (fileIn f s) k m)
 unfolding contentsOf
 formed f s o = flatten-formed (s .counts .names) (fileIn f s) (contents-formed (contentsIn f s) (parts (contentsIn f s) (o .fits)))

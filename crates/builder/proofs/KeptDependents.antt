@@ -18,10 +18,11 @@ use Rattle.ast.proofs.Encodes.{each-append, length-bytes}
 use Rattle.ast.proofs.Files.{all-at}
 use Rattle.ast.specs.Opens.{Open, fileIn}
 use Rattle.ast.specs.declared.sections.Sections.{Sections}
+use Rattle.ast.proofs.FromBytes.{words-bytes}
 use Rattle.builder.specs.Variables.{Variable, numberOf, keptDeps, variableNames, variable, variablesOf, noVariable, at}
 use Rattle.builder.specs.VariableTables.{wordsFrom, nextIn, DepsIn, TimeReached, unknownsIn, rosterIn, StartsOf}
 use Rattle.builder.proofs.Timing.{any-alike}
-use Rattle.builder.proofs.PutWords.{words-bytes, each-take, each-fits, kept-few}
+use Rattle.builder.proofs.PutWords.{each-take, each-fits, kept-few}
 use Rattle.builder.proofs.ListLaws.{getD-map}
 
 -- ---- a kept dependent is a variable
@@ -66,9 +67,7 @@ module _ (vs : List ℕ) (us : List Unknown) (starts d out : List ℕ) (h : Star
   unfolding front
   written =
       let ws = each (keptDeps vs us) vs in
-      let small : all (λ x. ltb x (length vs)) ws ≡ true = all-each (λ x. ltb x (length vs)) (keptDeps vs us) vs (kept-below vs us) in
       ap words e ∙ words-bytes ws (drop (length (bytesOf ws)) d)
-      (λ j l. omega (arith, ltb-true (getD ws j 0) (length vs) (all-at (λ x. ltb x (length vs)) ws 0 small j l)))
 
   module _ (v : ℕ) (l : v < length vs) where
     starts-at : (getD starts v 0 ≡ length (each (keptDeps vs us) (take v vs))) × (getD starts (v + 1) 0 ≡ length (each (keptDeps vs us) (take v vs)) + length (keptDeps vs us (getD vs v 0)))

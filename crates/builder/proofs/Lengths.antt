@@ -9,12 +9,13 @@ use Rattle.ast.specs.Tree.{Flat, equation, rate, flatSize}
 use Rattle.ast.specs.Words.{wordOf}
 use Rattle.ast.specs.Encode.{nodes, flatNodes, encode}
 use Rattle.ast.proofs.Encodes.{length-bytes, eights, eights-append, Eights, length-nodes}
+use Rattle.ast.proofs.FromBytes.{Wide}
 use Rattle.builder.specs.Variables.{Error, Variable}
 use Rattle.builder.specs.Roles.{Role, starts, rates, free}
 use Rattle.builder.specs.Allocate.{Fate, fatesOf}
 use Rattle.builder.specs.Answer.{Answer, boundsWords, flatWords, flatRecords, errorWords, variableWords, variableRecords, nodeCount, depsOf, header, areaOf, areaBytes, answerBytes}
 use Rattle.builder.specs.Area.{listedIn, nodesFrom, stmtsFrom, varsFrom, depsFrom, errorsFrom, areaEnd}
-use Rattle.builder.proofs.Sections.{Wide, length-wide}
+use Rattle.builder.proofs.Sections.{length-wide}
 
 pub length-fates : (queue : List ℕ) (rs : List Role) → length (fatesOf queue rs) ≡ length rs
 unfolding fatesOf

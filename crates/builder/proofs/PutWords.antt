@@ -3,7 +3,7 @@ use mathlib.Core.Path.{_≡_, refl, sym, ap, _∙_}
 use mathlib.Core.Bool.{Bool, true, false, cond}
 use mathlib.Core.List.{List, [], _∷_, _++_, append-nil, map}
 use mathlib.Core.Option.{Option, none, some}
-use Prim.Native.Nat.{ℕ, zero, suc, _+_, _-_, _*_, _/_, _%_, _^_, _≤_, _<_}
+use Prim.Native.Nat.{ℕ, zero, suc, _+_, _-_, _*_, _≤_, _<_}
 use native.Mathlib.Numerals.{add-one, sub-one}
 use native.Mathlib.Omega.{arith}
 use borrow.Author.Tests.{ltb-true, ltb-false}
@@ -12,7 +12,7 @@ use lib.ListN.{length, take, drop, getD, set, length-append, take-append-drop}
 use lib.Seq.{take-suc, take-all, getD-set-same, getD-set-other}
 use Rattle.functions.specs.Lists.{each, plusOne, toList}
 use Rattle.ast.specs.Tree.{Unknown}
-use Rattle.ast.specs.Words.{words, bytes4, bytesOf}
+use Rattle.ast.specs.Words.{bytesOf}
 use Rattle.ast.specs.File.{contentsOf}
 use Rattle.ast.specs.Opens.{Open, contentsIn, fileIn}
 use Rattle.ast.specs.declared.sections.Sections.{Sections}
@@ -152,14 +152,3 @@ module _ (f : List ℕ) (s : Sections) (o : Open f s) (m : ℕ) where
   kept-few =
       let us = modelAt (fileIn f s) m .unknowns in
       omega (arith, length-kept (fileIn f s .names) us, ap length (kept-of (fileIn f s .names) us), contents-listed (contentsIn f s) (o .fits) m, o .laid .within .deps)
-
--- ---- the words that were put, read by their starts
-
--- words that were written are read
-pub words-bytes : (ws rest : List ℕ) → ((j : ℕ) → j < length ws → getD ws j 0 < 2 ^ 32) → words (bytesOf ws ++ rest) ≡ ws ++ words rest
-unfolding words bytesOf each bytes4
-words-bytes [] rest h = refl
-words-bytes (w ∷ ws) rest h =
-    let l : w < 2 ^ 32 = h 0 (omega arith) in
-    let e : w % 256 + 256 * (w / 256 % 256) + 65536 * (w / 65536 % 256) + 16777216 * (w / 16777216) ≡ w = omega arith in
-    rw (e, words-bytes ws rest (λ j k. h (suc j) (omega arith)))

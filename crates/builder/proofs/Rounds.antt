@@ -18,7 +18,7 @@ use Rattle.builder.specs.Rounds.{onward, stepsOn, Stepped}
 use Rattle.ast.specs.Records.{stmtOf}
 use Rattle.ast.specs.Opens.{Open, contentsIn, fileIn}
 use Rattle.ast.specs.declared.sections.Sections.{Sections}
-use Rattle.builder.proofs.Everywhere.{All}
+use Rattle.ast.specs.WellFormed.{Each}
 use Rattle.builder.proofs.Calling.{callees-all, calls-none, calls-one}
 use Rattle.builder.proofs.ListLaws.{any-append, flag-one}
 
@@ -31,7 +31,7 @@ any-each p g (x ∷ xs) = any-append p (g x) (each g xs) ∙ ap (λ (b : Bool). 
 -- ---- one round over the table
 
 -- two tests that agree on every element
-any-same : {A : Type 0} (P : A → Type 0) (p q : A → Bool) → ((x : A) → P x → p x ≡ q x) → (xs : List A) → All P xs → any p xs ≡ any q xs
+any-same : {A : Type 0} (P : A → Type 0) (p q : A → Bool) → ((x : A) → P x → p x ≡ q x) → (xs : List A) → Each P xs → any p xs ≡ any q xs
 unfolding any
 any-same P p q e [] h = refl
 any-same P p q e (x ∷ xs) h = rw (e x (h .0), any-same P p q e xs (h .1)) refl

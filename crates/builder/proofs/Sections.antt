@@ -1,35 +1,23 @@
 -- Records written as bytes, one behind the other, and cut out again.
-use mathlib.Core.Path.{_≡_, refl, sym, ap, ap₂, _∙_}
-use mathlib.Core.List.{List, [], _∷_, _++_, append-assoc}
-use Prim.Native.Nat.{ℕ, suc, _+_, _*_, _≤_, _<_}
+use mathlib.Core.Path.{_≡_, refl, sym, ap, _∙_}
+use mathlib.Core.List.{List, [], _∷_, _++_}
+use Prim.Native.Nat.{ℕ, _+_, _*_, _≤_, _<_}
 use native.Mathlib.Omega.{arith}
 use native.Mathlib.Nat.{suc-mul, zero-mul}
 use lib.ListN.{length, getD, length-append}
-use lib.Seq.{take-at, drop-at}
+use lib.Seq.{drop-at}
 use Rattle.functions.specs.Lists.{each}
-use Rattle.ast.specs.Words.{words, records, section, wordOf, bytesOf}
+use Rattle.ast.specs.Words.{section, wordOf, bytesOf}
 use Rattle.ast.specs.Bytes.{wordAt}
 use Rattle.ast.specs.Encode.{encode}
 use Rattle.ast.proofs.Encodes.{length-bytes}
 use Rattle.ast.proofs.Fields.{field-at}
-use Rattle.ast.proofs.FromBytes.{words-bytes}
-
--- records of w words each
-abbrev pub Wide : ℕ → List (List ℕ) → Type 0
-Wide w [] = Unit {0}
-Wide w (r ∷ rs) = (length r ≡ w) × Wide w rs
-
-records-back : (w : ℕ) (rs : List (List ℕ)) (rest : List ℕ) → Wide w rs → records w (length rs) (words (encode rs ++ rest)) ≡ rs
-unfolding records encode each
-records-back w [] rest h = refl
-records-back w (r ∷ rs) rest h =
-    let e : words (encode (r ∷ rs) ++ rest) ≡ r ++ words (encode rs ++ rest) = ap words (append-assoc (bytesOf r) (encode rs) rest) ∙ words-bytes r (encode rs ++ rest) in
-    ap (records w (suc (length rs))) e
-    ∙ ap₂ _∷_ (take-at r _ w (h .0)) (ap (records w (length rs)) (drop-at r _ w (h .0)) ∙ records-back w rs rest (h .1))
+use Rattle.ast.proofs.FromBytes.{Wide, joined, section-joined, bytes-joined}
 
 pub section-back : (w n at : ℕ) (pre : List ℕ) (rs : List (List ℕ)) (rest : List ℕ) → Wide w rs → length rs ≡ n → length pre ≡ at → section w n at (pre ++ (encode rs ++ rest)) ≡ rs
-unfolding section
-section-back w n at pre rs rest h en ea = rw (← en, drop-at pre (encode rs ++ rest) at ea) (records-back w rs rest h)
+section-back w n at pre rs rest h en ea =
+    section-joined w n at rs (pre ++ (encode rs ++ rest)) (joined rs) rest h en refl
+    (drop-at pre (encode rs ++ rest) at ea ∙ ap (λ (x : List ℕ). x ++ rest) (sym (bytes-joined rs)))
 
 pub length-wide : (w : ℕ) (rs : List (List ℕ)) → Wide w rs → length (encode rs) ≡ 4 * (length rs * w)
 unfolding encode each

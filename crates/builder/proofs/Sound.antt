@@ -11,8 +11,9 @@ use Rattle.ast.specs.Tree.{Span, Expr, name, number, binary, unary, call, Args,
 use Rattle.ast.specs.Subst.{respan, Replacements, replaceName, subst, substArgs, substFlat}
 use Rattle.ast.specs.Words.{words, records, section, wordOf, spanFrom, floatFrom, inOrder}
 use Rattle.ast.specs.Nodes.{nodeAt, kindAt, opAt, sizeAt, noExpr, exprAt, argsAt}
+use Rattle.ast.specs.WellFormed.{Each}
 use Rattle.ast.proofs.Formed.{WellFormed, WellFormedArgs, FormedIf, subst-formed}
-use Rattle.builder.proofs.Everywhere.{All, all-take, all-drop, all-getD, cond-either}
+use Rattle.builder.proofs.Everywhere.{all-take, all-drop, all-getD, cond-either}
 
 -- ---- words
 
@@ -22,7 +23,7 @@ Word w = w < 4294967296
 abbrev pub Byte : ℕ → Type 0
 Byte b = b < 256
 
-words-small : (xs : List ℕ) → All Byte xs → All Word (words xs)
+words-small : (xs : List ℕ) → Each Byte xs → Each Word (words xs)
 unfolding words
 words-small [] h = tt
 words-small (a ∷ []) h = tt
@@ -30,30 +31,30 @@ words-small (a ∷ b ∷ []) h = tt
 words-small (a ∷ b ∷ c ∷ []) h = tt
 words-small (a ∷ b ∷ c ∷ d ∷ r) h = (omega (arith, h .0, h .1 .0, h .1 .1 .0, h .1 .1 .1 .0), words-small r (h .1 .1 .1 .1))
 
-records-small : (w n : ℕ) (xs : List ℕ) → All Word xs → All (All Word) (records w n xs)
+records-small : (w n : ℕ) (xs : List ℕ) → Each Word xs → Each (Each Word) (records w n xs)
 unfolding records
 records-small w zero xs h = tt
 records-small w (suc n) xs h = (all-take Word w xs h, records-small w n (drop w xs) (all-drop Word w xs h))
 
-pub section-small : (w n at : ℕ) (file : List ℕ) → All Byte file → All (All Word) (section w n at file)
+pub section-small : (w n at : ℕ) (file : List ℕ) → Each Byte file → Each (Each Word) (section w n at file)
 unfolding section
 section-small w n at file h = records-small w n _ (words-small _ (all-drop Byte at file h))
 
-pub word-small : (r : List ℕ) (k : ℕ) → All Word r → Word (wordOf r k)
+pub word-small : (r : List ℕ) (k : ℕ) → Each Word r → Word (wordOf r k)
 unfolding wordOf
 word-small r k h = all-getD Word r k 0 (omega arith) h
 
 abbrev pub Spanned : Span → Type 0
 Spanned s = Word (s .from) × Word (s .to)
 
-pub span-small : (r : List ℕ) (k : ℕ) → All Word r → Spanned (spanFrom r k)
+pub span-small : (r : List ℕ) (k : ℕ) → Each Word r → Spanned (spanFrom r k)
 unfolding spanFrom
 span-small r k h = (word-small r k h, word-small r (suc k) h)
 
 abbrev pub Double : ℕ → Type 0
 Double b = b < 18446744073709551616
 
-pub float-small : (r : List ℕ) (k : ℕ) → All Word r → Double (floatFrom r k)
+pub float-small : (r : List ℕ) (k : ℕ) → Each Word r → Double (floatFrom r k)
 unfolding floatFrom
 float-small r k h = omega (arith, word-small r k h, word-small r (suc k) h)
 
@@ -71,9 +72,9 @@ abbrev mutual
   WordedArgs empty = Unit {0}
   WordedArgs (snoc a k e s) = WordedArgs a × Worded e × Spanned s
 
-module _ (ns : List (List ℕ)) (h : All (All Word) ns) where
-  node-small : (i : ℕ) → All Word (nodeAt ns i)
-  node-small i = all-getD (All Word) ns i [] tt h
+module _ (ns : List (List ℕ)) (h : Each (Each Word) ns) where
+  node-small : (i : ℕ) → Each Word (nodeAt ns i)
+  node-small i = all-getD (Each Word) ns i [] tt h
 
   mutual
     unfolding exprAt noExpr

@@ -13,6 +13,8 @@ use Rattle.ast.specs.Tree.{Span, Expr, name, number, binary, unary, call, Args,
 use Rattle.ast.specs.Words.{low, high, bytes4, bytesOf}
 use Rattle.ast.specs.Nodes.{isSign, isOp}
 use Rattle.ast.specs.Encode.{node, nodes, argNodes, flatNodes, encode}
+use Rattle.ast.specs.WellFormed.{Each}
+use Rattle.ast.proofs.FromBytes.{length-each, every-append, every-each}
 use Rattle.builder.specs.Variables.{Error, Bounds, Variable, noVariable, at, isState, lastTime, timeIndex, timeDependent}
 use Rattle.builder.specs.Flatten.{modelAt, scopeOf, errorsOf}
 use Rattle.builder.specs.Roles.{roleOf, roleErrors}
@@ -20,13 +22,13 @@ use Rattle.builder.specs.Allocate.{Fate, initial, held, replaced, leftOv
 use Rattle.builder.specs.Answer.{Answer, fateNumber, boundsWords, flatWords, flatRecords, errorWords, variableWords, variableRecords, nodeCount, depsOf, header, areaOf, areaBytes, answerBytes}
 use Rattle.builder.specs.Area.{WithinMosts, areBytes}
 use Rattle.builder.specs.Build.{accepted, answerFrom, answer, build}
-use Rattle.builder.proofs.Everywhere.{All, all-append, all-take, all-true, all-map, all-each, all-weak}
+use Rattle.builder.proofs.Everywhere.{all-take, all-true, all-map, all-weak}
 use Rattle.builder.proofs.Sound.{Word, Byte, Double, Spanned, Sound, SoundArgs, SoundFlat}
 use Rattle.builder.proofs.SoundFile.{SoundFile, file-sound, flatten-sound}
 use Rattle.builder.proofs.SoundErrors.{SoundError, built-errors, role-errors, count-errors, starting-errors}
 use Rattle.builder.proofs.SoundVariables.{Doubles, SoundVariable, variables-sound, time-doubles, FateSmall, RoleSmall, fates-small, queue-small, role-small, length-keep}
 use Rattle.builder.proofs.Accepted.{scope, time, flats, answered, answered-of, written-of}
-use Rattle.builder.proofs.Counts.{some-variable, length-each}
+use Rattle.builder.proofs.Counts.{some-variable}
 use Rattle.builder.proofs.Area.{fate-each}
 use Rattle.builder.proofs.Mosts.{within-mosts}
 use Rattle.builder.proofs.ErrorCount.{count-sizes}
@@ -37,17 +39,17 @@ use Rattle.builder.proofs.ListLaws.{place-small}
 -- `names` is the file's count of names
 pub record SoundAnswer (names : ℕ) (a : Answer) : Type 0 where
   pub few-names : names ≤ 256
-  pub stmts : All (SoundFlat names) (a .stmts)
-  pub fates : All (FateSmall (length (a .vars))) (a .fates)
-  pub vars : All (SoundVariable names (length (a .vars))) (a .vars)
-  pub errors : All (SoundError names) (a .errors)
+  pub stmts : Each (SoundFlat names) (a .stmts)
+  pub fates : Each (FateSmall (length (a .vars))) (a .fates)
+  pub vars : Each (SoundVariable names (length (a .vars))) (a .vars)
+  pub errors : Each (SoundError names) (a .errors)
   pub time : Doubles (a .time)
 
 module _ (names : ℕ) (f : File) (m : ℕ) (h : SoundFile names f) where
   abbrev vs : List Variable
   vs = scope f m .vars
 
-  vars-sound : All (SoundVariable names (length vs)) vs
+  vars-sound : Each (SoundVariable names (length vs)) vs
   unfolding scopeOf
   vars-sound = variables-sound names (f .names) (modelAt f m .unknowns) (h .name-count) (h .model m .unknowns)
 
@@ -55,7 +57,7 @@ module _ (names : ℕ) (f : File) (m : ℕ) (h : SoundFile names f) where
   unfolding at noVariable
   var-named v = go vs vars-sound v
     where
-      go : (ws : List Variable) → All (SoundVariable names (length vs)) ws → (v : ℕ) → at ws v .name ≤ names
+      go : (ws : List Variable) → Each (SoundVariable names (length vs)) ws → (v : ℕ) → at ws v .name ≤ names
       go [] x v = omega arith
       go (w ∷ ws) x zero = x .0 .name
       go (w ∷ ws) x (suc v) = go ws (x .1) v
@@ -83,15 +85,15 @@ module _ (names : ℕ) (f : File) (m : ℕ) (h : SoundFile names f) where
         stmts = hq;
         fates = fates-small (length vs) has-t (pairedStates vs rs) rs (queue-small vs rs) (all-map (SoundFlat names) (RoleSmall (length vs)) (roleOf c t) (λ q _. role-small c t q) qs hq);
         vars = vars-sound;
-        errors = all-append (SoundError names) (e₁ ++ e₂ ++ e₃) e₄
-            (all-append (SoundError names) (e₁ ++ e₂) e₃ (all-append (SoundError names) e₁ e₂ (built-errors names f h (length (f .models)) m) (all-each (SoundFlat names) (SoundError names) (roleErrors c t) (role-errors names c t) qs hq))
+        errors = every-append (SoundError names) (e₁ ++ e₂ ++ e₃) e₄
+            (every-append (SoundError names) (e₁ ++ e₂) e₃ (every-append (SoundError names) e₁ e₂ (built-errors names f h (length (f .models)) m) (every-each (SoundError names) (SoundFlat names) (roleErrors c t) (role-errors names c t) qs hq))
             (count-errors names z (leftCount rs) (length (lacking vs rs)) (h .model m .span)))
             (starting-errors names z vs qs fs (h .model m .span) var-named hq);
         time = time-doubles names (f .names) (modelAt f m .unknowns) (h .model m .unknowns);
       }
 
 -- Every accepted answer of a file of bytes is sound.
-pub sound-answer : (file root : List ℕ) (a : Answer) → All Byte file → answer file root ≡ accepted a → (names : ℕ) × SoundAnswer names a
+pub sound-answer : (file root : List ℕ) (a : Answer) → Each Byte file → answer file root ≡ accepted a → (names : ℕ) × SoundAnswer names a
 sound-answer file root a hb h =
     let x = answered-of file root a h in
     let (names, s) = file-sound file (x .tree) hb (x .is-open) in
@@ -114,7 +116,7 @@ op-word o h =
     (λ k. or-either (isSign o) (eqb o 42) k (sign-word o) (λ e. omega (arith, eqb-true o 42 e)))
     (λ e. omega (arith, eqb-true o 47 e))
 
-node-words : (k n o z : ℕ) (s : Span) (b : ℕ) → Word k → Word n → Word o → Word z → Spanned s → Double b → All Word (node k n o z s b)
+node-words : (k n o z : ℕ) (s : Span) (b : ℕ) → Word k → Word n → Word o → Word z → Spanned s → Double b → Each Word (node k n o z s b)
 unfolding node low high
 node-words k n o z s b hk hn ho hz hs hb = (hk, (hn, (ho, (hz, (hs .0, (hs .1, (omega arith, (omega arith, tt))))))))
 
@@ -125,36 +127,36 @@ module _ (names : ℕ) (few : names ≤ 256) where
   mutual
     unfolding nodes size
 
-    nodes-words : (e : Expr) → Sound names e → size e ≤ 1024 → All (All Word) (nodes e)
+    nodes-words : (e : Expr) → Sound names e → size e ≤ 1024 → Each (Each Word) (nodes e)
     nodes-words (name n s) x h = (node-words 1 n 0 1 s 0 (omega arith) (name-word n (x .0 .0)) (omega arith) (omega arith) (x .1) (omega arith), tt)
     nodes-words (number b s) x h = (node-words 2 0 0 1 s b (omega arith) (omega arith) (omega arith) (omega arith) (x .1 .1) (x .1 .0), tt)
     nodes-words (binary o l r s) x h =
-        all-append (All Word) (nodes l ++ nodes r) _
-        (all-append (All Word) (nodes l) (nodes r) (nodes-words l (x .0 .0, x .1 .0) (omega arith)) (nodes-words r (x .0 .1, x .1 .1) (omega arith)))
+        every-append (Each Word) (nodes l ++ nodes r) _
+        (every-append (Each Word) (nodes l) (nodes r) (nodes-words l (x .0 .0, x .1 .0) (omega arith)) (nodes-words r (x .0 .1, x .1 .1) (omega arith)))
         (node-words 3 0 o (1 + size l + size r) s 0 (omega arith) (omega arith) (op-word o (x .0 .2)) (omega arith) (x .1 .2) (omega arith), tt)
     nodes-words (unary o e s) x h =
-        all-append (All Word) (nodes e) _ (nodes-words e (x .0 .0, x .1 .0) (omega arith))
+        every-append (Each Word) (nodes e) _ (nodes-words e (x .0 .0, x .1 .0) (omega arith))
         (node-words 4 0 o (1 + size e) s 0 (omega arith) (omega arith) (sign-word o (x .0 .1)) (omega arith) (x .1 .1) (omega arith), tt)
     nodes-words (call f a s) x h =
-        all-append (All Word) (argNodes a) _ (args-words a (x .0 .0, x .1 .0) (omega arith))
+        every-append (Each Word) (argNodes a) _ (args-words a (x .0 .0, x .1 .0) (omega arith))
         (node-words 5 f (count a) (1 + sizes a) s 0 (omega arith) (name-word f (x .0 .1)) (omega (arith, count-sizes a)) (omega arith) (x .1 .1) (omega arith), tt)
 
-    args-words : (a : Args) → SoundArgs names a → sizes a ≤ 1024 → All (All Word) (argNodes a)
+    args-words : (a : Args) → SoundArgs names a → sizes a ≤ 1024 → Each (Each Word) (argNodes a)
     args-words empty x h = tt
     args-words (snoc a k e s) x h =
-        all-append (All Word) (argNodes a ++ nodes e) _
-        (all-append (All Word) (argNodes a) (nodes e) (args-words a (x .0 .0, x .1 .0) (omega arith)) (nodes-words e (x .0 .1, x .1 .1) (omega arith)))
+        every-append (Each Word) (argNodes a ++ nodes e) _
+        (every-append (Each Word) (argNodes a) (nodes e) (args-words a (x .0 .0, x .1 .0) (omega arith)) (nodes-words e (x .0 .1, x .1 .1) (omega arith)))
         (node-words 6 k 0 (1 + size e) s 0 (omega arith) (omega (arith, leb-true k names (x .0 .2))) (omega arith) (omega arith) (x .1 .2) (omega arith), tt)
 
-  flat-nodes-words : (q : Flat) → SoundFlat names q → flatSize q ≤ 1024 → All (All Word) (flatNodes q)
+  flat-nodes-words : (q : Flat) → SoundFlat names q → flatSize q ≤ 1024 → Each (Each Word) (flatNodes q)
   unfolding flatNodes flatSize
-  flat-nodes-words (equation l r s) x h = all-append (All Word) (nodes l) (nodes r) (nodes-words l (x .0) (omega arith)) (nodes-words r (x .1) (omega arith))
+  flat-nodes-words (equation l r s) x h = every-append (Each Word) (nodes l) (nodes r) (nodes-words l (x .0) (omega arith)) (nodes-words r (x .1) (omega arith))
   flat-nodes-words (rate n r s) x h = nodes-words r (x .1) h
 
-  all-nodes-words : (qs : List Flat) → All (SoundFlat names) qs → sumOf flatSize qs ≤ 1024 → All (All Word) (each flatNodes qs)
+  all-nodes-words : (qs : List Flat) → Each (SoundFlat names) qs → sumOf flatSize qs ≤ 1024 → Each (Each Word) (each flatNodes qs)
   unfolding each sumOf
   all-nodes-words [] x h = tt
-  all-nodes-words (q ∷ qs) x h = all-append (All Word) (flatNodes q) (each flatNodes qs) (flat-nodes-words q (x .0) (omega arith)) (all-nodes-words qs (x .1) (omega arith))
+  all-nodes-words (q ∷ qs) x h = every-append (Each Word) (flatNodes q) (each flatNodes qs) (flat-nodes-words q (x .0) (omega arith)) (all-nodes-words qs (x .1) (omega arith))
 
   -- ---- statements, of which the variables are below k
 
@@ -166,12 +168,12 @@ module _ (names : ℕ) (few : names ≤ 256) where
   fate-word leftOver = omega arith
 
   module _ (k : ℕ) (fk : k ≤ 129) where
-    flat-words : (first : ℕ) (q : Flat) (x : Fate) → SoundFlat names q → FateSmall k x → first + flatSize q ≤ 1024 → All Word (flatWords first q x)
+    flat-words : (first : ℕ) (q : Flat) (x : Fate) → SoundFlat names q → FateSmall k x → first + flatSize q ≤ 1024 → Each Word (flatWords first q x)
     unfolding flatWords flatSize
     flat-words first (equation l r s) x y z h = (omega arith, (omega arith, (omega arith, (omega arith, (y .2 .1 .0, (y .2 .1 .1, (fate-word x, (omega arith, tt))))))))
     flat-words first (rate n r s) x y z h = (omega arith, (name-word n (y .0), (omega arith, (omega arith, (y .2 .1 .0, (y .2 .1 .1, (fate-word x, (omega arith, tt))))))))
 
-    flats-words : (first : ℕ) (qs : List Flat) (xs : List Fate) → All (SoundFlat names) qs → All (FateSmall k) xs → first + sumOf flatSize qs ≤ 1024 → All (All Word) (flatRecords first qs xs)
+    flats-words : (first : ℕ) (qs : List Flat) (xs : List Fate) → Each (SoundFlat names) qs → Each (FateSmall k) xs → first + sumOf flatSize qs ≤ 1024 → Each (Each Word) (flatRecords first qs xs)
     unfolding flatRecords sumOf
     flats-words first [] xs y z h = tt
     flats-words first (q ∷ qs) [] y z h = tt
@@ -179,13 +181,13 @@ module _ (names : ℕ) (few : names ≤ 256) where
 
   -- ---- errors
 
-  error-words : (e : Error) → SoundError names e → All Word (errorWords e)
+  error-words : (e : Error) → SoundError names e → Each Word (errorWords e)
   unfolding errorWords
   error-words e x = (omega (arith, x .kind), (x .span .1 .0, (x .span .1 .1, (omega (arith, x .name), tt))))
 
 -- ---- variables
 
-bounds-words : (b : Bounds) → Doubles b → All Word (boundsWords b)
+bounds-words : (b : Bounds) → Doubles b → Each Word (boundsWords b)
 unfolding boundsWords low high
 bounds-words b h = (omega (arith, h .0), (omega (arith, h .0), (omega (arith, h .1), (omega (arith, h .1), tt))))
 
@@ -213,12 +215,12 @@ module _ (names : ℕ) (few : names ≤ 256) (a : Answer) (most : length (a .fat
   unfolding conditions
   conditions-small i = omega (arith, length-keep (isInitialOf i) (a .fates))
 
-  variable-words : (i first : ℕ) (v : Variable) → SoundVariable names (length (a .vars)) v → first + length (v .deps) ≤ 1024 → All Word (variableWords a i first v)
+  variable-words : (i first : ℕ) (v : Variable) → SoundVariable names (length (a .vars)) v → first + length (v .deps) ≤ 1024 → Each Word (variableWords a i first v)
   unfolding variableWords
   variable-words i first v x h =
       (omega (arith, x .name), (flag-word (isState v), (omega (arith, index-small v), (omega arith, (omega arith, (omega (arith, held-small i), (omega (arith, conditions-small i), (flag-word (timeDependent (a .vars) i), bounds-words (v .bounds) (x .bounds)))))))))
 
-  variables-words : (i first : ℕ) (vs : List Variable) → All (SoundVariable names (length (a .vars))) vs → first + sumOf (λ v. length (v .deps)) vs ≤ 1024 → All (All Word) (variableRecords a i first vs)
+  variables-words : (i first : ℕ) (vs : List Variable) → Each (SoundVariable names (length (a .vars))) vs → first + sumOf (λ v. length (v .deps)) vs ≤ 1024 → Each (Each Word) (variableRecords a i first vs)
   unfolding variableRecords sumOf
   variables-words i first [] x h = tt
   variables-words i first (v ∷ vs) x h = (variable-words i first v (x .0) (omega arith), variables-words (suc i) (first + length (v .deps)) vs (x .1) (omega arith))
@@ -226,34 +228,34 @@ module _ (names : ℕ) (few : names ≤ 256) (a : Answer) (most : length (a .fat
 -- ---- the whole
 
 module _ (names : ℕ) (a : Answer) (x : SoundAnswer names a) (w : WithinMosts a) (same : length (a .fates) ≡ length (a .stmts)) where
-  header-words : All Word (header a)
+  header-words : Each Word (header a)
   unfolding header
   header-words =
       (omega (arith, w .nodes), (omega (arith, w .stmts), (omega (arith, w .vars), (omega (arith, w .deps), (w .errors, (omega (arith, w .instances), bounds-words (a .time) (x .time)))))))
 
-  deps-words : All Word (depsOf a)
+  deps-words : Each Word (depsOf a)
   unfolding depsOf
   deps-words =
-      all-each (SoundVariable names (length (a .vars))) Word (λ v. v .deps)
+      every-each Word (SoundVariable names (length (a .vars))) (λ v. v .deps)
       (λ v y. all-weak (λ (d : ℕ). d < length (a .vars)) Word (λ d l. omega (arith, w .vars)) (v .deps) (y .deps)) (a .vars) (x .vars)
 
   deps-sum : sumOf (λ v. length (v .deps)) (a .vars) ≤ 1024
   unfolding depsOf
   deps-sum = omega (arith, w .deps, length-each (λ (v : Variable). v .deps) (a .vars))
 
-  word-bytes : (n : ℕ) → Word n → All Byte (bytes4 n)
+  word-bytes : (n : ℕ) → Word n → Each Byte (bytes4 n)
   unfolding bytes4
   word-bytes n h = (omega arith, (omega arith, (omega arith, (omega arith, tt))))
 
-  words-bytes : (ws : List ℕ) → All Word ws → All Byte (bytesOf ws)
+  words-bytes : (ws : List ℕ) → Each Word ws → Each Byte (bytesOf ws)
   unfolding bytesOf
-  words-bytes ws h = all-each Word Byte bytes4 word-bytes ws h
+  words-bytes ws h = every-each Byte Word bytes4 word-bytes ws h
 
-  records-bytes : (rs : List (List ℕ)) → All (All Word) rs → All Byte (encode rs)
+  records-bytes : (rs : List (List ℕ)) → Each (Each Word) rs → Each Byte (encode rs)
   unfolding encode
-  records-bytes rs h = all-each (All Word) Byte bytesOf words-bytes rs h
+  records-bytes rs h = every-each Byte (Each Word) bytesOf words-bytes rs h
 
-  area-bytes : All Byte (answerBytes a)
+  area-bytes : Each Byte (answerBytes a)
   unfolding answerBytes areaBytes areaOf nodeCount
   area-bytes =
       let h = bytesOf (header a) in
@@ -262,19 +264,19 @@ module _ (names : ℕ) (a : Answer) (x : SoundAnswer names a) (w : WithinMosts a
       let v = encode (variableRecords a 0 0 (a .vars)) in
       let d = bytesOf (depsOf a) in
       let e = encode (map errorWords (take 256 (a .errors))) in
-      all-append Byte (h ++ n ++ s ++ v ++ d) e
-      (all-append Byte (h ++ n ++ s ++ v) d
-      (all-append Byte (h ++ n ++ s) v
-      (all-append Byte (h ++ n) s
-      (all-append Byte h n (words-bytes (header a) header-words) (records-bytes _ (all-nodes-words names (x .few-names) (a .stmts) (x .stmts) (w .nodes))))
+      every-append Byte (h ++ n ++ s ++ v ++ d) e
+      (every-append Byte (h ++ n ++ s ++ v) d
+      (every-append Byte (h ++ n ++ s) v
+      (every-append Byte (h ++ n) s
+      (every-append Byte h n (words-bytes (header a) header-words) (records-bytes _ (all-nodes-words names (x .few-names) (a .stmts) (x .stmts) (w .nodes))))
       (records-bytes _ (flats-words names (x .few-names) (length (a .vars)) (w .vars) 0 (a .stmts) (a .fates) (x .stmts) (x .fates) (omega (arith, w .nodes)))))
       (records-bytes _ (variables-words names (x .few-names) a (omega (arith, w .stmts)) 0 0 (a .vars) (x .vars) (omega (arith, deps-sum)))))
       (words-bytes (depsOf a) deps-words))
-      (records-bytes _ (all-map (SoundError names) (All Word) errorWords (error-words names (x .few-names)) (take 256 (a .errors)) (all-take (SoundError names) 256 (a .errors) (x .errors))))
+      (records-bytes _ (all-map (SoundError names) (Each Word) errorWords (error-words names (x .few-names)) (take 256 (a .errors)) (all-take (SoundError names) 256 (a .errors) (x .errors))))
 
 -- ---- of every accepted build
 
-true-all : {A : Type 0} (P : A → Type 0) (t : A → Bool) → ((y : A) → P y → t y ≡ true) → (xs : List A) → All P xs → all t xs ≡ true
+true-all : {A : Type 0} (P : A → Type 0) (t : A → Bool) → ((y : A) → P y → t y ≡ true) → (xs : List A) → Each P xs → all t xs ≡ true
 unfolding all
 true-all P t k [] h = refl
 true-all P t k (y ∷ xs) h = rw (k y (h .0)) (true-all P t k xs (h .1))

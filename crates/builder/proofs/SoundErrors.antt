@@ -11,6 +11,8 @@ use borrow.Author.Tests.{ltb-true, leb-true}
 use Rattle.functions.specs.Lists.{each, place, unless}
 use Rattle.ast.specs.Tree.{Span, Expr, name, number, binary, unary, call, Args, empty, snoc, Flat, equation, rate, Stmt, own, submodel, Domain, unstated, range, named, Unknown, File, count}
 use Rattle.ast.specs.Words.{inOrder}
+use Rattle.ast.specs.WellFormed.{Each}
+use Rattle.ast.proofs.FromBytes.{every-append, every-each}
 use Rattle.builder.specs.Numbers.{countAgainstTable, countAgainstVariable, underdetermined, overdetermined}
 use Rattle.builder.specs.Names.{isBuiltIn, allowsCount}
 use Rattle.builder.specs.Variables.{Error, error, Bounds, Variable, at, timeIndex, domainErrors, unknownErrors}
@@ -18,7 +20,7 @@ use Rattle.builder.specs.Check.{Scope, lookup, depNames, countFits, keyw
 use Rattle.builder.specs.Flatten.{modelNamed, modelAt, scopeOf, orderErrors, subErrors, stmtErrors, errorsOf}
 use Rattle.builder.specs.Roles.{Start, argAt, numberIn, startOf, startErrors, rateErrors, roleErrors}
 use Rattle.builder.specs.Allocate.{Fate, exprSpan, rightSpan, noFlat, rightSpanAt, numbersFrom, countErrors, isHeldBy, isInitialOf, heldErrors, stateErrors, startingErrors}
-use Rattle.builder.proofs.Everywhere.{If, if-bind, if-any, All, all-append, all-unless, all-cond, all-each, all-every}
+use Rattle.builder.proofs.Everywhere.{If, if-bind, if-any, all-unless, all-cond, all-every}
 use Rattle.builder.proofs.Sound.{Sound, SoundArgs, SoundSpan, SoundFlat, SoundStmt}
 use Rattle.builder.proofs.SoundFile.{SoundDomain, SoundUnknown, SoundFile}
 
@@ -30,7 +32,7 @@ module _ (names : ℕ) where
     pub name : e .name ≤ names
 
   abbrev Errs : List Error → Type 0
-  Errs es = All SoundError es
+  Errs es = Each SoundError es
 
   make : (k : ℕ) (s : Span) (n : ℕ) → 1 ≤ k → k ≤ 17 → SoundSpan names s → n ≤ names → SoundError (error k s n)
   unfolding error
@@ -53,7 +55,7 @@ module _ (names : ℕ) where
   unknown-errors : (ns : List (List ℕ)) (u : Unknown) → SoundUnknown names u → Errs (unknownErrors ns u)
   unfolding unknownErrors
   unknown-errors ns u h =
-      all-append SoundError (domainErrors ns (u .span) (u .domain)) _ (domain-sound ns (u .span) (u .domain) (h .span) (h .domain))
+      every-append SoundError (domainErrors ns (u .span) (u .domain)) _ (domain-sound ns (u .span) (u .domain) (h .span) (h .domain))
       (all-unless SoundError _ _ (make 2 (u .span) (suc (u .name)) (omega arith) (omega arith) (h .span) (named-by (u .name) (h .name))))
 
   -- ---- expressions
@@ -69,22 +71,22 @@ module _ (names : ℕ) where
   keywords-sound empty x = tt
   keywords-sound (snoc a zero e s) x = keywords-sound a (before a 0 e s x)
   keywords-sound (snoc a (suc k) e s) x =
-      all-append SoundError (keywordErrors a) _ (keywords-sound a (before a (suc k) e s x)) (make 7 s (suc k) (omega arith) (omega arith) (arg-span a (suc k) e s x) (keyword-by (suc k) (x .0 .2)), tt)
+      every-append SoundError (keywordErrors a) _ (keywords-sound a (before a (suc k) e s x)) (make 7 s (suc k) (omega arith) (omega arith) (arg-span a (suc k) e s x) (keyword-by (suc k) (x .0 .2)), tt)
 
   dependents-sound : (ds : List ℕ) (a : Args) → SoundArgs names a → Errs (dependentErrors ds a)
   unfolding dependentErrors
   dependents-sound ds empty x = tt
   dependents-sound ds (snoc a zero e s) x =
-      all-append SoundError (dependentErrors ds a) _ (dependents-sound ds a (before a 0 e s x)) (all-unless SoundError _ _ (make 10 s 0 (omega arith) (omega arith) (arg-span a 0 e s x) (omega arith)))
+      every-append SoundError (dependentErrors ds a) _ (dependents-sound ds a (before a 0 e s x)) (all-unless SoundError _ _ (make 10 s 0 (omega arith) (omega arith) (arg-span a 0 e s x) (omega arith)))
   dependents-sound ds (snoc a (suc k) e s) x =
-      all-append SoundError (dependentErrors ds a) _ (dependents-sound ds a (before a (suc k) e s x))
+      every-append SoundError (dependentErrors ds a) _ (dependents-sound ds a (before a (suc k) e s x))
       (all-unless SoundError _ _ (make 9 s (suc k) (omega arith) (omega arith) (arg-span a (suc k) e s x) (keyword-by (suc k) (x .0 .2))))
 
   order-sound : (a : Args) → SoundArgs names a → Errs (orderErrors a)
   unfolding orderErrors
   order-sound empty x = tt
   order-sound (snoc a zero e s) x =
-      all-append SoundError (orderErrors a) _ (order-sound a (before a 0 e s x)) (all-unless SoundError _ _ (make 4 s 0 (omega arith) (omega arith) (arg-span a 0 e s x) (omega arith)))
+      every-append SoundError (orderErrors a) _ (order-sound a (before a 0 e s x)) (all-unless SoundError _ _ (make 4 s 0 (omega arith) (omega arith) (arg-span a 0 e s x) (omega arith)))
   order-sound (snoc a (suc k) e s) x = order-sound a (before a (suc k) e s x)
 
   module _ (c : Scope) where
@@ -94,7 +96,7 @@ module _ (names : ℕ) where
     variable-sound f a s (some v) n x h =
         let b = countFits c v a in
         let e = error countAgainstVariable s (suc f) in
-        all-append SoundError (unless b e) (dependentErrors (depNames c v) a) (all-unless SoundError b e (make 8 s (suc f) (omega arith) (omega arith) h n)) (dependents-sound (depNames c v) a x)
+        every-append SoundError (unless b e) (dependentErrors (depNames c v) a) (all-unless SoundError b e (make 8 s (suc f) (omega arith) (omega arith) h n)) (dependents-sound (depNames c v) a x)
 
     call-sound : (f : ℕ) (a : Args) (s : Span) → suc f ≤ names → SoundArgs names a → SoundSpan names s → Errs (callErrors c f a s)
     unfolding callErrors
@@ -102,7 +104,7 @@ module _ (names : ℕ) where
         let b = allowsCount (c .names) f (count a) in
         let e = error countAgainstTable s (suc f) in
         let d = isBuiltIn (c .names) f in
-        all-append SoundError (unless b e) (cond d (keywordErrors a) (variableErrors c f a s (lookup c f))) (all-unless SoundError b e (make 6 s (suc f) (omega arith) (omega arith) h n))
+        every-append SoundError (unless b e) (cond d (keywordErrors a) (variableErrors c f a s (lookup c f))) (all-unless SoundError b e (make 6 s (suc f) (omega arith) (omega arith) h n))
         (all-cond SoundError d (keywordErrors a) (variableErrors c f a s (lookup c f)) (keywords-sound a x) (variable-sound f a s (lookup c f) n x h))
 
     mutual
@@ -111,18 +113,18 @@ module _ (names : ℕ) where
       expr-errors : (e : Expr) → Sound names e → Errs (exprErrors c e)
       expr-errors (name n s) x = all-unless SoundError _ _ (make 5 s (suc n) (omega arith) (omega arith) (x .0 .1, x .1) (named-by n (x .0 .0)))
       expr-errors (number b s) x = tt
-      expr-errors (binary o l r s) x = all-append SoundError (exprErrors c l) (exprErrors c r) (expr-errors l (x .0 .0, x .1 .0)) (expr-errors r (x .0 .1, x .1 .1))
+      expr-errors (binary o l r s) x = every-append SoundError (exprErrors c l) (exprErrors c r) (expr-errors l (x .0 .0, x .1 .0)) (expr-errors r (x .0 .1, x .1 .1))
       expr-errors (unary o e s) x = expr-errors e (x .0 .0, x .1 .0)
       expr-errors (call f a s) x =
-          all-append SoundError (callErrors c f a s) (argsErrors c a) (call-sound f a s (named-by f (x .0 .1)) (x .0 .0, x .1 .0) (x .0 .2, x .1 .1)) (args-errors a (x .0 .0, x .1 .0))
+          every-append SoundError (callErrors c f a s) (argsErrors c a) (call-sound f a s (named-by f (x .0 .1)) (x .0 .0, x .1 .0) (x .0 .2, x .1 .1)) (args-errors a (x .0 .0, x .1 .0))
 
       args-errors : (a : Args) → SoundArgs names a → Errs (argsErrors c a)
       args-errors empty x = tt
-      args-errors (snoc a k e s) x = all-append SoundError (argsErrors c a) (exprErrors c e) (args-errors a (x .0 .0, x .1 .0)) (expr-errors e (x .0 .1, x .1 .1))
+      args-errors (snoc a k e s) x = every-append SoundError (argsErrors c a) (exprErrors c e) (args-errors a (x .0 .0, x .1 .0)) (expr-errors e (x .0 .1, x .1 .1))
 
     flat-errors : (q : Flat) → SoundFlat names q → Errs (flatErrors c q)
     unfolding flatErrors
-    flat-errors (equation l r s) x = all-append SoundError (exprErrors c r) (exprErrors c l) (expr-errors r (x .1)) (expr-errors l (x .0))
+    flat-errors (equation l r s) x = every-append SoundError (exprErrors c r) (exprErrors c l) (expr-errors r (x .1)) (expr-errors l (x .0))
     flat-errors (rate n r s) x = expr-errors r (x .1)
 
   -- ---- models
@@ -131,7 +133,7 @@ module _ (names : ℕ) where
     sub-errors : (sub : ℕ → List Error) → ((m : ℕ) → Errs (sub m)) → (n : ℕ) (a : Args) (s : Span) (o : Option ℕ) → suc n ≤ names → SoundArgs names a → SoundSpan names s → Errs (subErrors f sub n a s o)
     unfolding subErrors
     sub-errors sub k n a s none y x z = (make 3 s (suc n) (omega arith) (omega arith) z y, tt)
-    sub-errors sub k n a s (some m) y x z = all-append SoundError (sub m) (orderErrors a) (k m) (order-sound a x)
+    sub-errors sub k n a s (some m) y x z = every-append SoundError (sub m) (orderErrors a) (k m) (order-sound a x)
 
     stmt-errors : (sub : ℕ → List Error) → ((m : ℕ) → Errs (sub m)) → (c : Scope) (q : Stmt) → SoundStmt names q → Errs (stmtErrors f sub c q)
     unfolding stmtErrors
@@ -142,9 +144,9 @@ module _ (names : ℕ) where
     unfolding errorsOf
     built-errors zero m = tt
     built-errors (suc k) m =
-        all-append SoundError (each (unknownErrors (f .names)) (modelAt f m .unknowns)) (each (stmtErrors f (λ j. errorsOf f k j) (scopeOf f (modelAt f m))) (modelAt f m .stmts))
-        (all-each (SoundUnknown names) SoundError _ (unknown-errors (f .names)) (modelAt f m .unknowns) (h .model m .unknowns))
-        (all-each (SoundStmt names) SoundError _ (stmt-errors (λ j. errorsOf f k j) (λ j. built-errors k j) (scopeOf f (modelAt f m))) (modelAt f m .stmts) (h .model m .stmts))
+        every-append SoundError (each (unknownErrors (f .names)) (modelAt f m .unknowns)) (each (stmtErrors f (λ j. errorsOf f k j) (scopeOf f (modelAt f m))) (modelAt f m .stmts))
+        (every-each SoundError (SoundUnknown names) _ (unknown-errors (f .names)) (modelAt f m .unknowns) (h .model m .unknowns))
+        (every-each SoundError (SoundStmt names) _ (stmt-errors (λ j. errorsOf f k j) (λ j. built-errors k j) (scopeOf f (modelAt f m))) (modelAt f m .stmts) (h .model m .stmts))
 
   -- ---- roles
 
@@ -215,17 +217,17 @@ module _ (names : ℕ) where
   unfolding rightSpan noFlat exprSpan inOrder
   none-span = (refl, (omega arith, omega arith))
 
-  spans-sound : (qs : List Flat) → All (SoundFlat names) qs → (i : ℕ) → SoundSpan names (rightSpan (getD qs i noFlat))
+  spans-sound : (qs : List Flat) → Each (SoundFlat names) qs → (i : ℕ) → SoundSpan names (rightSpan (getD qs i noFlat))
   spans-sound [] h i = none-span
   spans-sound (q ∷ qs) h zero = right-span q (h .0)
   spans-sound (q ∷ qs) h (suc i) = spans-sound qs (h .1) i
 
-  first-span : (qs : List Flat) → All (SoundFlat names) qs → (o : Option ℕ) → SoundSpan names (rightSpanAt qs o)
+  first-span : (qs : List Flat) → Each (SoundFlat names) qs → (o : Option ℕ) → SoundSpan names (rightSpanAt qs o)
   unfolding rightSpanAt
   first-span qs h none = none-span
   first-span qs h (some i) = spans-sound qs h i
 
-  module _ (model : Span) (vs : List Variable) (qs : List Flat) (fs : List Fate) (hm : SoundSpan names model) (hv : (v : ℕ) → at vs v .name ≤ names) (hq : All (SoundFlat names) qs) where
+  module _ (model : Span) (vs : List Variable) (qs : List Flat) (fs : List Fate) (hm : SoundSpan names model) (hv : (v : ℕ) → at vs v .name ≤ names) (hq : Each (SoundFlat names) qs) where
     held-errors : (v : ℕ) (q : Flat) → Errs (heldErrors model vs qs fs v q)
     unfolding heldErrors
     held-errors v (equation l r s) = all-unless SoundError _ _ (make 17 _ _ (omega arith) (omega arith) (first-span qs hq (place (isInitialOf v) fs)) (hv v))
@@ -238,4 +240,4 @@ module _ (names : ℕ) where
 
     pub starting-errors : Errs (startingErrors model vs qs fs)
     unfolding startingErrors
-    starting-errors = all-each (λ (v : ℕ). Unit {0}) SoundError _ (λ v _. state-errors v (place (isHeldBy v) fs)) (numbersFrom 0 vs) (all-every _ (λ v. tt) (numbersFrom 0 vs))
+    starting-errors = every-each SoundError (λ (v : ℕ). Unit {0}) _ (λ v _. state-errors v (place (isHeldBy v) fs)) (numbersFrom 0 vs) (all-every _ (λ v. tt) (numbersFrom 0 vs))

@@ -13,27 +13,29 @@ use Rattle.ast.specs.Words.{wordOf, blank, inOrder}
 use Rattle.ast.specs.Nodes.{opAt, sizeAt, treeAt, argsBefore, nodesFit}
 use Rattle.ast.specs.Records.{depCount, firstDep, nameOfUnknown, domainKind, domainName, spanOfUnknown, domainFits, domainOf, unknownFits, unknownsFit, unknownOf, leftTop, rightTop, spanOfStmt, topFits, stmtFits, stmtsFit, stmtOf, nameOfModel, firstUnknown, unknownCount, firstStmt, stmtCount, spanOfModel, modelFits, modelsFit, modelOf}
 use Rattle.ast.specs.File.{namesAt, nodesAt, unknownsAt, stmtsAt, modelsAt, Contents, contentsOf, fileOf, openFile, opened}
+use Rattle.ast.specs.WellFormed.{Each}
 use Rattle.ast.proofs.Fields.{length-section}
 use Rattle.ast.proofs.Trailers.{is-within}
 use Rattle.ast.proofs.Fitting.{node-ok}
 use Rattle.ast.proofs.Formed.{tree-formed, args-formed}
 use Rattle.ast.proofs.Files.{Parts, parts, is-open, top-is, equation-tops, rate-top, submodel-top}
+use Rattle.ast.proofs.FromBytes.{every-each}
 use Rattle.builder.specs.Flatten.{noModel, modelNamed, modelAt, replacements, replacedName, subFlats, stmtFlats, flatten}
 use Rattle.builder.proofs.Arguments.{replaced-last}
-use Rattle.builder.proofs.Everywhere.{All, all-take, all-drop, all-getD, all-map, all-each}
+use Rattle.builder.proofs.Everywhere.{all-take, all-drop, all-getD, all-map}
 use Rattle.builder.proofs.Sound.{Word, Byte, section-small, span-small, float-small, Double, expr-worded, args-worded, Sound, SoundArgs, SoundSpan, SoundFlat, SoundStmt, SoundIf, flat-sound}
 use Rattle.builder.proofs.StmtKinds.{stmt-cases}
 
 -- ---- one statement's record
 
-module _ (names limit : ℕ) (ns : List (List ℕ)) (ok : nodesFit names ns limit ≡ true) (small : All (All Word) ns) where
+module _ (names limit : ℕ) (ns : List (List ℕ)) (ok : nodesFit names ns limit ≡ true) (small : Each (Each Word) ns) where
   tree-sound : (first top : ℕ) → topFits limit ns first top ≡ true → Sound names (treeAt ns top)
   unfolding treeAt
   tree-sound first top h =
       let (l, x, _) = top-is names limit ns first top h in
       (tree-formed names ns limit ok top l x, expr-worded ns small (sizeAt ns top) top)
 
-  module _ (first : ℕ) (r : List ℕ) (h : stmtFits names limit ns first r ≡ true) (hr : All Word r) where
+  module _ (first : ℕ) (r : List ℕ) (h : stmtFits names limit ns first r ≡ true) (hr : Each Word r) where
     stmt-span : SoundSpan names (spanOfStmt r)
     unfolding stmtFits
     stmt-span = (and-both (inOrder (spanOfStmt r)) _ h .0, span-small r 4 hr)
@@ -50,7 +52,7 @@ module _ (names limit : ℕ) (ns : List (List ℕ)) (ok : nodesFit names ns limi
         let o = node-ok names ns limit ok i l in
         (o .call-name five, (args-formed names ns limit ok i (opAt ns i) (sizeAt ns i - 1) (omega arith) (o .call five), args-worded ns small (sizeAt ns i - 1) i (opAt ns i)), stmt-span))
 
-  stmts-sound : (first : ℕ) (rs : List (List ℕ)) → stmtsFit names limit ns first rs ≡ true → All (All Word) rs → All (SoundStmt names) (map (stmtOf ns) rs)
+  stmts-sound : (first : ℕ) (rs : List (List ℕ)) → stmtsFit names limit ns first rs ≡ true → Each (Each Word) rs → Each (SoundStmt names) (map (stmtOf ns) rs)
   unfolding stmtsFit
   stmts-sound first [] h g = tt
   stmts-sound first (r ∷ rs) h g =
@@ -70,7 +72,7 @@ module _ (names : ℕ) where
     pub domain : SoundDomain (u .domain)
     pub span : SoundSpan names (u .span)
 
-  by-domain : (r : List ℕ) → All Word r → (b d e : Bool) → eqb (domainKind r) 0 ≡ b → eqb (domainKind r) 1 ≡ d → eqb (domainKind r) 2 ≡ e → domainFits names r ≡ true
+  by-domain : (r : List ℕ) → Each Word r → (b d e : Bool) → eqb (domainKind r) 0 ≡ b → eqb (domainKind r) 1 ≡ d → eqb (domainKind r) 2 ≡ e → domainFits names r ≡ true
       → SoundDomain (cond b unstated (cond d (range (Rattle.ast.specs.Words.floatFrom r 4) (Rattle.ast.specs.Words.floatFrom r 6)) (named (domainName r))))
   unfolding domainFits
   by-domain r g true d e h₁ h₂ h₃ h = tt
@@ -80,7 +82,7 @@ module _ (names : ℕ) where
       and-both _ _ (and-both _ (blank r 6) h₄ .0) .0
   by-domain r g false false false h₁ h₂ h₃ h = let h₄ : false ≡ true = rw (h₁, h₂, h₃) at h in clash (cc)
 
-  unknown-sound : (limit first : ℕ) (deps r : List ℕ) → unknownFits names limit first r ≡ true → All Word r → SoundUnknown (unknownOf deps r)
+  unknown-sound : (limit first : ℕ) (deps r : List ℕ) → unknownFits names limit first r ≡ true → Each Word r → SoundUnknown (unknownOf deps r)
   unfolding unknownFits unknownOf domainOf
   unknown-sound limit first deps r h g =
       let (h₁, s) = and-both _ (inOrder (spanOfUnknown r)) h in
@@ -89,7 +91,7 @@ module _ (names : ℕ) where
       let (n, _) = and-both (ltb (nameOfUnknown r) names) (eqb (firstDep r) first) h₃ in
       record { name = n; domain = by-domain r g _ _ _ refl refl refl d; span = (s, span-small r 8 g) }
 
-  unknowns-sound : (limit first : ℕ) (deps : List ℕ) (rs : List (List ℕ)) → unknownsFit names limit first rs ≡ true → All (All Word) rs → All SoundUnknown (map (unknownOf deps) rs)
+  unknowns-sound : (limit first : ℕ) (deps : List ℕ) (rs : List (List ℕ)) → unknownsFit names limit first rs ≡ true → Each (Each Word) rs → Each SoundUnknown (map (unknownOf deps) rs)
   unfolding unknownsFit
   unknowns-sound limit first deps [] h g = tt
   unknowns-sound limit first deps (r ∷ rs) h g =
@@ -99,8 +101,8 @@ module _ (names : ℕ) where
   -- ---- models
 
   pub record SoundModel (m : Model) : Type 0 where
-    pub unknowns : All SoundUnknown (m .unknowns)
-    pub stmts : All (SoundStmt names) (m .stmts)
+    pub unknowns : Each SoundUnknown (m .unknowns)
+    pub stmts : Each (SoundStmt names) (m .stmts)
     pub span : SoundSpan names (m .span)
 
   none-sound : SoundModel noModel
@@ -112,8 +114,8 @@ module _ (names : ℕ) where
   model-span limit stmts u q r h =
       and-both (ltb (nameOfModel r) names && eqb (firstUnknown r) u && leb (u + unknownCount r) limit && eqb (firstStmt r) q && leb (q + stmtCount r) stmts) (inOrder (spanOfModel r)) h .1
 
-  module _ (us : List Unknown) (qs : List Stmt) (hu : All SoundUnknown us) (hq : All (SoundStmt names) qs) where
-    models-sound : (limit stmts u q : ℕ) (rs : List (List ℕ)) → modelsFit names limit stmts u q rs ≡ true → All (All Word) rs → All SoundModel (map (modelOf us qs) rs)
+  module _ (us : List Unknown) (qs : List Stmt) (hu : Each SoundUnknown us) (hq : Each (SoundStmt names) qs) where
+    models-sound : (limit stmts u q : ℕ) (rs : List (List ℕ)) → modelsFit names limit stmts u q rs ≡ true → Each (Each Word) rs → Each SoundModel (map (modelOf us qs) rs)
     unfolding modelsFit modelFits modelOf
     models-sound limit stmts u q [] h g = tt
     models-sound limit stmts u q (r ∷ rs) h g =
@@ -135,7 +137,7 @@ pub record SoundFile (names : ℕ) (f : File) : Type 0 where
   pub name-count : length (f .names) ≡ names
   pub model : (m : ℕ) → SoundModel names (modelAt f m)
 
-contents-sound : (s : Contents) → Parts s → s .counts .names ≤ 256 → length (s .names) ≡ s .counts .names → All (All Word) (s .nodes) → All (All Word) (s .unknowns) → All (All Word) (s .stmts) → All (All Word) (s .models)
+contents-sound : (s : Contents) → Parts s → s .counts .names ≤ 256 → length (s .names) ≡ s .counts .names → Each (Each Word) (s .nodes) → Each (Each Word) (s .unknowns) → Each (Each Word) (s .stmts) → Each (Each Word) (s .models)
     → SoundFile (s .counts .names) (fileOf s)
 unfolding fileOf modelAt
 contents-sound s p few count n u q m =
@@ -151,7 +153,7 @@ contents-sound s p few count n u q m =
       model = λ i. all-getD (SoundModel names) (map (modelOf us qs) (s .models)) i noModel (none-sound names) hm;
     }
 
-pub file-sound : (file : List ℕ) (f : File) → All Byte file → openFile file ≡ opened f → (names : ℕ) × SoundFile names f
+pub file-sound : (file : List ℕ) (f : File) → Each Byte file → openFile file ≡ opened f → (names : ℕ) × SoundFile names f
 unfolding contentsOf
 file-sound file f bytes h =
     let o = is-open file f h in
@@ -175,18 +177,18 @@ module _ (names : ℕ) where
       go false y = y
 
   module _ (f : File) (h : SoundFile names f) where
-    sub-flats-sound : (sub : ℕ → List Flat) → ((m : ℕ) → All (SoundFlat names) (sub m)) → (a : Args) → SoundArgs names a → (o : Option ℕ) → All (SoundFlat names) (subFlats f sub a o)
+    sub-flats-sound : (sub : ℕ → List Flat) → ((m : ℕ) → Each (SoundFlat names) (sub m)) → (a : Args) → SoundArgs names a → (o : Option ℕ) → Each (SoundFlat names) (subFlats f sub a o)
     unfolding subFlats
     sub-flats-sound sub k a x none = tt
     sub-flats-sound sub k a x (some m) =
         all-map (SoundFlat names) (SoundFlat names) _ (flat-sound names (replacements (modelAt f m .unknowns) a) (replacement-sound (modelAt f m .unknowns) a x)) (sub m) (k m)
 
-    stmt-flats-sound : (sub : ℕ → List Flat) → ((m : ℕ) → All (SoundFlat names) (sub m)) → (q : Stmt) → SoundStmt names q → All (SoundFlat names) (stmtFlats f sub q)
+    stmt-flats-sound : (sub : ℕ → List Flat) → ((m : ℕ) → Each (SoundFlat names) (sub m)) → (q : Stmt) → SoundStmt names q → Each (SoundFlat names) (stmtFlats f sub q)
     unfolding stmtFlats
     stmt-flats-sound sub k (own q) x = (x, tt)
     stmt-flats-sound sub k (submodel n a c s) x = sub-flats-sound sub k a (x .1) (modelNamed f n)
 
-    pub flatten-sound : (k m : ℕ) → All (SoundFlat names) (flatten f k m)
+    pub flatten-sound : (k m : ℕ) → Each (SoundFlat names) (flatten f k m)
     unfolding flatten
     flatten-sound zero m = tt
-    flatten-sound (suc k) m = all-each (SoundStmt names) (SoundFlat names) _ (stmt-flats-sound (λ j. flatten f k j) (λ j. flatten-sound k j)) (modelAt f m .stmts) (h .model m .stmts)
+    flatten-sound (suc k) m = every-each (SoundFlat names) (SoundStmt names) _ (stmt-flats-sound (λ j. flatten f k j) (λ j. flatten-sound k j)) (modelAt f m .stmts) (h .model m .stmts)

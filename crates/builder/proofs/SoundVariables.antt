@@ -10,13 +10,15 @@ use lib.ListN.{length, length-map}
 use borrow.Author.Tests.{ltb-true, eqb-true, eq-eqb}
 use Rattle.functions.specs.Lists.{any, keep, member, placeFrom, place, plusOne, toList, text, sameText}
 use Rattle.ast.specs.Tree.{Expr, name, number, binary, unary, call, Flat, equation, rate, Domain, unstated, range, named, Unknown}
+use Rattle.ast.specs.WellFormed.{Each}
+use Rattle.ast.proofs.FromBytes.{every-append, every-each}
 use Rattle.builder.specs.Names.{isTime, isReserved, isNonNegative, timeName}
 use Rattle.builder.specs.Variables.{Bounds, Variable, infinity, minusInfinity, fromZero, unbounded, domainBounds, lastBounds, timeBounds, boundsOf, declare, variableNames, numberOf, keptDeps, variable, variablesOf, timeIndex, at, isState}
 use Rattle.builder.specs.Check.{Scope, lookup}
 use Rattle.builder.specs.Roles.{Role, starts, rates, free, Start, argAt, numberIn, startOf, atLower, startRole, takesRate, rateRole, roleOf}
 use Rattle.builder.specs.Allocate.{Fate, isRateOf, rateFate, fatesOf, numbersFrom, lacking, leftCount, pairedStates}
 use Rattle.builder.specs.Answer.{fateVariable}
-use Rattle.builder.proofs.Everywhere.{If, if-bind, if-any, All, all-append, all-cond, all-each, all-map, all-every, cond-either}
+use Rattle.builder.proofs.Everywhere.{If, if-bind, if-any, all-cond, all-map, all-every, cond-either}
 use Rattle.builder.proofs.Sound.{Double}
 use Rattle.builder.proofs.SoundFile.{SoundDomain, SoundUnknown}
 use Rattle.builder.proofs.ListLaws.{place-small}
@@ -58,7 +60,7 @@ un-doubles = (omega arith, omega arith)
 pub record SoundVariable (n k : ℕ) (v : Variable) : Type 0 where
   pub name : v .name ≤ n
   pub bounds : Doubles (v .bounds)
-  pub deps : All (λ (d : ℕ). d < k) (v .deps)
+  pub deps : Each (λ (d : ℕ). d < k) (v .deps)
 
 module _ (n : ℕ) (ns : List (List ℕ)) where
   domain-doubles : (u : ℕ) (d : Domain) → SoundDomain n d → Doubles (domainBounds ns u d)
@@ -67,13 +69,13 @@ module _ (n : ℕ) (ns : List (List ℕ)) where
   domain-doubles u (range l r) h = h
   domain-doubles u (named d) h = cond-either Doubles (isNonNegative ns d) fromZero unbounded zero-doubles un-doubles
 
-  last-doubles : (v : ℕ) (b : Bounds) (us : List Unknown) → Doubles b → All (SoundUnknown n) us → Doubles (lastBounds ns v b us)
+  last-doubles : (v : ℕ) (b : Bounds) (us : List Unknown) → Doubles b → Each (SoundUnknown n) us → Doubles (lastBounds ns v b us)
   unfolding lastBounds
   last-doubles v b [] h g = h
   last-doubles v b (u ∷ us) h g =
       last-doubles v _ us (cond-either Doubles (eqb (suc (u .name)) v) (domainBounds ns (u .name) (u .domain)) b (domain-doubles (u .name) (u .domain) (g .0 .domain)) h) (g .1)
 
-  pub time-doubles : (us : List Unknown) → All (SoundUnknown n) us → Doubles (timeBounds ns us)
+  pub time-doubles : (us : List Unknown) → Each (SoundUnknown n) us → Doubles (timeBounds ns us)
   unfolding timeBounds
   time-doubles us g = last-doubles (timeName ns) fromZero us zero-doubles g
 
@@ -86,7 +88,7 @@ module _ (n : ℕ) (ns : List (List ℕ)) where
   unfolding boundsOf
   other-variable us v e = rw e refl
 
-  bounds-doubles : (us : List Unknown) (v : ℕ) → All (SoundUnknown n) us → Doubles (boundsOf ns us v)
+  bounds-doubles : (us : List Unknown) (v : ℕ) → Each (SoundUnknown n) us → Doubles (boundsOf ns us v)
   bounds-doubles us v g = go (eqb v (timeName ns)) refl
     where
       go : (b : Bool) → eqb v (timeName ns) ≡ b → Doubles (boundsOf ns us v)
@@ -98,11 +100,11 @@ module _ (n : ℕ) (ns : List (List ℕ)) where
   abbrev Named : ℕ → Type 0
   Named v = v ≤ n
 
-  declare-named : (vs : List ℕ) (us : List Unknown) → All Named vs → All (SoundUnknown n) us → All Named (declare ns vs us)
+  declare-named : (vs : List ℕ) (us : List Unknown) → Each Named vs → Each (SoundUnknown n) us → Each Named (declare ns vs us)
   unfolding declare
   declare-named vs [] h g = h
   declare-named vs (u ∷ us) h g =
-      declare-named _ us (all-cond Named (isReserved ns (u .name) || member (suc (u .name)) vs) vs (vs ++ suc (u .name) ∷ []) h (all-append Named vs (suc (u .name) ∷ []) h (ltb-true (u .name) n (g .0 .name), tt))) (g .1)
+      declare-named _ us (all-cond Named (isReserved ns (u .name) || member (suc (u .name)) vs) vs (vs ++ suc (u .name) ∷ []) h (every-append Named vs (suc (u .name) ∷ []) h (ltb-true (u .name) n (g .0 .name), tt))) (g .1)
 
   time-named : length ns ≡ n → Named (timeName ns)
   unfolding timeName place
@@ -110,24 +112,24 @@ module _ (n : ℕ) (ns : List (List ℕ)) where
 
   -- ---- variables
 
-  list-small : (k : ℕ) (o : Option ℕ) → If (λ (i : ℕ). i < k) o → All (λ (d : ℕ). d < k) (toList o)
+  list-small : (k : ℕ) (o : Option ℕ) → If (λ (i : ℕ). i < k) o → Each (λ (d : ℕ). d < k) (toList o)
   unfolding toList
   list-small k none h = tt
   list-small k (some i) h = (h, tt)
 
-  deps-small : (vs : List ℕ) (us : List Unknown) (v : ℕ) → All (λ (d : ℕ). d < length vs) (keptDeps vs us v)
+  deps-small : (vs : List ℕ) (us : List Unknown) (v : ℕ) → Each (λ (d : ℕ). d < length vs) (keptDeps vs us v)
   unfolding keptDeps numberOf
   deps-small vs us v =
-      all-each (λ (u : Unknown). Unit {0}) (λ (d : ℕ). d < length vs) _
-      (λ u _. all-cond (λ (d : ℕ). d < length vs) (eqb (suc (u .name)) v) _ [] (all-each (λ (d : ℕ). Unit {0}) (λ (d : ℕ). d < length vs) _ (λ d _. list-small (length vs) _ (place-if (eqb (suc d)) vs)) (u .deps) (all-every _ (λ d. tt) (u .deps))) tt)
+      every-each (λ (d : ℕ). d < length vs) (λ (u : Unknown). Unit {0}) _
+      (λ u _. all-cond (λ (d : ℕ). d < length vs) (eqb (suc (u .name)) v) _ [] (every-each (λ (d : ℕ). d < length vs) (λ (d : ℕ). Unit {0}) _ (λ d _. list-small (length vs) _ (place-if (eqb (suc d)) vs)) (u .deps) (all-every _ (λ d. tt) (u .deps))) tt)
       us (all-every _ (λ u. tt) us)
 
-  pub variables-sound : (us : List Unknown) → length ns ≡ n → All (SoundUnknown n) us → All (SoundVariable n (length (variablesOf ns us))) (variablesOf ns us)
+  pub variables-sound : (us : List Unknown) → length ns ≡ n → Each (SoundUnknown n) us → Each (SoundVariable n (length (variablesOf ns us))) (variablesOf ns us)
   unfolding variablesOf variableNames variable
   variables-sound us e g =
       let vs = declare ns (timeName ns ∷ []) us in
       let e₁ : length vs ≡ length (map (variable ns vs us) vs) = sym (length-map vs (variable ns vs us)) in
-      subst (λ (k : ℕ). All (SoundVariable n k) (map (variable ns vs us) vs)) e₁
+      subst (λ (k : ℕ). Each (SoundVariable n k) (map (variable ns vs us) vs)) e₁
       (all-map Named (SoundVariable n (length vs)) (variable ns vs us) (λ v h. record { name = h; bounds = bounds-doubles us v g; deps = deps-small vs us v }) vs
       (declare-named (timeName ns ∷ []) us (time-named e, tt) g))
 
@@ -147,7 +149,7 @@ module _ (k : ℕ) where
   rate-small true v h = h
   rate-small false v h = h
 
-  pub fates-small : 1 ≤ k → (queue : List ℕ) (rs : List Role) → All (λ (v : ℕ). v < k) queue → All RoleSmall rs → All FateSmall (fatesOf queue rs)
+  pub fates-small : 1 ≤ k → (queue : List ℕ) (rs : List Role) → Each (λ (v : ℕ). v < k) queue → Each RoleSmall rs → Each FateSmall (fatesOf queue rs)
   unfolding fatesOf fateVariable
   fates-small pos queue [] h g = tt
   fates-small pos queue (starts v ∷ rs) h g = (g .0, fates-small pos queue rs h (g .1))
@@ -155,17 +157,17 @@ module _ (k : ℕ) where
   fates-small pos [] (free ∷ rs) h g = (pos, fates-small pos [] rs h (g .1))
   fates-small pos (v ∷ queue) (free ∷ rs) h g = (h .0, fates-small pos queue rs (h .1) (g .1))
 
-upto-small : (i n : ℕ) (vs : List Variable) → i + length vs ≤ n → All (λ (v : ℕ). v < n) (numbersFrom i vs)
+upto-small : (i n : ℕ) (vs : List Variable) → i + length vs ≤ n → Each (λ (v : ℕ). v < n) (numbersFrom i vs)
 unfolding numbersFrom
 upto-small i n [] h = tt
 upto-small i n (v ∷ vs) h = (omega arith, upto-small (suc i) n vs (omega arith))
 
-all-keep : {A : Type 0} (P : A → Type 0) (p : A → Bool) (xs : List A) → All P xs → All P (keep p xs)
+all-keep : {A : Type 0} (P : A → Type 0) (p : A → Bool) (xs : List A) → Each P xs → Each P (keep p xs)
 unfolding keep
 all-keep P p [] h = tt
 all-keep P p (x ∷ xs) h = all-cond P (p x) (x ∷ keep p xs) (keep p xs) (h .0, all-keep P p xs (h .1)) (all-keep P p xs (h .1))
 
-pub queue-small : (vs : List Variable) (rs : List Role) → All (λ (v : ℕ). v < length vs) (pairedStates vs rs)
+pub queue-small : (vs : List Variable) (rs : List Role) → Each (λ (v : ℕ). v < length vs) (pairedStates vs rs)
 unfolding pairedStates lacking
 queue-small vs rs =
     all-cond (λ (v : ℕ). v < length vs) (eqb (leftCount rs) (length (lacking vs rs))) (lacking vs rs) []
