@@ -94,9 +94,6 @@ unfolding unfated
 unfated-tells first [] = tt
 unfated-tells first (q ∷ qs) = ((0, 0, unfated-words first q), unfated-tells (first + flatSize q) qs)
 
-pub unfated-wide : (first : ℕ) (qs : List Flat) → Wide 8 (unfated first qs)
-unfated-wide first qs = tells-wide first qs (unfated first qs) (unfated-tells first qs)
-
 -- and with them
 fated-words : (first : ℕ) (q : Flat) (x : Fate) → flatWords first q x ≡ stmtWords first q (fateNumber x) (fateVariable x)
 unfolding flatWords stmtWords

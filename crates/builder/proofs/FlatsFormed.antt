@@ -21,9 +21,10 @@ use Rattle.ast.proofs.Fitting.{node-ok}
 use Rattle.ast.proofs.Formed.{WellFormed, WellFormedArgs, FormedIf, tree-formed, args-formed, subst-formed}
 use Rattle.ast.proofs.Files.{Parts, parts, top-is, equation-tops, rate-top, submodel-top}
 use Rattle.ast.proofs.FromBytes.{every-each}
+use Rattle.ast.proofs.ToBytes.{every-take, every-drop}
 use Rattle.builder.specs.Flatten.{noModel, modelNamed, modelAt, replacements, replacedName, subFlats, stmtFlats, flatten}
 use Rattle.builder.proofs.Arguments.{replaced-last}
-use Rattle.builder.proofs.Everywhere.{all-take, all-drop, all-getD, all-map}
+use Rattle.builder.proofs.Everywhere.{all-getD, all-map}
 use Rattle.builder.proofs.Allocations.{FlatFormed}
 use Rattle.builder.proofs.StmtKinds.{stmt-cases}
 
@@ -69,7 +70,7 @@ module _ (names : ℕ) where
   unfolding modelOf
   models-formed us qs h [] = tt
   models-formed us qs h (r ∷ rs) =
-      (all-take (StmtFormed names) (stmtCount r) (drop (firstStmt r) qs) (all-drop (StmtFormed names) (firstStmt r) qs h), models-formed us qs h rs)
+      (every-take (StmtFormed names) (stmtCount r) (drop (firstStmt r) qs) (every-drop (StmtFormed names) (firstStmt r) qs h), models-formed us qs h rs)
 
 contents-formed : (s : Contents) → Parts s → (m : ℕ) → Each (StmtFormed (s .counts .names)) (modelAt (fileOf s) m .stmts)
 unfolding fileOf modelAt

@@ -9,7 +9,7 @@ use Rattle.ast.specs.Tree.{Flat, equation, rate, flatSize}
 use Rattle.ast.specs.Words.{wordOf}
 use Rattle.ast.specs.Encode.{nodes, flatNodes, encode}
 use Rattle.ast.proofs.Encodes.{length-bytes, eights, eights-append, Eights, length-nodes}
-use Rattle.ast.proofs.FromBytes.{Wide}
+use Rattle.ast.proofs.FromBytes.{Wide, every-append}
 use Rattle.builder.specs.Variables.{Error, Variable}
 use Rattle.builder.specs.Roles.{Role, starts, rates, free}
 use Rattle.builder.specs.Allocate.{Fate, fatesOf}
@@ -26,10 +26,6 @@ length-fates [] (free ∷ rs) = ap suc (length-fates [] rs)
 length-fates (v ∷ queue) (free ∷ rs) = ap suc (length-fates queue rs)
 
 -- ---- nodes
-
-wide-append : (w : ℕ) (xs ys : List (List ℕ)) → Wide w xs → Wide w ys → Wide w (xs ++ ys)
-wide-append w [] ys h g = g
-wide-append w (x ∷ xs) ys h g = (h .0, wide-append w xs ys (h .1) g)
 
 wide-eights : (rs : List (List ℕ)) → Eights rs → Wide 8 rs
 wide-eights [] h = tt
@@ -48,7 +44,7 @@ length-flat-nodes (rate n r s) = length-nodes r
 pub nodes-wide : (qs : List Flat) → Wide 8 (each flatNodes qs)
 unfolding each
 nodes-wide [] = tt
-nodes-wide (q ∷ qs) = wide-append 8 (flatNodes q) (each flatNodes qs) (flat-wide q) (nodes-wide qs)
+nodes-wide (q ∷ qs) = every-append (λ r. length r ≡ 8) (flatNodes q) (each flatNodes qs) (flat-wide q) (nodes-wide qs)
 
 pub count-nodes : (qs : List Flat) → length (each flatNodes qs) ≡ sumOf flatSize qs
 unfolding each sumOf

@@ -1,12 +1,12 @@
 -- Flattened statements written as nodes, each behind those before it.
 use mathlib.Core.Path.{_≡_, refl, sym, ap, _∙_}
 use mathlib.Core.Bool.{true}
-use mathlib.Core.List.{List, [], _∷_, _++_, map, append-nil}
+use mathlib.Core.List.{List, [], _++_, map, append-nil}
 use Prim.Native.Nat.{ℕ, _+_, _-_, _*_, _≤_, _<_}
 use native.Mathlib.Omega.{arith}
-use lib.ListN.{length, take, drop, getD, length-append}
+use lib.ListN.{length, take, drop, getD}
 use Rattle.functions.specs.Lists.{each, sumOf}
-use Rattle.ast.specs.Tree.{Expr, Flat, equation, rate, size, flatSize}
+use Rattle.ast.specs.Tree.{Expr, Flat, size, flatSize}
 use Rattle.ast.specs.Words.{section, wordOf}
 use Rattle.ast.specs.Bytes.{front, put}
 use Rattle.ast.specs.Nodes.{nodeAt, isExpr}
@@ -27,19 +27,13 @@ use Rattle.builder.proofs.ListLaws.{sum-append}
 use Rattle.builder.proofs.Puts.{length-put, put-none, put-again}
 use Rattle.builder.proofs.OpenRecords.{passes, model-is}
 use Rattle.builder.proofs.StmtKinds.{stmt-equation, stmt-rate}
+use Rattle.builder.proofs.Sections.{length-wide}
+use Rattle.builder.proofs.Lengths.{nodes-wide, count-nodes}
 
 -- ---- nodes of statements
 
-length-flat : (q : Flat) → length (encode (flatNodes q)) ≡ 32 * flatSize q
-unfolding flatNodes flatSize
-length-flat (equation l r s) = ap length (encode-append (nodes l) (nodes r)) ∙ length-append (encode (nodes l)) (encode (nodes r)) ∙ omega (arith, length-tree l, length-tree r)
-length-flat (rate n r s) = length-tree r
-
 pub length-flats : (qs : List Flat) → length (encode (each flatNodes qs)) ≡ 32 * sumOf flatSize qs
-unfolding each sumOf encode
-length-flats [] = refl
-length-flats (q ∷ qs) =
-    ap length (unfold encode in encode-append (flatNodes q) (each flatNodes qs)) ∙ length-append (encode (flatNodes q)) (encode (each flatNodes qs)) ∙ omega (arith, length-flat q, length-flats qs)
+length-flats qs = length-wide 8 (each flatNodes qs) (nodes-wide qs) ∙ omega (arith, count-nodes qs)
 
 pub flats-append : (xs ys : List Flat) → encode (each flatNodes (xs ++ ys)) ≡ encode (each flatNodes xs) ++ encode (each flatNodes ys)
 flats-append xs ys = ap encode (each-append flatNodes xs ys) ∙ encode-append (each flatNodes xs) (each flatNodes ys)

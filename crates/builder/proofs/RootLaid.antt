@@ -24,23 +24,17 @@ use Rattle.builder.specs.Root.{flatsOf, scopeAt, TablesOf, SizesOf, Know
 use Rattle.builder.specs.declared.places.Sizes.{Sizes}
 use Rattle.builder.specs.declared.tables.Tables.{Tables}
 use Rattle.builder.specs.declared.variables.Roster.{Roster}
-use Rattle.builder.proofs.Sections.{length-wide}
 use Rattle.builder.proofs.PutWords.{kept-few}
 use Rattle.builder.proofs.Putting.{length-flats}
-use Rattle.builder.proofs.FlatsBack.{unfated-wide}
 use Rattle.builder.proofs.AreaParts.{part-put, part-before}
 use Rattle.builder.proofs.RootTables.{model-written, vars-count}
-use Rattle.builder.proofs.Recording.{count-unfated}
 use Rattle.builder.proofs.Mosts.{few-flats}
 use Rattle.builder.proofs.Puts.{length-put}
+use Rattle.builder.proofs.Recording.{length-unfated}
 
 -- ---- a model that is not too big
 
 module _ (F : File) (m : ℕ) where
-  -- bytes of the statements' records
-  length-unfated : length (encode (unfated 0 (flatsOf F m))) ≡ 32 * length (flatsOf F m)
-  length-unfated = length-wide 8 (unfated 0 (flatsOf F m)) (unfated-wide 0 (flatsOf F m)) ∙ omega (arith, count-unfated 0 (flatsOf F m))
-
   module _ (n : ℕ) (b₀ b₁ : List ℕ) (en : n ≡ sumOf flatSize (flatsOf F m)) (hn : n ≤ 1024) (hq : length (flatsOf F m) ≤ 256) (l : length b₀ ≡ 55384)
       (e : b₁ ≡ put (put b₀ 40 (encode (each flatNodes (flatsOf F m)))) (40 + 32 * n) (encode (unfated 0 (flatsOf F m)))) where
     nodes-length : length (put b₀ 40 (encode (each flatNodes (flatsOf F m)))) ≡ 55384
@@ -50,7 +44,7 @@ module _ (F : File) (m : ℕ) where
     pub flats-length : length b₁ ≡ 55384
     flats-length =
         ap length e
-        ∙ length-put (put b₀ 40 (encode (each flatNodes (flatsOf F m)))) (encode (unfated 0 (flatsOf F m))) (40 + 32 * n) (omega (arith, nodes-length, length-unfated))
+        ∙ length-put (put b₀ 40 (encode (each flatNodes (flatsOf F m)))) (encode (unfated 0 (flatsOf F m))) (40 + 32 * n) (omega (arith, nodes-length, length-unfated 0 (flatsOf F m)))
         ∙ nodes-length
 
     -- they stand there
@@ -63,7 +57,7 @@ module _ (F : File) (m : ℕ) where
     flats-stmts : part (40 + 32 * n) (32 * length (flatsOf F m)) b₁ ≡ encode (unfated 0 (flatsOf F m))
     flats-stmts =
         ap (part (40 + 32 * n) (32 * length (flatsOf F m))) e
-        ∙ part-put (40 + 32 * n) (32 * length (flatsOf F m)) (put b₀ 40 (encode (each flatNodes (flatsOf F m)))) (encode (unfated 0 (flatsOf F m))) (omega (arith, nodes-length)) length-unfated
+        ∙ part-put (40 + 32 * n) (32 * length (flatsOf F m)) (put b₀ 40 (encode (each flatNodes (flatsOf F m)))) (encode (unfated 0 (flatsOf F m))) (omega (arith, nodes-length)) (length-unfated 0 (flatsOf F m))
 
 -- ---- nodes, statements' records and dependents laid into an area
 

@@ -13,7 +13,8 @@ use Rattle.ast.specs.Words.{words, records, section, wordOf, spanFrom, floatFro
 use Rattle.ast.specs.Nodes.{nodeAt, kindAt, opAt, sizeAt, noExpr, exprAt, argsAt}
 use Rattle.ast.specs.WellFormed.{Each}
 use Rattle.ast.proofs.Formed.{WellFormed, WellFormedArgs, FormedIf, subst-formed}
-use Rattle.builder.proofs.Everywhere.{all-take, all-drop, all-getD, cond-either}
+use Rattle.ast.proofs.ToBytes.{every-take, every-drop}
+use Rattle.builder.proofs.Everywhere.{all-getD, cond-either}
 
 -- ---- words
 
@@ -34,11 +35,11 @@ words-small (a ∷ b ∷ c ∷ d ∷ r) h = (omega (arith, h .0, h .1 .0, h .1 .
 records-small : (w n : ℕ) (xs : List ℕ) → Each Word xs → Each (Each Word) (records w n xs)
 unfolding records
 records-small w zero xs h = tt
-records-small w (suc n) xs h = (all-take Word w xs h, records-small w n (drop w xs) (all-drop Word w xs h))
+records-small w (suc n) xs h = (every-take Word w xs h, records-small w n (drop w xs) (every-drop Word w xs h))
 
 pub section-small : (w n at : ℕ) (file : List ℕ) → Each Byte file → Each (Each Word) (section w n at file)
 unfolding section
-section-small w n at file h = records-small w n _ (words-small _ (all-drop Byte at file h))
+section-small w n at file h = records-small w n _ (words-small _ (every-drop Byte at file h))
 
 pub word-small : (r : List ℕ) (k : ℕ) → Each Word r → Word (wordOf r k)
 unfolding wordOf

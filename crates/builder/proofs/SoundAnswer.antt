@@ -15,6 +15,7 @@ use Rattle.ast.specs.Nodes.{isSign, isOp}
 use Rattle.ast.specs.Encode.{node, nodes, argNodes, flatNodes, encode}
 use Rattle.ast.specs.WellFormed.{Each}
 use Rattle.ast.proofs.FromBytes.{length-each, every-append, every-each}
+use Rattle.ast.proofs.ToBytes.{every-take}
 use Rattle.builder.specs.Variables.{Error, Bounds, Variable, noVariable, at, isState, lastTime, timeIndex, timeDependent}
 use Rattle.builder.specs.Flatten.{modelAt, scopeOf, errorsOf}
 use Rattle.builder.specs.Roles.{roleOf, roleErrors}
@@ -22,7 +23,7 @@ use Rattle.builder.specs.Allocate.{Fate, initial, held, replaced, leftOv
 use Rattle.builder.specs.Answer.{Answer, fateNumber, boundsWords, flatWords, flatRecords, errorWords, variableWords, variableRecords, nodeCount, depsOf, header, areaOf, areaBytes, answerBytes}
 use Rattle.builder.specs.Area.{WithinMosts, areBytes}
 use Rattle.builder.specs.Build.{accepted, answerFrom, answer, build}
-use Rattle.builder.proofs.Everywhere.{all-take, all-true, all-map, all-weak}
+use Rattle.builder.proofs.Everywhere.{all-true, all-map, all-weak}
 use Rattle.builder.proofs.Sound.{Word, Byte, Double, Spanned, Sound, SoundArgs, SoundFlat}
 use Rattle.builder.proofs.SoundFile.{SoundFile, file-sound, flatten-sound}
 use Rattle.builder.proofs.SoundErrors.{SoundError, built-errors, role-errors, count-errors, starting-errors}
@@ -272,7 +273,7 @@ module _ (names : ℕ) (a : Answer) (x : SoundAnswer names a) (w : WithinMosts a
       (records-bytes _ (flats-words names (x .few-names) (length (a .vars)) (w .vars) 0 (a .stmts) (a .fates) (x .stmts) (x .fates) (omega (arith, w .nodes)))))
       (records-bytes _ (variables-words names (x .few-names) a (omega (arith, w .stmts)) 0 0 (a .vars) (x .vars) (omega (arith, deps-sum)))))
       (words-bytes (depsOf a) deps-words))
-      (records-bytes _ (all-map (SoundError names) (Each Word) errorWords (error-words names (x .few-names)) (take 256 (a .errors)) (all-take (SoundError names) 256 (a .errors) (x .errors))))
+      (records-bytes _ (all-map (SoundError names) (Each Word) errorWords (error-words names (x .few-names)) (take 256 (a .errors)) (every-take (SoundError names) 256 (a .errors) (x .errors))))
 
 -- ---- of every accepted build
 

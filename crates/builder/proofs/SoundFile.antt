@@ -20,9 +20,10 @@ use Rattle.ast.proofs.Fitting.{node-ok}
 use Rattle.ast.proofs.Formed.{tree-formed, args-formed}
 use Rattle.ast.proofs.Files.{Parts, parts, is-open, top-is, equation-tops, rate-top, submodel-top}
 use Rattle.ast.proofs.FromBytes.{every-each}
+use Rattle.ast.proofs.ToBytes.{every-take, every-drop}
 use Rattle.builder.specs.Flatten.{noModel, modelNamed, modelAt, replacements, replacedName, subFlats, stmtFlats, flatten}
 use Rattle.builder.proofs.Arguments.{replaced-last}
-use Rattle.builder.proofs.Everywhere.{all-take, all-drop, all-getD, all-map}
+use Rattle.builder.proofs.Everywhere.{all-getD, all-map}
 use Rattle.builder.proofs.Sound.{Word, Byte, section-small, span-small, float-small, Double, expr-worded, args-worded, Sound, SoundArgs, SoundSpan, SoundFlat, SoundStmt, SoundIf, flat-sound}
 use Rattle.builder.proofs.StmtKinds.{stmt-cases}
 
@@ -122,8 +123,8 @@ module _ (names : ℕ) where
         let (p, k) = and-both (modelFits names limit stmts u q r) _ h in
         let s = model-span limit stmts u q r p in (
           record {
-            unknowns = all-take SoundUnknown (unknownCount r) (drop (firstUnknown r) us) (all-drop SoundUnknown (firstUnknown r) us hu);
-            stmts = all-take (SoundStmt names) (stmtCount r) (drop (firstStmt r) qs) (all-drop (SoundStmt names) (firstStmt r) qs hq);
+            unknowns = every-take SoundUnknown (unknownCount r) (drop (firstUnknown r) us) (every-drop SoundUnknown (firstUnknown r) us hu);
+            stmts = every-take (SoundStmt names) (stmtCount r) (drop (firstStmt r) qs) (every-drop (SoundStmt names) (firstStmt r) qs hq);
             span = (s, span-small r 5 (g .0));
           },
           models-sound limit stmts (u + unknownCount r) (q + stmtCount r) rs k (g .1),
