@@ -26,7 +26,7 @@ use Rattle.builder.proofs.OpenRecords.{stmt-is}
 use Rattle.builder.proofs.ListLaws.{place-small}
 use Rattle.builder.proofs.StmtKinds.{stmt-submodel}
 
--- ---- the first that passes, plus 1
+-- ---- the first model that passes, plus 1
 
 module _ (f : List ℕ) (s : Sections) where
   -- the models from number m on, by model m and those behind it

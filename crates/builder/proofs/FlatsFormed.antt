@@ -1,15 +1,13 @@
 -- The statements of an open file, and the flattened statements of each model, have well-formed trees.
 use mathlib.Core.Path.{_≡_}
-use Prim.Native.Nat.{ℕ, zero, suc, _+_, _-_}
+use Prim.Native.Nat.{ℕ, _+_, _-_}
 use native.Mathlib.Omega.{arith}
-use mathlib.Core.Bool.{Bool, true, false, cond}
+use mathlib.Core.Bool.{true}
 use mathlib.Core.List.{List, [], _∷_, map}
-use mathlib.Core.Option.{Option, none, some}
-use lib.Dec.{eqb}
 use lib.ListN.{drop}
 use borrow.Author.Tests.{ltb-true}
 use Rattle.functions.proofs.Lists.{and-both}
-use Rattle.ast.specs.Tree.{Args, empty, snoc, Flat, equation, rate, Stmt, own, submodel, Unknown, Model, File, count}
+use Rattle.ast.specs.Tree.{Flat, equation, rate, Stmt, own, submodel, Unknown, Model, File}
 use Rattle.ast.specs.Subst.{Replacements, substFlat}
 use Rattle.ast.specs.Nodes.{opAt, sizeAt, treeAt, nodesFit}
 use Rattle.ast.specs.Records.{unknownOf, leftTop, rightTop, topFits, stmtFits, stmtsFit, stmtOf, firstStmt, stmtCount, modelOf}
@@ -20,13 +18,12 @@ use Rattle.ast.specs.WellFormed.{Each}
 use Rattle.ast.proofs.Fitting.{node-ok}
 use Rattle.ast.proofs.Formed.{WellFormed, WellFormedArgs, FormedIf, tree-formed, args-formed, subst-formed}
 use Rattle.ast.proofs.Files.{Parts, parts, top-is, equation-tops, rate-top, submodel-top}
-use Rattle.ast.proofs.FromBytes.{every-each}
 use Rattle.ast.proofs.ToBytes.{every-take, every-drop}
-use Rattle.builder.specs.Flatten.{noModel, modelNamed, modelAt, replacements, replacedName, subFlats, stmtFlats, flatten}
-use Rattle.builder.proofs.Arguments.{replaced-last}
-use Rattle.builder.proofs.Everywhere.{all-getD, all-map}
+use Rattle.builder.specs.Flatten.{noModel, modelAt, flatten}
+use Rattle.builder.proofs.Everywhere.{all-getD}
 use Rattle.builder.proofs.Allocations.{FlatFormed}
 use Rattle.builder.proofs.StmtKinds.{stmt-cases}
+use Rattle.builder.proofs.FlattenKeeps.{flatten-keeps}
 
 abbrev StmtFormed : ℕ → Stmt → Type 0
 StmtFormed names (own q) = FlatFormed names q
@@ -89,31 +86,9 @@ module _ (names : ℕ) where
   flat-kept by h (equation l r s) x = (subst-formed names by h l (x .0), subst-formed names by h r (x .1))
   flat-kept by h (rate n r s) x = (x .0, subst-formed names by h r (x .1))
 
-  replacement-formed : (us : List Unknown) (a : Args) → WellFormedArgs names a → (n : ℕ) → FormedIf names (replacements us a n)
-  unfolding replacements
-  replacement-formed us empty x n = tt
-  replacement-formed us (snoc a k e s) x n = rw replaced-last (go (eqb (suc n) (replacedName us (count a) k)) (replacement-formed us a (x .0) n))
-    where
-      go : (b : Bool) → FormedIf names (replacements us a n) → FormedIf names (cond b (some e) (replacements us a n))
-      go true y = x .1
-      go false y = y
-
-  module _ (f : File) (h : (m : ℕ) → Each (StmtFormed names) (modelAt f m .stmts)) where
-    sub-formed : (sub : ℕ → List Flat) → ((m : ℕ) → Each (FlatFormed names) (sub m)) → (a : Args) → WellFormedArgs names a → (o : Option ℕ) → Each (FlatFormed names) (subFlats f sub a o)
-    unfolding subFlats
-    sub-formed sub k a x none = tt
-    sub-formed sub k a x (some m) =
-        all-map (FlatFormed names) (FlatFormed names) _ (flat-kept (replacements (modelAt f m .unknowns) a) (replacement-formed (modelAt f m .unknowns) a x)) (sub m) (k m)
-
-    flats-formed : (sub : ℕ → List Flat) → ((m : ℕ) → Each (FlatFormed names) (sub m)) → (q : Stmt) → StmtFormed names q → Each (FlatFormed names) (stmtFlats f sub q)
-    unfolding stmtFlats
-    flats-formed sub k (own q) x = (x, tt)
-    flats-formed sub k (submodel n a c s) x = sub-formed sub k a x (modelNamed f n)
-
-    flatten-formed : (k m : ℕ) → Each (FlatFormed names) (flatten f k m)
-    unfolding flatten
-    flatten-formed zero m = tt
-    flatten-formed (suc k) m = every-each (FlatFormed names) (StmtFormed names) _ (flats-formed (λ j. flatten f k j) (λ j. flatten-formed k j)) (modelAt f m .stmts) (h m)
+  flatten-formed : (f : File) → ((m : ℕ) → Each (StmtFormed names) (modelAt f m .stmts)) → (k m : ℕ) → Each (FlatFormed names) (flatten f k m)
+  flatten-formed =
+      flatten-keeps (FlatFormed names) (StmtFormed names) (WellFormedArgs names) (FormedIf names) tt (λ a k e s x. (x .0, x .1)) flat-kept (λ q x. x) (λ n a c s x. x)
 
 -- of an open file
 pub formed : (f : List ℕ) (s : Sections) → Open f s → (k m : ℕ) → Each (FlatFormed (s .counts .names)) (flatten (fileIn f s) k m)

@@ -1,4 +1,4 @@
--- How long an answer and its records are: where each section of the area begins, and refusal 1.
+-- How long an answer and its records are: where each section of the area begins.
 use mathlib.Core.Path.{_≡_, refl, ap, _∙_}
 use Prim.Native.Nat.{ℕ, suc, _+_, _*_}
 use native.Mathlib.Omega.{arith}

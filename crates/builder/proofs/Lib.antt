@@ -12,9 +12,9 @@ pub mod Sections
 pub mod Counts
 pub mod Opened
 pub mod Mosts
-pub mod Arguments
 pub mod Flattening
 pub mod Everywhere
+pub mod FlattenKeeps
 pub mod Sound
 pub mod SoundFile
 pub mod ErrorCount

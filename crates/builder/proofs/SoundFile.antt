@@ -1,14 +1,13 @@
 -- The models of an opened file of bytes are sound, and so are the flattened statements of each.
 use mathlib.Core.Path.{_≡_, refl, _∙_}
-use Prim.Native.Nat.{ℕ, zero, suc, _+_, _-_, _≤_}
+use Prim.Native.Nat.{ℕ, _+_, _-_, _≤_}
 use native.Mathlib.Omega.{arith}
 use mathlib.Core.Bool.{Bool, true, false, cond, _&&_}
 use mathlib.Core.List.{List, [], _∷_, map}
-use mathlib.Core.Option.{Option, none, some}
 use lib.Dec.{ltb, leb, eqb}
 use lib.ListN.{length, drop, length-map}
 use Rattle.functions.proofs.Lists.{clash, and-both}
-use Rattle.ast.specs.Tree.{Args, empty, snoc, Flat, Stmt, own, submodel, Domain, unstated, range, named, Unknown, Model, File, count}
+use Rattle.ast.specs.Tree.{Stmt, Domain, unstated, range, named, Unknown, Model, File, count}
 use Rattle.ast.specs.Words.{wordOf, blank, inOrder}
 use Rattle.ast.specs.Nodes.{opAt, sizeAt, treeAt, argsBefore, nodesFit}
 use Rattle.ast.specs.Records.{depCount, firstDep, nameOfUnknown, domainKind, domainName, spanOfUnknown, domainFits, domainOf, unknownFits, unknownsFit, unknownOf, leftTop, rightTop, spanOfStmt, topFits, stmtFits, stmtsFit, stmtOf, nameOfModel, firstUnknown, unknownCount, firstStmt, stmtCount, spanOfModel, modelFits, modelsFit, modelOf}
@@ -19,13 +18,12 @@ use Rattle.ast.proofs.Trailers.{is-within}
 use Rattle.ast.proofs.Fitting.{node-ok}
 use Rattle.ast.proofs.Formed.{tree-formed, args-formed}
 use Rattle.ast.proofs.Files.{Parts, parts, is-open, top-is, equation-tops, rate-top, submodel-top}
-use Rattle.ast.proofs.FromBytes.{every-each}
 use Rattle.ast.proofs.ToBytes.{every-take, every-drop}
-use Rattle.builder.specs.Flatten.{noModel, modelNamed, modelAt, replacements, replacedName, subFlats, stmtFlats, flatten}
-use Rattle.builder.proofs.Arguments.{replaced-last}
-use Rattle.builder.proofs.Everywhere.{all-getD, all-map}
+use Rattle.builder.specs.Flatten.{noModel, modelAt, flatten}
+use Rattle.builder.proofs.Everywhere.{all-getD}
 use Rattle.builder.proofs.Sound.{Word, Byte, section-small, span-small, float-small, Double, expr-worded, args-worded, Sound, SoundArgs, SoundSpan, SoundFlat, SoundStmt, SoundIf, flat-sound}
 use Rattle.builder.proofs.StmtKinds.{stmt-cases}
+use Rattle.builder.proofs.FlattenKeeps.{flatten-keeps}
 
 -- ---- one statement's record
 
@@ -168,28 +166,7 @@ file-sound file f bytes h =
 -- ---- flattened statements
 
 module _ (names : ℕ) where
-  replacement-sound : (us : List Unknown) (a : Args) → SoundArgs names a → (n : ℕ) → SoundIf names (replacements us a n)
-  unfolding replacements
-  replacement-sound us empty x n = tt
-  replacement-sound us (snoc a k e s) x n = rw replaced-last (go (eqb (suc n) (replacedName us (count a) k)) (replacement-sound us a (x .0 .0, x .1 .0) n))
-    where
-      go : (b : Bool) → SoundIf names (replacements us a n) → SoundIf names (cond b (some e) (replacements us a n))
-      go true y = (x .0 .1, x .1 .1)
-      go false y = y
-
-  module _ (f : File) (h : SoundFile names f) where
-    sub-flats-sound : (sub : ℕ → List Flat) → ((m : ℕ) → Each (SoundFlat names) (sub m)) → (a : Args) → SoundArgs names a → (o : Option ℕ) → Each (SoundFlat names) (subFlats f sub a o)
-    unfolding subFlats
-    sub-flats-sound sub k a x none = tt
-    sub-flats-sound sub k a x (some m) =
-        all-map (SoundFlat names) (SoundFlat names) _ (flat-sound names (replacements (modelAt f m .unknowns) a) (replacement-sound (modelAt f m .unknowns) a x)) (sub m) (k m)
-
-    stmt-flats-sound : (sub : ℕ → List Flat) → ((m : ℕ) → Each (SoundFlat names) (sub m)) → (q : Stmt) → SoundStmt names q → Each (SoundFlat names) (stmtFlats f sub q)
-    unfolding stmtFlats
-    stmt-flats-sound sub k (own q) x = (x, tt)
-    stmt-flats-sound sub k (submodel n a c s) x = sub-flats-sound sub k a (x .1) (modelNamed f n)
-
-    pub flatten-sound : (k m : ℕ) → Each (SoundFlat names) (flatten f k m)
-    unfolding flatten
-    flatten-sound zero m = tt
-    flatten-sound (suc k) m = every-each (SoundFlat names) (SoundStmt names) _ (stmt-flats-sound (λ j. flatten f k j) (λ j. flatten-sound k j)) (modelAt f m .stmts) (h .model m .stmts)
+  pub flatten-sound : (f : File) → SoundFile names f → (k m : ℕ) → Each (SoundFlat names) (flatten f k m)
+  flatten-sound f h =
+      flatten-keeps (SoundFlat names) (SoundStmt names) (SoundArgs names) (SoundIf names) tt (λ a k e s x. ((x .0 .0, x .1 .0), (x .0 .1, x .1 .1))) (flat-sound names) (λ q x. x) (λ n a c s x. x .1)
+      f (λ m. h .model m .stmts)
