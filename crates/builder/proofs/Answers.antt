@@ -6,7 +6,8 @@ use mathlib.Core.Option.{Option, none, some}
 use Prim.Native.Nat.{ℕ, _-_, _≤_}
 use native.Mathlib.Omega.{arith}
 use lib.Dec.{eqb}
-use lib.ListN.{length, take}
+use lib.ListN.{length, take, drop, getD, length-drop, length-append}
+use lib.Seq.{take-append-le}
 use Rattle.functions.specs.Lists.{sumOf, plusOne}
 use Rattle.functions.proofs.Lists.{clash}
 use Rattle.ast.specs.Tree.{File, flatSize}

@@ -1,17 +1,17 @@
 // The models reached from the root, and the refusals 6, 7 and 8 among them.
 ghost use mathlib.Core.Path.{_≡_};
-ghost use mathlib.Core.Bool.{_||_};
+ghost use mathlib.Core.Bool.{cond, _||_};
 ghost use mathlib.Core.List.{[]};
 ghost use Prim.Native.Nat.{_+_, _-_, _≤_, _<_};
 ghost use lib.Dec.{eqb};
-ghost use lib.ListN.{take, drop, getD};
-ghost use Rattle.functions.specs.Lists.{any, member, flag};
+ghost use lib.ListN.{length, take, drop, getD};
+ghost use Rattle.functions.specs.Lists.{any, member};
 ghost use Rattle.ast.specs.Nodes.{kindAt, opAt, sizeAt, argsBefore};
 ghost use Rattle.ast.specs.Records.{unknownOf, stmtOf};
 ghost use Rattle.ast.specs.Opens.{Open, contentsIn, fileIn};
 ghost use Rattle.builder.specs.Flatten as flatten;
 ghost use Rattle.builder.specs.Tables.{Classes, Callees, Reaching};
-ghost use Rattle.builder.specs.Rounds.{onward, stepsOn, Stepped};
+ghost use Rattle.builder.specs.Rounds.{onward, Added, Stepped};
 use super::names::is_reserved;
 use super::names::is_time;
 use ast::records::dep;
@@ -21,87 +21,69 @@ use ast::records::stmt;
 use ast::records::unknown;
 use ast::sections::Sections;
 
-// Whether statement q calls model b, or a model from which `old` says that b is reached.
-fn call_reaches(
+// 1 where y is 1, else x.
+fn either(x: u8, y: u8) -> u8
+    ensures { λ r. ⌜ r ≡ cond (eqb y 1) 1 x ⌝ }
+{
+    if y == 1 { 1 } else { x }
+}
+
+// Adds to row a model c and the models that `old` says are reached from it.
+fn add_reached(old: &[u8], models: usize, c: usize, new: &mut [u8], a: usize)
+    requires { ⌜ (length (now old) ≡ 1024) × (length (now new) ≡ 1024) × (models ≤ 32) × (c < models) × (a < models) ⌝ }
+    ensures { λ _. ⌜ Added models a (λ y. onward (now (old .entry)) y c) (now (new .entry)) (now (new .exit)) ⌝ }
+{
+    let mut b = 0;
+    while b < models {
+        new[32 * a + b] = either(new[32 * a + b], old[32 * c + b]);
+        b += 1;
+    }
+    new[32 * a + c] = 1;
+}
+
+// The same for the model that statement q calls, if it calls one.
+fn add_called(
     f: &[u8],
     s: Sections,
     calls: &[u8; 256],
-    old: &[u8; 1024],
+    old: &[u8],
     q: usize,
-    b: usize,
-) -> bool
-    requires { ⌜ Open (now f) s × Callees (now f) s (now calls) × (q < s .counts .stmts) × (b < s .counts .models) ⌝ }
-    ensures { λ r. ⌜ r ≡ any (onward (now (old .entry)) b) (flatten.stmtModels (fileIn (now (f .entry)) s) (stmtOf (contentsIn (now (f .entry)) s .nodes) (getD (contentsIn (now (f .entry)) s .stmts) q []))) ⌝ }
+    new: &mut [u8],
+    a: usize,
+)
+    requires { ⌜ Open (now f) s × Callees (now f) s (now calls) × (length (now old) ≡ 1024) × (length (now new) ≡ 1024) × (q < s .counts .stmts) × (a < s .counts .models) ⌝ }
+    ensures { λ _. ⌜ Added (s .counts .models) a (λ y. any (onward (now (old .entry)) y) (flatten.stmtModels (fileIn (now (f .entry)) s) (stmtOf (contentsIn (now (f .entry)) s .nodes) (getD (contentsIn (now (f .entry)) s .stmts) q [])))) (now (new .entry)) (now (new .exit)) ⌝ }
 {
     let c = calls[q] as usize;
     if c == 0 {
-        return false;
+        return;
     }
-    (c - 1 == b) | (old[32 * (c - 1) + b] == 1)
+    add_reached(old, s.counts.models, c - 1, new, a);
 }
 
-// Whether one of model a's statements does.
-fn calls_reach(
-    f: &[u8],
-    s: Sections,
-    calls: &[u8; 256],
-    old: &[u8; 1024],
-    a: usize,
-    b: usize,
-) -> bool
-    requires { ⌜ Open (now f) s × Callees (now f) s (now calls) × (a < s .counts .models) × (b < s .counts .models) ⌝ }
-    ensures { λ r. ⌜ r ≡ stepsOn (fileIn (now (f .entry)) s) (now (old .entry)) a b ⌝ }
+// Row a of the next table: what model a's statements add.
+fn reach_row(f: &[u8], s: Sections, calls: &[u8; 256], old: &[u8], a: usize, new: &mut [u8])
+    requires { ⌜ Open (now f) s × Callees (now f) s (now calls) × (length (now old) ≡ 1024) × (a < s .counts .models) × Stepped (fileIn (now f) s) (s .counts .models) (now old) a (now new) ⌝ }
+    ensures { λ _. ⌜ Stepped (fileIn (now (f .entry)) s) (s .counts .models) (now (old .entry)) (a + 1) (now (new .exit)) ⌝ }
 {
     let first = model(f, s, a, 3);
     let count = model(f, s, a, 4);
     let mut i = 0;
     while i < count {
-        if call_reaches(f, s, calls, old, first + i, b) {
-            return true;
-        }
+        add_called(f, s, calls, old, first + i, new, a);
         i += 1;
     }
-    false
-}
-
-// 1 where a test passes, else 0.
-fn one_if(t: bool) -> u8
-    ensures { λ r. ⌜ r ≡ flag t ⌝ }
-{
-    if t { 1 } else { 0 }
-}
-
-// Row a of the next table.
-fn reach_row(
-    f: &[u8],
-    s: Sections,
-    calls: &[u8; 256],
-    old: &[u8; 1024],
-    a: usize,
-    new: [u8; 1024],
-) -> [u8; 1024]
-    requires { ⌜ Open (now f) s × Callees (now f) s (now calls) × (a < s .counts .models) × Stepped (fileIn (now f) s) (s .counts .models) (now old) a 0 new ⌝ }
-    ensures { λ r. ⌜ Stepped (fileIn (now (f .entry)) s) (s .counts .models) (now (old .entry)) (a + 1) 0 r ⌝ }
-{
-    let mut out = new;
-    let mut b = 0;
-    while b < s.counts.models {
-        out[32 * a + b] = one_if(calls_reach(f, s, calls, old, a, b));
-        b += 1;
-    }
-    out
 }
 
 // The next table: one step more.
-fn reach_round(f: &[u8], s: Sections, calls: &[u8; 256], old: &[u8; 1024]) -> [u8; 1024]
-    requires { ⌜ Open (now f) s × Callees (now f) s (now calls) ⌝ }
-    ensures { λ r. ⌜ Stepped (fileIn (now (f .entry)) s) (s .counts .models) (now (old .entry)) (s .counts .models) 0 r ⌝ }
+fn reach_round(f: &[u8], s: Sections, calls: &[u8; 256], old: &[u8]) -> [u8; 1024]
+    requires { ⌜ Open (now f) s × Callees (now f) s (now calls) × (length (now old) ≡ 1024) ⌝ }
+    ensures { λ r. ⌜ Stepped (fileIn (now (f .entry)) s) (s .counts .models) (now (old .entry)) (s .counts .models) r ⌝ }
 {
     let mut new = [0u8; 1024];
     let mut a = 0;
     while a < s.counts.models {
-        let next = reach_row(f, s, calls, old, a, new);
-        new = next;
+        reach_row(f, s, calls, old, a, &mut new);
         a += 1;
     }
     new

@@ -1,49 +1,47 @@
-use mathlib.Core.Path.{_≡_, ap, _∙_}
+use mathlib.Core.Path.{sym, _∙_}
 use Prim.Native.Nat.{_-_, _≤_}
 use native.Mathlib.Omega.{arith}
-use borrow.Author.Needs.{needs}
-use Rattle.functions.specs.Lists.{flag}
 use Rattle.ast.specs.Opens.{fileIn}
-use Rattle.builder.specs.Rounds.{Stepped}
-use Rattle.builder.proofs.Rounds.{stepped-more, stepped-row}
+use Rattle.builder.proofs.Runs.{stmts-below}
+use Rattle.builder.proofs.Rounds.{Rowed, rowed-none, row-more, row-done}
 use Rattle.builder.proofs.reached.reach_row.Statement.{statement}
 use Rattle.builder.proofs.reached.reach_row.Tie as tie
 
 abbrev Inv-loop : tie.InvT-loop
-Inv-loop f s calls old a out₀ b₀ out b = (b ≤ s .counts .models) × Stepped (fileIn f s) (s .counts .models) old a b out
+Inv-loop f s calls old a new₀ first count i₀ new i = (i ≤ count) × Rowed (fileIn f s) (s .counts .models) old a i new
 
 abbrev μ-loop : tie.MeasureT-loop
-μ-loop f s calls old a out₀ b₀ out b = s .counts .models - b
+μ-loop f s calls old a new₀ first count i₀ new i = count - i
+
+model-requires : tie.Need-model-requires Inv-loop μ-loop
+model-requires c κs = let p = c .before .before .before .pre in (p .0, (p .3, omega arith))
+
+model-requires-2 : tie.Need-model-requires-2 Inv-loop μ-loop
+model-requires-2 c κs = let p = c .before .before .before .before .pre in (p .0, (p .3, omega arith))
 
 loop-holds : tie.Need-loop-holds Inv-loop μ-loop
-loop-holds c = (omega arith, c .before .pre .3)
+loop-holds c = let a = c .before .before .before .before .before .args in let p = c .before .before .before .before .before .pre in (omega arith, rowed-none (fileIn (a .f .now) (a .s)) (a .s .counts .models) (a .old .now) (p .0 .laid .within .models) (a .a) (p .3) (a .new .now) (p .4))
 
-calls-reach-requires : tie.Need-calls-reach-requires Inv-loop μ-loop
-calls-reach-requires c κs = (c .before .before .before .before .pre .0, c .before .before .before .before .pre .1, c .before .before .before .before .pre .2, c .if1 .taken)
+add-add-called : tie.Need-add-add-called Inv-loop μ-loop
+add-add-called c = let a = c .before .before .before .before .before .before .before .args in let p = c .before .before .before .before .before .before .before .pre in omega (arith, stmts-below (a .f .now) (a .s) (p .0) (a .a) (p .3) (c .before .before .before .model .result) (c .before .before .model2 .result) (c .before .loop .i) (c .before .before .before .model .ensures .0) (c .before .before .model2 .ensures .0) (c .loop-test .taken), p .0 .laid .within .stmts)
 
-one-if-requires : tie.Need-one-if-requires Inv-loop μ-loop
-one-if-requires c κs = search needs
+add-called-requires : tie.Need-add-called-requires Inv-loop μ-loop
+add-called-requires c κs = let a = c .before .before .before .before .before .before .before .before .args in let p = c .before .before .before .before .before .before .before .before .pre in (p .0, p .1, p .2, c .before .before .loop .inv .1 .size, stmts-below (a .f .now) (a .s) (p .0) (a .a) (p .3) (c .before .before .before .before .model .result) (c .before .before .before .model2 .result) (c .before .before .loop .i) (c .before .before .before .before .model .ensures .0) (c .before .before .before .model2 .ensures .0) (c .before .loop-test .taken), p .3)
 
-mul-out : tie.Need-mul-out Inv-loop μ-loop
-mul-out c = omega (arith, c .before .before .before .before .before .before .pre .0 .laid .within .models)
-
-add-out : tie.Need-add-out Inv-loop μ-loop
-add-out c = omega (arith, c .before .before .before .before .before .before .pre .0 .laid .within .models)
-
-array-write-out : tie.Need-array-write-out Inv-loop μ-loop
-array-write-out c = omega (arith, c .before .before .before .before .before .before .pre .0 .laid .within .models, c .before .before .before .before .loop .inv .1 .size)
-
-add-b : tie.Need-add-b Inv-loop μ-loop
-add-b c = omega arith
+add-i : tie.Need-add-i Inv-loop μ-loop
+add-i c = omega arith
 
 loop-less : tie.Need-loop-less Inv-loop μ-loop
 loop-less c = omega arith
 
 loop-again : tie.Need-loop-again Inv-loop μ-loop
-loop-again c = (omega arith, stepped-more (fileIn (c .before .before .before .before .before .before .args .f .now) (c .before .before .before .before .before .before .args .s)) (c .before .before .before .before .before .before .args .s .counts .models) (c .before .before .before .before .before .before .args .old .now) (c .before .before .before .before .before .before .args .a) (c .before .before .before .before .loop .b) (c .one-if .result) (c .before .before .before .before .loop .out) (c .before .before .before .before .before .before .pre .0 .laid .within .models) (c .before .before .before .before .before .before .pre .2) (c .before .before .if1 .taken) (c .one-if .ensures ∙ ap flag (c .before .calls-reach .ensures)) (c .before .before .before .before .loop .inv .1))
+loop-again c = let a = c .before .before .before .before .before .before .before .before .before .before .before .args in let p = c .before .before .before .before .before .before .before .before .before .before .before .pre in (omega arith, row-more (a .f .now) (a .s) (p .0) (a .old .now) (a .a) (p .3) (c .before .before .before .before .before .before .before .model .result) (c .before .before .before .before .before .before .model2 .result) (c .before .before .before .before .before .loop .i) (c .before .before .before .before .before .before .before .model .ensures .0) (c .before .before .before .before .before .before .model2 .ensures .0) (c .before .before .before .before .before .loop .new) _ (c .before .before .before .before .loop-test .taken) (c .before .before .add-called .ensures) (c .before .before .before .before .before .loop .inv .1))
+
+same-length : tie.Need-same-length Inv-loop μ-loop
+same-length c = let p = c .before .before .before .before .before .before .before .pre in c .before .loop .inv .1 .size ∙ sym (p .4 .size)
 
 returns : tie.Need-returns Inv-loop μ-loop
-returns c = let e : c .before .before .loop .b ≡ c .before .before .before .before .args .s .counts .models = omega arith in stepped-row (fileIn (c .before .before .before .before .args .f .now) (c .before .before .before .before .args .s)) (c .before .before .before .before .args .s .counts .models) (c .before .before .before .before .args .old .now) (c .before .before .before .before .args .a) _ (rw e at (c .before .before .loop .inv .1))
+returns c = let a = c .before .before .before .before .before .before .before .args in let p = c .before .before .before .before .before .before .before .pre in row-done (a .f .now) (a .s) (p .0) (a .old .now) (a .a) (p .3) (c .before .before .before .model .result) (c .before .before .model2 .result) (c .before .loop .i) (c .before .before .before .model .ensures .0) (c .before .before .model2 .ensures .0) (c .before .loop .new) (omega arith) (c .before .loop .inv .1)
 
 pub reach-row-spec : {M : Type 1} → statement M
 reach-row-spec =
@@ -51,13 +49,13 @@ reach-row-spec =
     (tie.spec
     Inv-loop
     μ-loop
+    model-requires
+    model-requires-2
     loop-holds
-    calls-reach-requires
-    one-if-requires
-    mul-out
-    add-out
-    array-write-out
-    add-b
+    add-add-called
+    add-called-requires
+    add-i
     loop-less
     loop-again
+    same-length
     returns)
