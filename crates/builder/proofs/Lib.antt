@@ -60,7 +60,7 @@ pub mod Recording
 pub mod BoundLaws
 pub mod FateCases
 pub mod FateLaws
-pub mod FateLoops
+pub mod FateTables
 pub mod FateRecords
 pub mod Puts
 pub mod VarAnswers

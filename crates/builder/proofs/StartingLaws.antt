@@ -53,45 +53,45 @@ module _ (s : Span) (left states : ℕ) where
       let u : ltb left states ≡ false = le-ltb left states l in
       rw (t, u) refl
 
--- ---- errors 16 and 17 of a variable, where the code's numbers are those of its held statement and its first condition
+-- ---- errors 16 and 17 of a variable by its held statement and its first condition
 
-module _ (model : Span) (ns rs : List (List ℕ)) (name v held : ℕ) (h : held ≡ plusOne (place (isFated 2 v) rs)) where
-  pub state-bare : held ≡ 0 → stateErrorsIn model ns rs name v ≡ []
-  unfolding stateErrorsIn heldErrorsIn
-  state-bare e = let t : eqb held 0 ≡ true = eq-eqb held 0 e in rw (← h, t) refl
+module _ (model : Span) (ns rs : List (List ℕ)) (name held first : ℕ) where
+  pub state-bare : held ≡ 0 → heldErrorsIn model ns rs name held first ≡ []
+  unfolding heldErrorsIn
+  state-bare e = let t : eqb held 0 ≡ true = eq-eqb held 0 e in rw t refl
 
-  module _ (first : ℕ) (g : first ≡ plusOne (place (isFated 1 v) rs)) (n : held ≡ 0 → ⊥) where
-    pub state-lacks : wordOf (getD rs (held - 1) []) 0 ≡ 2 → first ≡ 0 → stateErrorsIn model ns rs name v ≡ error noInitialCondition model name ∷ []
-    unfolding stateErrorsIn heldErrorsIn
+  module _ (n : held ≡ 0 → ⊥) where
+    pub state-lacks : wordOf (getD rs (held - 1) []) 0 ≡ 2 → first ≡ 0 → heldErrorsIn model ns rs name held first ≡ error noInitialCondition model name ∷ []
+    unfolding heldErrorsIn
     state-lacks k e =
         let t : eqb held 0 ≡ false = ne-eqb held 0 n in
         let u : eqb (wordOf (getD rs (held - 1) []) 0) 2 ≡ true = eq-eqb _ 2 k in
         let w : eqb first 0 ≡ true = eq-eqb first 0 e in
-        rw (← h, ← g, t, u, w) refl
+        rw (t, u, w) refl
 
-    pub state-starts : wordOf (getD rs (held - 1) []) 0 ≡ 2 → (first ≡ 0 → ⊥) → stateErrorsIn model ns rs name v ≡ []
-    unfolding stateErrorsIn heldErrorsIn
+    pub state-starts : wordOf (getD rs (held - 1) []) 0 ≡ 2 → (first ≡ 0 → ⊥) → heldErrorsIn model ns rs name held first ≡ []
+    unfolding heldErrorsIn
     state-starts k e =
         let t : eqb held 0 ≡ false = ne-eqb held 0 n in
         let u : eqb (wordOf (getD rs (held - 1) []) 0) 2 ≡ true = eq-eqb _ 2 k in
         let w : eqb first 0 ≡ false = ne-eqb first 0 e in
-        rw (← h, ← g, t, u, w) refl
+        rw (t, u, w) refl
 
-    pub state-free : (wordOf (getD rs (held - 1) []) 0 ≡ 2 → ⊥) → first ≡ 0 → stateErrorsIn model ns rs name v ≡ []
-    unfolding stateErrorsIn heldErrorsIn
+    pub state-free : (wordOf (getD rs (held - 1) []) 0 ≡ 2 → ⊥) → first ≡ 0 → heldErrorsIn model ns rs name held first ≡ []
+    unfolding heldErrorsIn
     state-free k e =
         let t : eqb held 0 ≡ false = ne-eqb held 0 n in
         let u : eqb (wordOf (getD rs (held - 1) []) 0) 2 ≡ false = ne-eqb _ 2 k in
         let w : eqb first 0 ≡ true = eq-eqb first 0 e in
-        rw (← h, ← g, t, u, w) refl
+        rw (t, u, w) refl
 
-    pub state-algebraic : (wordOf (getD rs (held - 1) []) 0 ≡ 2 → ⊥) → (first ≡ 0 → ⊥) → stateErrorsIn model ns rs name v ≡ error algebraicInitialCondition (rightSpanIn ns rs (first - 1)) name ∷ []
-    unfolding stateErrorsIn heldErrorsIn
+    pub state-algebraic : (wordOf (getD rs (held - 1) []) 0 ≡ 2 → ⊥) → (first ≡ 0 → ⊥) → heldErrorsIn model ns rs name held first ≡ error algebraicInitialCondition (rightSpanIn ns rs (first - 1)) name ∷ []
+    unfolding heldErrorsIn
     state-algebraic k e =
         let t : eqb held 0 ≡ false = ne-eqb held 0 n in
         let u : eqb (wordOf (getD rs (held - 1) []) 0) 2 ≡ false = ne-eqb _ 2 k in
         let w : eqb first 0 ≡ false = ne-eqb first 0 e in
-        rw (← h, ← g, t, u, w) refl
+        rw (t, u, w) refl
 
 -- ---- of all variables
 
@@ -128,12 +128,14 @@ righted-listed z d d′ n r es w p =
     record { small = w .small; long = omega (arith, lists-length _ _ _ _ _ _ (w .long) p, w .long); right = rw (k .stmts) at (w .right) }
 
 -- one variable more
-pub starting-next : (z : Sizes) (d d′ d″ : List ℕ) (model : Span) (names : List ℕ) (v n r r′ : ℕ) → Righted d z
+pub starting-next : (z : Sizes) (d d′ d″ : List ℕ) (model : Span) (names : List ℕ) (v n r r′ held first : ℕ) → Righted d z
+    → held ≡ plusOne (place (isFated 2 v) (stmtsIn d z)) → first ≡ plusOne (place (isFated 1 v) (stmtsIn d z))
     → ListsAt (errorsAt z) d n (startingIn model (nodesIn d z) (stmtsIn d z) names v) r d′
-    → ListsAt (errorsAt z) d′ r (stateErrorsIn model (nodesIn d′ z) (stmtsIn d′ z) (getD names v 0) v) r′ d″
+    → ListsAt (errorsAt z) d′ r (heldErrorsIn model (nodesIn d′ z) (stmtsIn d′ z) (getD names v 0) held first) r′ d″
     → (r′ ≤ r + 1) × ListsAt (errorsAt z) d n (startingIn model (nodesIn d z) (stmtsIn d z) names (v + 1)) r′ d″
-starting-next z d d′ d″ model names v n r r′ w p q =
+unfolding stateErrorsIn
+starting-next z d d′ d″ model names v n r r′ held first w eh ef p q =
     let k = kept-listed z d d′ n r _ (w .long) p in
-    let q′ : ListsAt (errorsAt z) d′ r (stateErrorsIn model (nodesIn d z) (stmtsIn d z) (getD names v 0) v) r′ d″ = rw (k .nodes, k .stmts) q in
+    let q′ : ListsAt (errorsAt z) d′ r (stateErrorsIn model (nodesIn d z) (stmtsIn d z) (getD names v 0) v) r′ d″ = rw (← eh, ← ef, k .nodes, k .stmts) q in
     let l : errorsAt z ≤ length d = omega (arith, w .long) in
-    (omega (arith, q .0, state-few model (nodesIn d′ z) (stmtsIn d′ z) (getD names v 0) v), rw (starting-turn model (nodesIn d z) (stmtsIn d z) names v) (then-at (errorsAt z) d d′ d″ n r r′ _ _ l p q′))
+    (omega (arith, q′ .0, state-few model (nodesIn d z) (stmtsIn d z) (getD names v 0) v), rw (starting-turn model (nodesIn d z) (stmtsIn d z) names v) (then-at (errorsAt z) d d′ d″ n r r′ _ _ l p q′))

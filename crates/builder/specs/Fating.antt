@@ -1,10 +1,11 @@
 -- The fates of statements by numbers, as the code writes them into words 6 and 7 of the statements' records.
-use Prim.Native.Nat.{ℕ, _-_, _/_, _%_}
+use Prim.Native.Nat.{ℕ, _-_, _/_, _%_, _<_}
+use mathlib.Core.Path.{_≡_}
 use mathlib.Core.Bool.{Bool, cond, _&&_}
 use mathlib.Core.List.{List, [], _∷_, _++_}
 use lib.Dec.{eqb}
-use lib.ListN.{take, drop}
-use Rattle.functions.specs.Lists.{member}
+use lib.ListN.{length, take, drop, getD}
+use Rattle.functions.specs.Lists.{member, place, placeFrom, plusOne, times}
 use Rattle.ast.specs.Words.{wordOf}
 
 -- A statement that is left holds the queue's first state, or is left over.
@@ -42,3 +43,23 @@ fated (r ∷ rs) (x ∷ xs) = withFate r x ∷ fated rs xs
 -- a record of this fate and variable
 unfoldable pub isFated : ℕ → ℕ → List ℕ → Bool
 isFated fate v r = eqb (wordOf r 6) fate && eqb (wordOf r 7) v
+
+-- ---- in tables of the variables
+
+-- Of the statements' records `rs` from number i on: the first that each variable holds plus 1 or 0, its first initial condition plus 1 or 0, and how many it has.
+pub record FatesFrom (i : ℕ) (rs : List (List ℕ)) (held first conditions : List ℕ) : Type 0 where
+  pub held-long : length held ≡ 129
+  pub first-long : length first ≡ 129
+  pub conditions-long : length conditions ≡ 129
+  pub held-of : (v : ℕ) → v < 129 → getD held v 0 ≡ plusOne (placeFrom i (isFated 2 v) (drop i rs))
+  pub first-of : (v : ℕ) → v < 129 → getD first v 0 ≡ plusOne (placeFrom i (isFated 1 v) (drop i rs))
+  pub conditions-of : (v : ℕ) → v < 129 → getD conditions v 0 ≡ times (isFated 1 v) (drop i rs)
+
+-- Of all of them.
+pub record FatesIn (rs : List (List ℕ)) (held first conditions : List ℕ) : Type 0 where
+  pub held-long : length held ≡ 129
+  pub first-long : length first ≡ 129
+  pub conditions-long : length conditions ≡ 129
+  pub held-of : (v : ℕ) → v < 129 → getD held v 0 ≡ plusOne (place (isFated 2 v) rs)
+  pub first-of : (v : ℕ) → v < 129 → getD first v 0 ≡ plusOne (place (isFated 1 v) rs)
+  pub conditions-of : (v : ℕ) → v < 129 → getD conditions v 0 ≡ times (isFated 1 v) rs

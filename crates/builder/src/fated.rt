@@ -1,14 +1,13 @@
 // The fates of the flattened statements, in words 6 and 7 of their records in the area.
 ghost use mathlib.Core.Path.{_≡_};
 ghost use mathlib.Core.List.{[]};
-ghost use Prim.Native.Nat.{_+_, _*_, _^_, _≤_, _<_};
+ghost use Prim.Native.Nat.{ℕ, _+_, _*_, _^_, _≤_, _<_};
 ghost use lib.ListN.{length, take, drop, getD};
-ghost use Rattle.functions.specs.Lists.{place, plusOne, times};
 ghost use Rattle.ast.specs.Words.{section, wordOf, bytesOf};
 ghost use Rattle.ast.specs.Bytes.{put};
 ghost use Rattle.ast.specs.Encode.{encode};
 ghost use Rattle.builder.specs.Places.{Small, stmtsAt, varsAt};
-ghost use Rattle.builder.specs.Fating.{fateIn, queueIn, fatesIn, withFate, fated, isFated};
+ghost use Rattle.builder.specs.Fating.{fateIn, queueIn, fatesIn, withFate, fated, FatesFrom, FatesIn};
 use super::pairing::has_role;
 use super::places::Sizes;
 use super::places::stmts_at;
@@ -81,41 +80,71 @@ pub fn write_fates(area: &mut [u8], z: Sizes, roles: &[u32], states: &[u32], que
     }
 }
 
-// Whether statement i has a fate of variable v.
-fn is_fated(area: &[u8], z: Sizes, i: usize, fate: usize, v: usize) -> bool
-    requires { ⌜ Small z × (varsAt z ≤ length (now area)) × (i < z .stmts) ⌝ }
-    ensures { λ r. ⌜ r ≡ isFated fate v (getD (section 8 (z .stmts) (stmtsAt z) (now (area .entry))) i []) ⌝ }
-{
-    (stmt_of(area, z, i, 6) == fate) & (stmt_of(area, z, i, 7) == v)
+// Of each variable: the first statement that it holds plus 1 or 0, its first initial condition plus 1 or 0, and how many it has.
+pub struct Fates {
+    pub held: [u32; 129],
+    pub first: [u32; 129],
+    pub conditions: [u32; 129],
 }
 
-// The number, plus 1, of the first statement with a fate of variable v, or 0.
-pub fn first_fate(area: &[u8], z: Sizes, fate: usize, v: usize) -> usize
-    requires { ⌜ Small z × (varsAt z ≤ length (now area)) ⌝ }
-    ensures { λ r. ⌜ (r ≡ plusOne (place (isFated fate v) (section 8 (z .stmts) (stmtsAt z) (now (area .entry))))) × (r ≤ z .stmts) ⌝ }
+// 0 for each variable.
+fn zeros() -> [u32; 129]
+    ensures { λ r. ⌜ (length r ≡ 129) × ((v : ℕ) → getD r v 0 ≡ 0) ⌝ }
 {
-    let mut i = 0;
-    while i < z.stmts {
-        if is_fated(area, z, i, fate, v) {
-            return i + 1;
-        }
-        i += 1;
-    }
-    0
+    [0u32; 129]
 }
 
-// How many initial conditions variable v has.
-pub fn conditions(area: &[u8], z: Sizes, v: usize) -> u32
-    requires { ⌜ Small z × (varsAt z ≤ length (now area)) ⌝ }
-    ensures { λ r. ⌜ (r ≡ times (isFated 1 v) (section 8 (z .stmts) (stmtsAt z) (now (area .entry)))) × (r ≤ z .stmts) ⌝ }
+// Adds statement i to the fates of those behind it.
+fn note_fate(
+    area: &[u8],
+    z: Sizes,
+    i: usize,
+    held: &mut [u32],
+    first: &mut [u32],
+    conditions: &mut [u32],
+)
+    requires { ⌜ Small z × (varsAt z ≤ length (now area)) × (i < z .stmts) × FatesFrom (i + 1) (section 8 (z .stmts) (stmtsAt z) (now area)) (now held) (now first) (now conditions) ⌝ }
+    ensures { λ _. ⌜ FatesFrom i (section 8 (z .stmts) (stmtsAt z) (now (area .entry))) (now (held .exit)) (now (first .exit)) (now (conditions .exit)) ⌝ }
 {
-    let mut total: u32 = 0;
-    let mut i = 0;
-    while i < z.stmts {
-        if is_fated(area, z, i, 1, v) {
-            total += 1;
-        }
-        i += 1;
+    let fate = stmt_of(area, z, i, 6);
+    let v = stmt_of(area, z, i, 7);
+    if 129 <= v {
+        return;
     }
-    total
+    if fate == 2 {
+        held[v] = (i + 1) as u32;
+        return;
+    }
+    if fate == 1 {
+        first[v] = (i + 1) as u32;
+        conditions[v] = conditions[v] + 1;
+    }
+}
+
+// Adds all statements, from the last one on.
+fn note_fates(area: &[u8], z: Sizes, held: &mut [u32], first: &mut [u32], conditions: &mut [u32])
+    requires { ⌜ Small z × (varsAt z ≤ length (now area)) × FatesFrom (z .stmts) (section 8 (z .stmts) (stmtsAt z) (now area)) (now held) (now first) (now conditions) ⌝ }
+    ensures { λ _. ⌜ FatesIn (section 8 (z .stmts) (stmtsAt z) (now (area .entry))) (now (held .exit)) (now (first .exit)) (now (conditions .exit)) ⌝ }
+{
+    let mut i = z.stmts;
+    while 0 < i {
+        i -= 1;
+        note_fate(area, z, i, held, first, conditions);
+    }
+}
+
+// The fates of all statements.
+pub fn fates_of(area: &[u8], z: Sizes) -> Fates
+    requires { ⌜ Small z × (varsAt z ≤ length (now area)) ⌝ }
+    ensures { λ r. ⌜ FatesIn (section 8 (z .stmts) (stmtsAt z) (now (area .entry))) (r .held) (r .first) (r .conditions) ⌝ }
+{
+    let mut held = zeros();
+    let mut first = zeros();
+    let mut conditions = zeros();
+    note_fates(area, z, &mut held, &mut first, &mut conditions);
+    Fates {
+        held: held,
+        first: first,
+        conditions: conditions,
+    }
 }

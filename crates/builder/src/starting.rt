@@ -9,9 +9,9 @@ ghost use Rattle.builder.specs.Flatten.{modelAt};
 ghost use Rattle.builder.specs.Allocate.{countErrors};
 ghost use Rattle.builder.specs.Places.{Small, errorsAt};
 ghost use Rattle.builder.specs.Allocating.{nodesIn, stmtsIn, ListsAt};
-ghost use Rattle.builder.specs.Starting.{Righted, rightSpanIn, stateErrorsIn, startingIn};
+ghost use Rattle.builder.specs.Starting.{Righted, rightSpanIn, heldErrorsIn, startingIn};
 use super::allocate::list_error;
-use super::fated::first_fate;
+use super::fated::fates_of;
 use super::fated::stmt_of;
 use super::places::Sizes;
 use ast::records::model;
@@ -71,25 +71,24 @@ fn condition_error(area: &mut [u8], z: Sizes, i: usize, name: u32, count: usize)
     list_error(area, z, count, 17, from, to, name)
 }
 
-// Errors 16 and 17 of variable v.
+// Errors 16 and 17 of a variable: `held` is the statement that it holds plus 1 or 0, `first` its first initial condition plus 1 or 0.
 fn state_errors(
     f: &[u8],
     s: Sections,
     m: usize,
     area: &mut [u8],
     z: Sizes,
-    v: usize,
     name: u32,
+    held: usize,
+    first: usize,
     count: usize,
 ) -> usize
-    requires { ⌜ Open (now f) s × (m < s .counts .models) × Righted (now area) z × (count < 2 ^ 40) ⌝ }
-    ensures { λ r. ⌜ ListsAt (errorsAt z) (now (area .entry)) count (stateErrorsIn (modelAt (fileIn (now (f .entry)) s) m .span) (nodesIn (now (area .entry)) z) (stmtsIn (now (area .entry)) z) name v) r (now (area .exit)) ⌝ }
+    requires { ⌜ Open (now f) s × (m < s .counts .models) × Righted (now area) z × (held ≤ z .stmts) × (first ≤ z .stmts) × (count < 2 ^ 40) ⌝ }
+    ensures { λ r. ⌜ ListsAt (errorsAt z) (now (area .entry)) count (heldErrorsIn (modelAt (fileIn (now (f .entry)) s) m .span) (nodesIn (now (area .entry)) z) (stmtsIn (now (area .entry)) z) name held first) r (now (area .exit)) ⌝ }
 {
-    let held = first_fate(area, z, 2, v);
     if held == 0 {
         return count;
     }
-    let first = first_fate(area, z, 1, v);
     if stmt_of(area, z, held - 1, 0) == 2 {
         if first == 0 {
             return model_error(f, s, m, area, z, 16, name, count);
@@ -115,10 +114,13 @@ pub fn starting_errors(
     requires { ⌜ Open (now f) s × (m < s .counts .models) × (z .vars ≤ length (now names)) × Righted (now area) z × (count + z .vars < 2 ^ 40) ⌝ }
     ensures { λ r. ⌜ ListsAt (errorsAt z) (now (area .entry)) count (startingIn (modelAt (fileIn (now (f .entry)) s) m .span) (nodesIn (now (area .entry)) z) (stmtsIn (now (area .entry)) z) (now (names .entry)) (z .vars)) r (now (area .exit)) ⌝ }
 {
+    let t = fates_of(area, z);
     let mut listed = count;
     let mut v = 0;
     while v < z.vars {
-        listed = state_errors(f, s, m, area, z, v, names[v], listed);
+        let held = t.held[v] as usize;
+        let first = t.first[v] as usize;
+        listed = state_errors(f, s, m, area, z, names[v], held, first, listed);
         v += 1;
     }
     listed

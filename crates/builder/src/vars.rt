@@ -3,7 +3,7 @@ ghost use mathlib.Core.Path.{_≡_};
 ghost use mathlib.Core.List.{[], _∷_};
 ghost use Prim.Native.Nat.{_+_, _*_, _^_, _≤_, _<_};
 ghost use lib.ListN.{length};
-ghost use Rattle.functions.specs.Lists.{flag};
+ghost use Rattle.functions.specs.Lists.{flag, place, plusOne, times};
 ghost use Rattle.ast.specs.Words.{section, bytesOf};
 ghost use Rattle.ast.specs.Bytes.{put};
 ghost use Rattle.ast.specs.Encode.{encode};
@@ -12,11 +12,11 @@ ghost use Rattle.builder.specs.Variables.{fromZero, lastBounds};
 ghost use Rattle.builder.specs.Flatten.{modelAt};
 ghost use Rattle.builder.specs.Tables.{Classes};
 ghost use Rattle.builder.specs.Places.{Small, stmtsAt, varsAt, depsAt};
+ghost use Rattle.builder.specs.Fating.{isFated};
 ghost use Rattle.builder.specs.VarRecords.{VarTables, leadWords, varWords, varRecords, headWords};
 use super::bounds::put_last_bounds;
 use super::bounds::put_var_bounds;
-use super::fated::conditions;
-use super::fated::first_fate;
+use super::fated::fates_of;
 use super::places::Sizes;
 use super::places::vars_at;
 use ast::sections::Sections;
@@ -54,7 +54,7 @@ fn put_lead(
     put_word(area, at + 28, flag_of(time));
 }
 
-// Writes the record of variable v.
+// Writes the record of variable v: `held` is the statement that it holds plus 1 or 0, `initial` how many initial conditions it has.
 fn write_var(
     f: &[u8],
     s: Sections,
@@ -67,13 +67,13 @@ fn write_var(
     starts: &[u32],
     indexes: &[u32],
     reach: &[u8],
+    held: u32,
+    initial: u32,
 )
-    requires { ⌜ Open (now f) s × Classes (fileIn (now f) s .names) (now classes) × (s .counts .names ≤ length (now classes)) × (m < s .counts .models) × Small z × (depsAt z ≤ length (now area)) × VarTables (z .vars) (now names) (now starts) (now indexes) (now reach) × (v < z .vars) ⌝ }
+    requires { ⌜ Open (now f) s × Classes (fileIn (now f) s .names) (now classes) × (s .counts .names ≤ length (now classes)) × (m < s .counts .models) × Small z × (depsAt z ≤ length (now area)) × VarTables (z .vars) (now names) (now starts) (now indexes) (now reach) × (v < z .vars) × (held ≡ plusOne (place (isFated 2 v) (section 8 (z .stmts) (stmtsAt z) (now area)))) × (initial ≡ times (isFated 1 v) (section 8 (z .stmts) (stmtsAt z) (now area))) ⌝ }
     ensures { λ _. ⌜ now (area .exit) ≡ put (now (area .entry)) (varsAt z + 48 * v) (bytesOf (varWords (fileIn (now (f .entry)) s .names) (modelAt (fileIn (now (f .entry)) s) m .unknowns) (section 8 (z .stmts) (stmtsAt z) (now (area .entry))) (now (names .entry)) (now (starts .entry)) (now (indexes .entry)) (now (reach .entry)) v)) ⌝ }
 {
     let at = vars_at(z) + 48 * v;
-    let held = first_fate(area, z, 2, v) as u32;
-    let initial = conditions(area, z, v);
     let time = (v == 0) | (reach[v] == 1);
     put_lead(
         area,
@@ -105,9 +105,26 @@ pub fn write_vars(
     requires { ⌜ Open (now f) s × Classes (fileIn (now f) s .names) (now classes) × (s .counts .names ≤ length (now classes)) × (m < s .counts .models) × Small z × (depsAt z ≤ length (now area)) × VarTables (z .vars) (now names) (now starts) (now indexes) (now reach) ⌝ }
     ensures { λ _. ⌜ now (area .exit) ≡ put (now (area .entry)) (varsAt z) (encode (varRecords (fileIn (now (f .entry)) s .names) (modelAt (fileIn (now (f .entry)) s) m .unknowns) (section 8 (z .stmts) (stmtsAt z) (now (area .entry))) (now (names .entry)) (now (starts .entry)) (now (indexes .entry)) (now (reach .entry)) (z .vars))) ⌝ }
 {
+    let t = fates_of(area, z);
     let mut v = 0;
     while v < z.vars {
-        write_var(f, s, classes, m, area, z, v, names, starts, indexes, reach);
+        let held = t.held[v];
+        let initial = t.conditions[v];
+        write_var(
+            f,
+            s,
+            classes,
+            m,
+            area,
+            z,
+            v,
+            names,
+            starts,
+            indexes,
+            reach,
+            held,
+            initial,
+        );
         v += 1;
     }
 }

@@ -19,17 +19,6 @@ add-at : tie.Need-add-at
 unfolding stmtsAt varsAt depsAt
 add-at c = search needs
 
-first-fate-requires : tie.Need-first-fate-requires
-unfolding stmtsAt varsAt depsAt
-first-fate-requires c κs = search needs
-
-cast-held : tie.Need-cast-held
-cast-held c = search needs
-
-conditions-requires : tie.Need-conditions-requires
-unfolding stmtsAt varsAt depsAt
-conditions-requires c κs = search needs
-
 shared-slice-read-time : tie.Need-shared-slice-read-time
 shared-slice-read-time c = search needs
 
@@ -62,7 +51,7 @@ shared-slice-read-put-lead-4 c = search needs
 
 put-lead-requires : tie.Need-put-lead-requires
 unfolding stmtsAt varsAt depsAt
-put-lead-requires c κs = (omega (arith, c .before .before .before .before .before .before .before .before .before .before .vars-at .ensures), c .before .before .before .before .before .before .before .before .before .before .before .before .before .before .before .before .before .before .pre .6 .rises (c .before .before .before .before .before .before .before .before .before .before .before .before .before .before .before .before .before .before .args .v) (c .before .before .before .before .before .before .before .before .before .before .before .before .before .before .before .before .before .before .pre .7))
+put-lead-requires c κs = (omega (arith, c .before .before .before .before .before .before .vars-at .ensures), c .before .before .before .before .before .before .before .before .before .before .before .before .before .before .pre .6 .rises (c .before .before .before .before .before .before .before .before .before .before .before .before .before .before .args .v) (c .before .before .before .before .before .before .before .before .before .before .before .before .before .before .pre .7))
 
 mul-put-var-bounds : tie.Need-mul-put-var-bounds
 mul-put-var-bounds c = search needs
@@ -71,7 +60,7 @@ shared-slice-read-put-var-bounds : tie.Need-shared-slice-read-put-var-bounds
 shared-slice-read-put-var-bounds c = search needs
 
 cast-put-var-bounds : tie.Need-cast-put-var-bounds
-cast-put-var-bounds c = omega (arith, c .shared-slice-known12 .given (c .before .before .before .before .before .before .before .before .before .before .before .before .before .before .before .before .before .before .before .before .before .before .args .v))
+cast-put-var-bounds c = omega (arith, c .shared-slice-known12 .given (c .before .before .before .before .before .before .before .before .before .before .before .before .before .before .before .before .before .before .args .v))
 
 add-put-var-bounds : tie.Need-add-put-var-bounds
 unfolding stmtsAt varsAt depsAt
@@ -79,16 +68,16 @@ add-put-var-bounds c = search needs
 
 put-var-bounds-requires : tie.Need-put-var-bounds-requires
 unfolding stmtsAt varsAt depsAt
-put-var-bounds-requires c κs = (c .before .before .before .before .before .before .before .before .before .before .before .before .before .before .before .before .before .before .before .before .before .before .before .pre .0, c .before .before .before .before .before .before .before .before .before .before .before .before .before .before .before .before .before .before .before .before .before .before .before .pre .1, c .before .before .before .before .before .before .before .before .before .before .before .before .before .before .before .before .before .before .before .before .before .before .before .pre .2, c .before .before .before .before .before .before .before .before .before .before .before .before .before .before .before .before .before .before .before .before .before .before .before .pre .3, omega (arith, c .before .before .before .before .before .before .before .before .before .before .before .before .before .before .before .vars-at .ensures, c .before .before .before .before .put-lead .kept .0, c .before .before .before .before .before .before .before .before .before .before .before .before .before .before .before .before .before .before .before .before .before .before .before .pre .4, c .before .before .before .before .before .before .before .before .before .before .before .before .before .before .before .before .before .before .before .before .before .before .before .pre .5, c .before .before .before .before .before .before .before .before .before .before .before .before .before .before .before .before .before .before .before .before .before .before .before .pre .7))
+put-var-bounds-requires c κs = (c .before .before .before .before .before .before .before .before .before .before .before .before .before .before .before .before .before .before .before .pre .0, c .before .before .before .before .before .before .before .before .before .before .before .before .before .before .before .before .before .before .before .pre .1, c .before .before .before .before .before .before .before .before .before .before .before .before .before .before .before .before .before .before .before .pre .2, c .before .before .before .before .before .before .before .before .before .before .before .before .before .before .before .before .before .before .before .pre .3, omega (arith, c .before .before .before .before .before .before .before .before .before .before .before .vars-at .ensures, c .before .before .before .before .put-lead .kept .0, c .before .before .before .before .before .before .before .before .before .before .before .before .before .before .before .before .before .before .before .pre .4, c .before .before .before .before .before .before .before .before .before .before .before .before .before .before .before .before .before .before .before .pre .5, c .before .before .before .before .before .before .before .before .before .before .before .before .before .before .before .before .before .before .before .pre .7))
 
 same-length : tie.Need-same-length
 same-length c = search needs
 
 returns : tie.Need-returns
 unfolding stmtsAt varsAt depsAt varWords
-returns c = let e : c .before .before .before .before .before .before .before .before .before .before .before .before .before .before .before .before .before .before .vars-at .result + 48 * c .before .before .before .before .before .before .before .before .before .before .before .before .before .before .before .before .before .before .before .before .before .before .before .before .before .before .args .v ≡ varsAt (c .before .before .before .before .before .before .before .before .before .before .before .before .before .before .before .before .before .before .before .before .before .before .before .before .before .before .args .z) + 48 * c .before .before .before .before .before .before .before .before .before .before .before .before .before .before .before .before .before .before .before .before .before .before .before .before .before .before .args .v = omega (arith, c .before .before .before .before .before .before .before .before .before .before .before .before .before .before .before .before .before .before .vars-at .ensures) in
-    let l : varsAt (c .before .before .before .before .before .before .before .before .before .before .before .before .before .before .before .before .before .before .before .before .before .before .before .before .before .before .args .z) + 48 * c .before .before .before .before .before .before .before .before .before .before .before .before .before .before .before .before .before .before .before .before .before .before .before .before .before .before .args .v + 48 ≤ length (c .before .before .before .before .before .before .before .before .before .before .before .before .before .before .before .before .before .before .before .before .before .before .before .before .before .before .args .area .now) = omega (arith, c .before .before .before .before .before .before .before .before .before .before .before .before .before .before .before .before .before .before .before .before .before .before .before .before .before .before .pre .5, c .before .before .before .before .before .before .before .before .before .before .before .before .before .before .before .before .before .before .before .before .before .before .before .before .before .before .pre .7) in
-    lead-and-bounds (c .before .before .before .before .before .before .before .before .before .before .before .before .before .before .before .before .before .before .before .before .before .before .before .before .before .before .args .area .now) _ _ (c .before .before .before .before .before .before .before .before .before .before .before .before .before .before .before .before .before .before .vars-at .result + 48 * c .before .before .before .before .before .before .before .before .before .before .before .before .before .before .before .before .before .before .before .before .before .before .before .before .before .before .args .v) (varsAt (c .before .before .before .before .before .before .before .before .before .before .before .before .before .before .before .before .before .before .before .before .before .before .before .before .before .before .args .z) + 48 * c .before .before .before .before .before .before .before .before .before .before .before .before .before .before .before .before .before .before .before .before .before .before .before .before .before .before .args .v) _ _ _ _ _ _ _ _ _ _ e l (c .before .before .before .before .before .before .before .before .before .before .before .before .before .before .before .before .first-fate .ensures .0) (c .before .before .before .before .before .before .before .before .before .before .before .before .before .before .conditions .ensures .0) (c .before .before .before .before .before .before .before .put-lead .ensures) (c .before .before .put-var-bounds .ensures)
+returns c = let e : c .before .before .before .before .before .before .before .before .before .before .before .before .before .before .vars-at .result + 48 * c .before .before .before .before .before .before .before .before .before .before .before .before .before .before .before .before .before .before .before .before .before .before .args .v ≡ varsAt (c .before .before .before .before .before .before .before .before .before .before .before .before .before .before .before .before .before .before .before .before .before .before .args .z) + 48 * c .before .before .before .before .before .before .before .before .before .before .before .before .before .before .before .before .before .before .before .before .before .before .args .v = omega (arith, c .before .before .before .before .before .before .before .before .before .before .before .before .before .before .vars-at .ensures) in
+    let l : varsAt (c .before .before .before .before .before .before .before .before .before .before .before .before .before .before .before .before .before .before .before .before .before .before .args .z) + 48 * c .before .before .before .before .before .before .before .before .before .before .before .before .before .before .before .before .before .before .before .before .before .before .args .v + 48 ≤ length (c .before .before .before .before .before .before .before .before .before .before .before .before .before .before .before .before .before .before .before .before .before .before .args .area .now) = omega (arith, c .before .before .before .before .before .before .before .before .before .before .before .before .before .before .before .before .before .before .before .before .before .before .pre .5, c .before .before .before .before .before .before .before .before .before .before .before .before .before .before .before .before .before .before .before .before .before .before .pre .7) in
+    lead-and-bounds (c .before .before .before .before .before .before .before .before .before .before .before .before .before .before .before .before .before .before .before .before .before .before .args .area .now) _ _ (c .before .before .before .before .before .before .before .before .before .before .before .before .before .before .vars-at .result + 48 * c .before .before .before .before .before .before .before .before .before .before .before .before .before .before .before .before .before .before .before .before .before .before .args .v) (varsAt (c .before .before .before .before .before .before .before .before .before .before .before .before .before .before .before .before .before .before .before .before .before .before .args .z) + 48 * c .before .before .before .before .before .before .before .before .before .before .before .before .before .before .before .before .before .before .before .before .before .before .args .v) _ _ _ _ _ _ _ _ _ _ e l (c .before .before .before .before .before .before .before .before .before .before .before .before .before .before .before .before .before .before .before .before .before .before .pre .8) (c .before .before .before .before .before .before .before .before .before .before .before .before .before .before .before .before .before .before .before .before .before .before .pre .9) (c .before .before .before .before .before .before .before .put-lead .ensures) (c .before .before .put-var-bounds .ensures)
 
 pub write-var-spec : {M : Type 1} → statement M
 write-var-spec =
@@ -97,9 +86,6 @@ write-var-spec =
     vars-at-requires
     mul-at
     add-at
-    first-fate-requires
-    cast-held
-    conditions-requires
     shared-slice-read-time
     mul-put-lead
     shared-slice-read-put-lead
