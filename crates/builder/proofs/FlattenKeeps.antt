@@ -1,4 +1,6 @@
 -- What holds of every statement of a file holds of every flattened one, where replacing keeps it.
+use mathlib.Core.Path.{_≡_, refl}
+use mathlib.Core.Bool.{cond}
 use mathlib.Core.List.{List}
 use mathlib.Core.Option.{Option, none, some}
 use Prim.Native.Nat.{ℕ, zero, suc}
@@ -10,6 +12,12 @@ use Rattle.ast.proofs.FromBytes.{every-each}
 use Rattle.builder.specs.Flatten.{modelNamed, modelAt, replacements, replacedName, subFlats, stmtFlats, flatten}
 use Rattle.builder.proofs.Everywhere.{all-map, cond-either}
 
+-- an argument's number is how many stand before it, keywords counted; the later wins
+replaced-last : (us : List Unknown) (a : Args) (k : ℕ) (e : Expr) (s : Span) (n : ℕ)
+    → replacements us (snoc a k e s) n ≡ cond (eqb (suc n) (replacedName us (count a) k)) (some e) (replacements us a n)
+unfolding replacements
+replaced-last us a k e s n = refl
+
 -- `F` of a flattened statement, `S` of a statement of the file, `A` of a call's arguments, `I` of what a name is replaced by
 module _ (F : Flat → Type 0) (S : Stmt → Type 0) (A : Args → Type 0) (I : Option Expr → Type 0)
     (nothing : I none) (last : (a : Args) (k : ℕ) (e : Expr) (s : Span) → A (snoc a k e s) → A a × I (some e))
@@ -20,7 +28,7 @@ module _ (F : Flat → Type 0) (S : Stmt → Type 0) (A : Args → Type 0) (I : 
   replaced-keeps us empty x n = nothing
   replaced-keeps us (snoc a k e s) x n =
       let l = last a k e s x in
-      cond-either I (eqb (suc n) (replacedName us (count a) k)) (some e) (replacements us a n) (l .1) (replaced-keeps us a (l .0) n)
+      rw replaced-last (cond-either I (eqb (suc n) (replacedName us (count a) k)) (some e) (replacements us a n) (l .1) (replaced-keeps us a (l .0) n))
 
   module _ (f : File) (h : (m : ℕ) → Each S (modelAt f m .stmts)) where
     sub-keeps : (sub : ℕ → List Flat) → ((m : ℕ) → Each F (sub m)) → (a : Args) → A a → (o : Option ℕ) → Each F (subFlats f sub a o)
