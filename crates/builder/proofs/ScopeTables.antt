@@ -9,7 +9,7 @@ use native.Mathlib.Decide.{ℕ-discrete}
 use native.Mathlib.Numerals.{add-one}
 use borrow.Author.Tests.{eqb-true, eq-eqb, ne-eqb}
 use lib.Dec.{eqb, leb}
-use lib.ListN.{length, take, drop, getD, set, length-set, replicate, length-append, length-replicate}
+use lib.ListN.{length, take, drop, getD, set, length-set, length-append}
 use lib.Seq.{take-suc, take-all, getD-set-same, getD-set-other}
 use Rattle.functions.specs.Lists.{any, placeFrom, place, plusOne, text, sameText, member, flag, each, sumOf, toList}
 use Rattle.functions.proofs.Lists.{clash, drop-here, drop-past}
@@ -137,40 +137,26 @@ pub time-below : (names : List (List ℕ)) → timeName names ≤ length names
 unfolding timeName place
 time-below names = below-of (placeFrom 0 (sameText (text "t")) names) (length names) (λ i e. omega (arith, place-below (sameText (text "t")) 0 names i e))
 
-zero-at : (n k : ℕ) → getD {A = ℕ} (replicate n 0) k 0 ≡ 0
-zero-at zero zero = refl
-zero-at zero (suc k) = refl
-zero-at (suc n) zero = refl
-zero-at (suc n) (suc k) = zero-at n k
-
 one-member : (k x : ℕ) → member k (x ∷ []) ≡ eqb k x
 unfolding member any
 one-member k x = or-false (eqb k x)
 
-module _ (n x : ℕ) (t : List ℕ) (e : t ≡ replicate 256 0) where
+module _ (n x : ℕ) (t : List ℕ) (long : length t ≡ 256) (e : (k : ℕ) → getD t k 0 ≡ 0) where
   -- where no name is t
   pub marks-none : x ≡ 0 → Marks n (x ∷ []) t
   unfolding flag
-  marks-none z = record {
-    long = ap length e ∙ length-replicate {A = ℕ} 256 0;
-    mark = λ k h. ap (λ (y : List ℕ). getD y k 0) e ∙ zero-at 256 k ∙ sym (ap flag (one-member (suc k) x ∙ ne-eqb (suc k) x (λ (q : suc k ≡ x). omega arith)));
-  }
+  marks-none z = record { long = long; mark = λ k h. e k ∙ sym (ap flag (one-member (suc k) x ∙ ne-eqb (suc k) x (λ (q : suc k ≡ x). omega arith))) }
 
   -- where one is
   pub marks-time : (x ≡ 0 → ⊥) → x ≤ 256 → Marks n (x ∷ []) (set t (x - 1) 1)
   unfolding flag
-  marks-time z l = record { long = simp length-set (ap length e ∙ length-replicate {A = ℕ} 256 0); mark = λ k h. go k (ℕ-discrete k (x - 1)) }
+  marks-time z l = record { long = simp length-set long; mark = λ k h. go k (ℕ-discrete k (x - 1)) }
     where
-      long : length t ≡ 256
-      long = ap length e ∙ length-replicate {A = ℕ} 256 0
-
       go : (k : ℕ) → Dec (k ≡ x - 1) → getD (set t (x - 1) 1) k 0 ≡ flag (member (suc k) (x ∷ []))
       go k (yes q) =
           let p : suc k ≡ x = omega (arith, z, q) in
           rw q (getD-set-same t (x - 1) 1 0 (omega (arith, long, z))) ∙ sym (ap flag (one-member (suc k) x ∙ eq-eqb (suc k) x p))
-      go k (no q) =
-          getD-set-other t (x - 1) k 1 0 q ∙ ap (λ (y : List ℕ). getD y k 0) e ∙ zero-at 256 k
-          ∙ sym (ap flag (one-member (suc k) x ∙ ne-eqb (suc k) x (λ (p : suc k ≡ x). q (omega (arith, p)))))
+      go k (no q) = getD-set-other t (x - 1) k 1 0 q ∙ e k ∙ sym (ap flag (one-member (suc k) x ∙ ne-eqb (suc k) x (λ (p : suc k ≡ x). q (omega (arith, p)))))
 
 -- ---- marks with the unknown at place i, u, whose name is x
 

@@ -2,9 +2,9 @@
 ghost use mathlib.Core.Path.{_≡_};
 ghost use mathlib.Core.Bool.{true, cond, not};
 ghost use mathlib.Core.List.{[], _∷_};
-ghost use Prim.Native.Nat.{suc, _+_, _^_, _≤_, _<_};
+ghost use Prim.Native.Nat.{ℕ, suc, _+_, _^_, _≤_, _<_};
 ghost use lib.Dec.{eqb};
-ghost use lib.ListN.{getD};
+ghost use lib.ListN.{length, getD};
 ghost use Rattle.functions.specs.Lists.{isSome, member, flag};
 ghost use Rattle.ast.specs.Opens.{Open, contentsIn, fileIn};
 ghost use Rattle.ast.specs.Records.{unknownOf};
@@ -80,18 +80,22 @@ fn time_name(f: &[u8], s: Sections, classes: &[u8; 256]) -> usize
     0
 }
 
-// 1 for t's name, 0 for every other.
-fn time_declared(f: &[u8], s: Sections, classes: &[u8; 256]) -> [u32; 256]
-    requires { ⌜ Open (now f) s × Classes (fileIn (now f) s .names) (now classes) ⌝ }
-    ensures { λ r. ⌜ Marks (s .counts .names) (timeName (fileIn (now (f .entry)) s .names) ∷ []) r ⌝ }
+// No marks.
+fn no_marks() -> [u32; 256]
+    ensures { λ r. ⌜ (length r ≡ 256) × ((n : ℕ) → getD r n 0 ≡ 0) ⌝ }
+{
+    [0u32; 256]
+}
+
+// Among no marks, marks t's name.
+fn time_declared(f: &[u8], s: Sections, classes: &[u8; 256], out: &mut [u32])
+    requires { ⌜ Open (now f) s × Classes (fileIn (now f) s .names) (now classes) × ((length (now out) ≡ 256) × ((n : ℕ) → getD (now out) n 0 ≡ 0)) ⌝ }
+    ensures { λ _. ⌜ Marks (s .counts .names) (timeName (fileIn (now (f .entry)) s .names) ∷ []) (now (out .exit)) ⌝ }
 {
     let time = time_name(f, s, classes);
-    let mut out = [0u32; 256];
-    if time == 0 {
-        return out;
+    if time != 0 {
+        out[time - 1] = 1;
     }
-    out[time - 1] = 1;
-    out
 }
 
 // The mark of an unknown's name: as it was where the name is reserved, else 1.
@@ -101,12 +105,12 @@ fn marked(old: u32, reserved: bool) -> u32
     if reserved { old } else { 1 }
 }
 
-// For each name 0 where it is no variable of model m, else 1: t, and each unreserved unknown's name.
-fn declared(f: &[u8], s: Sections, classes: &[u8; 256], m: usize) -> [u32; 256]
-    requires { ⌜ Open (now f) s × Classes (fileIn (now f) s .names) (now classes) × (m < s .counts .models) ⌝ }
-    ensures { λ r. ⌜ Marks (s .counts .names) (variableNames (fileIn (now (f .entry)) s .names) (modelAt (fileIn (now (f .entry)) s) m .unknowns)) r ⌝ }
+// Among no marks, marks the variables of model m: t, and each unreserved unknown's name.
+fn declared(f: &[u8], s: Sections, classes: &[u8; 256], m: usize, out: &mut [u32])
+    requires { ⌜ Open (now f) s × Classes (fileIn (now f) s .names) (now classes) × (m < s .counts .models) × ((length (now out) ≡ 256) × ((n : ℕ) → getD (now out) n 0 ≡ 0)) ⌝ }
+    ensures { λ _. ⌜ Marks (s .counts .names) (variableNames (fileIn (now (f .entry)) s .names) (modelAt (fileIn (now (f .entry)) s) m .unknowns)) (now (out .exit)) ⌝ }
 {
-    let mut out = time_declared(f, s, classes);
+    time_declared(f, s, classes, out);
     let first = model(f, s, m, 1);
     let count = model(f, s, m, 2);
     let mut i = 0;
@@ -115,7 +119,6 @@ fn declared(f: &[u8], s: Sections, classes: &[u8; 256], m: usize) -> [u32; 256]
         out[name] = marked(out[name], is_reserved(classes[name]));
         i += 1;
     }
-    out
 }
 
 // 1 where an entry is not 0.
@@ -157,7 +160,8 @@ pub fn model_vars(f: &[u8], s: Sections, classes: &[u8; 256], m: usize) -> [u32;
     requires { ⌜ Open (now f) s × (m < s .counts .models) × Classes (fileIn (now f) s .names) (now classes) ⌝ }
     ensures { λ r. ⌜ VarsOf (scopeIn (now (f .entry)) s m) r ⌝ }
 {
-    let mut out = declared(f, s, classes, m);
+    let mut out = no_marks();
+    declared(f, s, classes, m, &mut out);
     let first = model(f, s, m, 1);
     let count = model(f, s, m, 2);
     let mut i = 0;

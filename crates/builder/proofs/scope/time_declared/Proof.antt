@@ -1,4 +1,4 @@
-use mathlib.Core.Path.{refl, sym}
+use mathlib.Core.Path.{sym}
 use native.Mathlib.Omega.{arith}
 use Rattle.ast.specs.Opens.{fileIn}
 use Rattle.builder.proofs.Open.{names-long}
@@ -10,21 +10,24 @@ use Rattle.builder.proofs.scope.time_declared.Tie as tie
 time-name-requires : tie.Need-time-name-requires
 time-name-requires c κs = search needs
 
-returns : tie.Need-returns
-returns c = rw (sym (c .before .time-name .ensures)) (marks-none _ (c .before .time-name .result) _ refl (c .if1 .taken))
-
 sub-out : tie.Need-sub-out
 sub-out c = search needs
 
 mul-out : tie.Need-mul-out
-mul-out c = omega (arith, time-below (fileIn (c .before .before .before .args .f .now) (c .before .before .before .args .s) .names), names-long (c .before .before .before .args .f .now) (c .before .before .before .args .s), c .before .before .before .pre .0 .laid .within .names, c .before .time-name .ensures)
+mul-out c = omega (arith, time-below (fileIn (c .before .before .before .before .args .f .now) (c .before .before .before .before .args .s) .names), names-long (c .before .before .before .before .args .f .now) (c .before .before .before .before .args .s), c .before .before .before .before .pre .0 .laid .within .names, c .before .time-name .ensures)
 
-array-write-out : tie.Need-array-write-out
-array-write-out c = omega (arith, time-below (fileIn (c .before .before .before .args .f .now) (c .before .before .before .args .s) .names), names-long (c .before .before .before .args .f .now) (c .before .before .before .args .s), c .before .before .before .pre .0 .laid .within .names, c .before .time-name .ensures, c .if1 .left)
+slice-write-out : tie.Need-slice-write-out
+slice-write-out c = omega (arith, time-below (fileIn (c .before .before .before .before .args .f .now) (c .before .before .before .before .args .s) .names), names-long (c .before .before .before .before .args .f .now) (c .before .before .before .before .args .s), c .before .before .before .before .pre .0 .laid .within .names, c .before .before .before .before .pre .2 .0, c .before .time-name .ensures, c .if1 .taken)
+
+same-length : tie.Need-same-length
+same-length c = search needs
+
+returns : tie.Need-returns
+returns c = rw (sym (c .before .time-name .ensures)) (marks-time _ (c .before .time-name .result) (c .before .before .before .before .args .out .now) (c .before .before .before .before .pre .2 .0) (c .before .before .before .before .pre .2 .1) (c .if1 .taken) (omega (arith, time-below (fileIn (c .before .before .before .before .args .f .now) (c .before .before .before .before .args .s) .names), names-long (c .before .before .before .before .args .f .now) (c .before .before .before .before .args .s), c .before .before .before .before .pre .0 .laid .within .names, c .before .time-name .ensures)))
 
 returns-2 : tie.Need-returns-2
-returns-2 c = rw (sym (c .before .time-name .ensures)) (marks-time _ (c .before .time-name .result) _ refl (c .if1 .left) (omega (arith, time-below (fileIn (c .before .before .before .args .f .now) (c .before .before .before .args .s) .names), names-long (c .before .before .before .args .f .now) (c .before .before .before .args .s), c .before .before .before .pre .0 .laid .within .names, c .before .time-name .ensures)))
+returns-2 c = rw (sym (c .before .time-name .ensures)) (marks-none _ (c .before .time-name .result) (c .before .before .before .before .args .out .now) (c .before .before .before .before .pre .2 .0) (c .before .before .before .before .pre .2 .1) (c .if1 .left))
 
 pub time-declared-spec : {M : Type 1} → statement M
 time-declared-spec =
-    tie.close (tie.spec time-name-requires returns sub-out mul-out array-write-out returns-2)
+    tie.close (tie.spec time-name-requires sub-out mul-out slice-write-out same-length returns returns-2)
