@@ -12,30 +12,24 @@ use Rattle.functions.proofs.Lists.{clash, and-both, drop-here, drop-past, every
 use Rattle.functions.proofs.Texts.{same-text-equal, equal-same-text}
 use Rattle.builder.specs.Names.{textOf, spells, reserved, builtIns, isTime, isReserved, isBuiltIn, isNonNegative, isReal}
 use Rattle.builder.specs.Tables.{deciding, classFrom, classOf}
+use Rattle.builder.specs.Stored.{storedTexts, storedPlaces}
 
 -- ---- where each text stands
 
--- the code's TEXTS and PLACES
-unfoldable pub texts : List ℕ
-texts = text "tududtFGinputNonNegativeRsincostanpowexplogsqrtabsinterp1dpiecewise"
-
-unfoldable pub places : List ℕ
-places = 0 ∷ 1 ∷ 2 ∷ 6 ∷ 7 ∷ 8 ∷ 13 ∷ 24 ∷ 25 ∷ 28 ∷ 31 ∷ 34 ∷ 37 ∷ 40 ∷ 43 ∷ 47 ∷ 50 ∷ 58 ∷ 67 ∷ []
-
 unfoldable placed : ℕ → List ℕ → Bool
 placed i x =
-    sameText x (take (getD places (i + 1) 0 - getD places i 0) (drop (getD places i 0) texts))
-    && leb (getD places i 0) (getD places (i + 1) 0) && leb (getD places (i + 1) 0) 67
+    sameText x (take (getD storedPlaces (i + 1) 0 - getD storedPlaces i 0) (drop (getD storedPlaces i 0) storedTexts))
+    && leb (getD storedPlaces i 0) (getD storedPlaces (i + 1) 0) && leb (getD storedPlaces (i + 1) 0) 67
 
 every-placed : every placed 0 deciding ≡ true
-unfolding every placed texts places deciding text sameText
+unfolding every placed storedTexts storedPlaces deciding text sameText
 every-placed = refl
 
 -- text i: between its places, and these in order
 pub record Placed (i : ℕ) : Type 0 where
-  pub word : getD deciding i [] ≡ take (getD places (i + 1) 0 - getD places i 0) (drop (getD places i 0) texts)
-  pub rises : getD places i 0 ≤ getD places (i + 1) 0
-  pub within : getD places (i + 1) 0 ≤ 67
+  pub word : getD deciding i [] ≡ take (getD storedPlaces (i + 1) 0 - getD storedPlaces i 0) (drop (getD storedPlaces i 0) storedTexts)
+  pub rises : getD storedPlaces i 0 ≤ getD storedPlaces (i + 1) 0
+  pub within : getD storedPlaces (i + 1) 0 ≤ 67
 
 length-deciding : length deciding ≡ 18
 unfolding deciding
@@ -50,6 +44,25 @@ text-placed i h =
     let outer = and-both _ _ g in
     let inner = and-both _ _ (outer .0) in
     record { word = same-text-equal _ _ (inner .0); rises = leb-true _ _ (inner .1); within = leb-true _ _ (outer .1) }
+
+-- the same of two lists that are the text and the places: what reading text i of them needs and gives
+length-texts : length storedTexts ≡ 67
+unfolding storedTexts text
+length-texts = refl
+
+length-places : length storedPlaces ≡ 19
+unfolding storedPlaces
+length-places = refl
+
+module _ (ts ps : List ℕ) (i : ℕ) (q : (ts ≡ storedTexts) × (ps ≡ storedPlaces) × (i < 18)) where
+  pub text-read : i + 1 < length ps
+  text-read = omega (arith, ap length (q .1), length-places, q .2)
+
+  pub text-asked : (getD ps i 0 ≤ getD ps (i + 1) 0) × (getD ps (i + 1) 0 ≤ length ts)
+  text-asked = let p = text-placed i (q .2) in rw (q .0, q .1, length-texts) (p .rises, p .within)
+
+  pub text-word : take (getD ps (i + 1) 0 - getD ps i 0) (drop (getD ps i 0) ts) ≡ getD deciding i []
+  text-word = rw (q .0, q .1) (sym (text-placed i (q .2) .word))
 
 -- ---- the class in a loop's terms
 

@@ -12,6 +12,7 @@ pub mod Read
 pub mod Promise
 pub mod Models
 pub mod Tables
+pub mod Stored
 pub mod VariableTables
 pub mod Rounds
 pub mod Listing

@@ -9,6 +9,7 @@ ghost use Rattle.functions.specs.Lists.{sameText};
 ghost use Rattle.ast.specs.Opens.{Open, fileIn};
 ghost use Rattle.builder.specs.Names.{textOf};
 ghost use Rattle.builder.specs.Tables.{deciding, classOf, Classes, ruleNumber, numbered, RuleNumbers};
+ghost use Rattle.builder.specs.Stored.{storedTexts, storedPlaces};
 use ast::records::name;
 use ast::sections::Sections;
 use functions::Rule;
@@ -61,22 +62,36 @@ fn is_part(name: &[u8], text: &[u8], from: usize, to: usize) -> bool
     same_bytes(name, &text[from..to])
 }
 
-// Whether a name is text i.
-fn is_text(name: &[u8], i: usize) -> bool
-    requires { ⌜ i < 18 ⌝ }
+// The two tables, each in a function of its own: a caller's goals do not write the elements out.
+fn stored_texts() -> [u8; 67]
+    ensures { λ r. ⌜ r ≡ storedTexts ⌝ }
+{
+    TEXTS
+}
+
+fn stored_places() -> [usize; 19]
+    ensures { λ r. ⌜ r ≡ storedPlaces ⌝ }
+{
+    PLACES
+}
+
+// Whether a name is text i, by the two tables.
+fn is_text(name: &[u8], texts: &[u8], places: &[usize], i: usize) -> bool
+    requires { ⌜ (now texts ≡ storedTexts) × (now places ≡ storedPlaces) × (i < 18) ⌝ }
     ensures { λ r. ⌜ r ≡ sameText (now (name .entry)) (getD deciding i []) ⌝ }
 {
-    let texts = TEXTS;
-    is_part(name, &texts, PLACES[i], PLACES[i + 1])
+    is_part(name, texts, places[i], places[i + 1])
 }
 
 // The class of a name's text.
 pub fn class_of(name: &[u8]) -> u8
     ensures { λ r. ⌜ r ≡ classOf (now (name .entry)) ⌝ }
 {
+    let texts = stored_texts();
+    let places = stored_places();
     let mut i = 0;
     while i < 18 {
-        if is_text(name, i) {
+        if is_text(name, &texts, &places, i) {
             return i as u8;
         }
         i += 1;
