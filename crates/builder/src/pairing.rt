@@ -66,21 +66,6 @@ fn lacks(roles: &[u32], n: usize, starts: &[u32], v: usize) -> bool
     (starts[v] < starts[v + 1]) & !has_role(roles, 0, n, role)
 }
 
-// The states below v that lack an equation, and v where it does.
-fn with_lacking(q: Queue, roles: &[u32], n: usize, starts: &[u32], v: usize) -> Queue
-    requires { ⌜ (n ≤ length (now roles)) × (v < 129) × (v + 1 < length (now starts)) × (q .count ≤ v) × (length (q .states) ≡ 129) × (take (q .count) (q .states) ≡ lackingIn (take n (now roles)) (now starts) v) ⌝ }
-    ensures { λ r. ⌜ (r .count ≤ v + 1) × (length (r .states) ≡ 129) × (take (r .count) (r .states) ≡ lackingIn (take n (now (roles .entry))) (now (starts .entry)) (v + 1)) ⌝ }
-{
-    if !lacks(roles, n, starts, v) {
-        return q;
-    }
-    let at = q.count;
-    let mut out = q;
-    out.states[at] = (v % 4294967296) as u32;
-    out.count = at + 1;
-    out
-}
-
 // The states that no rate equation goes to, of `vars` variables.
 pub fn lacking(roles: &[u32], n: usize, starts: &[u32], vars: usize) -> Queue
     requires { ⌜ (n ≤ length (now roles)) × (vars ≤ 129) × (vars < length (now starts)) ⌝ }
@@ -89,7 +74,11 @@ pub fn lacking(roles: &[u32], n: usize, starts: &[u32], vars: usize) -> Queue
     let mut q = no_states();
     let mut v = 0;
     while v < vars {
-        q = with_lacking(q, roles, n, starts, v);
+        if lacks(roles, n, starts, v) {
+            let at = q.count;
+            q.states[at] = (v % 4294967296) as u32;
+            q.count = at + 1;
+        }
         v += 1;
     }
     q

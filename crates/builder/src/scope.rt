@@ -80,14 +80,14 @@ fn time_name(f: &[u8], s: Sections, classes: &[u8; 256]) -> usize
     0
 }
 
-// No marks.
+// A table without marks.
 fn no_marks() -> [u32; 256]
     ensures { λ r. ⌜ (length r ≡ 256) × ((n : ℕ) → getD r n 0 ≡ 0) ⌝ }
 {
     [0u32; 256]
 }
 
-// Among no marks, marks t's name.
+// Marks t's name, in a table without marks.
 fn time_declared(f: &[u8], s: Sections, classes: &[u8; 256], out: &mut [u32])
     requires { ⌜ Open (now f) s × Classes (fileIn (now f) s .names) (now classes) × ((length (now out) ≡ 256) × ((n : ℕ) → getD (now out) n 0 ≡ 0)) ⌝ }
     ensures { λ _. ⌜ Marks (s .counts .names) (timeName (fileIn (now (f .entry)) s .names) ∷ []) (now (out .exit)) ⌝ }
@@ -105,7 +105,7 @@ fn marked(old: u32, reserved: bool) -> u32
     if reserved { old } else { 1 }
 }
 
-// Among no marks, marks the variables of model m: t, and each unreserved unknown's name.
+// Marks the variables of model m, in a table without marks: t, and each unreserved unknown's name.
 fn declared(f: &[u8], s: Sections, classes: &[u8; 256], m: usize, out: &mut [u32])
     requires { ⌜ Open (now f) s × Classes (fileIn (now f) s .names) (now classes) × (m < s .counts .models) × ((length (now out) ≡ 256) × ((n : ℕ) → getD (now out) n 0 ≡ 0)) ⌝ }
     ensures { λ _. ⌜ Marks (s .counts .names) (variableNames (fileIn (now (f .entry)) s .names) (modelAt (fileIn (now (f .entry)) s) m .unknowns)) (now (out .exit)) ⌝ }

@@ -1,16 +1,13 @@
 use native.Mathlib.Omega.{arith}
-use mathlib.Core.Path.{_≡_, sym}
-use Prim.Native.Nat.{_-_, _≤_}
-use lib.ListN.{length, take}
+use mathlib.Core.Path.{_≡_, sym, _∙_}
+use mathlib.Core.Logic.{⊎-elim}
+use Prim.Native.Nat.{_-_, _%_, _≤_}
+use lib.ListN.{length, take, length-set}
 use borrow.Author.Needs.{needs}
 use Rattle.builder.specs.Tables.{lackingIn}
-use Rattle.builder.proofs.RoleLoops.{lacking-none}
+use Rattle.builder.proofs.RoleLoops.{lacking-none, kept-out, taken-in}
 use Rattle.builder.proofs.pairing.lacking.Statement.{statement}
 use Rattle.builder.proofs.pairing.lacking.Tie as tie
-use Rattle.builder.proofs.pairing.lacking.Reads as reads
-use Rattle.builder.proofs.pairing.lacking.Lts as lts
-use Rattle.builder.proofs.pairing.no_states.Reads as no-states-reads
-use Rattle.builder.proofs.pairing.with_lacking.Reads as with-lacking-reads
 
 abbrev Inv-loop : tie.InvT-loop
 Inv-loop roles n starts vars q₀ v₀ q v = (v ≤ vars) × (q .count ≤ v) × (length (q .states) ≡ 129) × (take (q .count) (q .states) ≡ lackingIn (take n roles) starts v)
@@ -18,31 +15,41 @@ Inv-loop roles n starts vars q₀ v₀ q v = (v ≤ vars) × (q .count ≤ v) ×
 abbrev μ-loop : tie.MeasureT-loop
 μ-loop roles n starts vars q₀ v₀ q v = vars - v
 
--- src/pairing.rt:89:9
 no-states-requires : tie.Need-no-states-requires Inv-loop μ-loop
 no-states-requires c κs = search needs
 
--- src/pairing.rt:91:5
 loop-holds : tie.Need-loop-holds Inv-loop μ-loop
 loop-holds c = (omega arith, omega (arith, c .no-states .ensures .0), c .no-states .ensures .1, rw (c .no-states .ensures .0) (sym (lacking-none (take (c .before .before .before .args .n) (c .before .before .before .args .roles .now)) (c .before .before .before .args .starts .now))))
 
--- src/pairing.rt:92:9
-with-lacking-requires : tie.Need-with-lacking-requires Inv-loop μ-loop
-with-lacking-requires c κs = (c .before .before .before .before .before .pre .0, omega arith, omega arith, c .before .loop .inv .1, c .before .loop .inv .2, c .before .loop .inv .3)
+lacks-requires : tie.Need-lacks-requires Inv-loop μ-loop
+lacks-requires c κs = (c .before .before .before .before .before .pre .0, omega arith, omega arith)
 
--- src/pairing.rt:93:9
+cast-q : tie.Need-cast-q Inv-loop μ-loop
+cast-q c = omega arith
+
+mul-q : tie.Need-mul-q Inv-loop μ-loop
+mul-q c = omega arith
+
+element-write-q : tie.Need-element-write-q Inv-loop μ-loop
+element-write-q c = omega arith
+
+add-q : tie.Need-add-q Inv-loop μ-loop
+add-q c = omega arith
+
 add-v : tie.Need-add-v Inv-loop μ-loop
 add-v c = omega arith
 
--- src/pairing.rt:91:5
 loop-less : tie.Need-loop-less Inv-loop μ-loop
 loop-less c = omega arith
 
--- src/pairing.rt:91:5
 loop-again : tie.Need-loop-again Inv-loop μ-loop
-loop-again c = (omega arith, c .with-lacking .ensures .0, c .with-lacking .ensures .1, c .with-lacking .ensures .2)
+loop-again c = let z : c .before .before .before .loop .v % 4294967296 ≡ c .before .before .before .loop .v = omega arith in
+    let inv = c .before .before .before .loop .inv in
+    ⊎-elim
+    (λ w. rw (w .1) (omega arith, omega arith, simp length-set (inv .2), rw z (taken-in (take (c .before .before .before .before .before .before .before .args .n) (c .before .before .before .before .before .before .before .args .roles .now)) (c .before .before .before .before .before .before .before .args .starts .now) (c .before .before .before .loop .v) (c .before .before .before .loop .q .count) (c .before .before .before .loop .q .states) (sym (c .before .lacks .ensures) ∙ w .0 .taken) (omega arith) (inv .3))))
+    (λ w. rw (w .1) (omega arith, omega arith, inv .2, inv .3 ∙ sym (kept-out (take (c .before .before .before .before .before .before .before .args .n) (c .before .before .before .before .before .before .before .args .roles .now)) (c .before .before .before .before .before .before .before .args .starts .now) (c .before .before .before .loop .v) (sym (c .before .lacks .ensures) ∙ w .0 .left))))
+    (c .if1 .came)
 
--- src/pairing.rt:85:1
 returns : tie.Need-returns Inv-loop μ-loop
 returns c = let e : c .before .loop .v ≡ c .before .before .before .before .before .args .vars = omega arith in (omega (arith, c .before .loop .inv .1), c .before .loop .inv .2, rw (← e) (c .before .loop .inv .3))
 
@@ -54,7 +61,11 @@ lacking-spec =
     μ-loop
     no-states-requires
     loop-holds
-    with-lacking-requires
+    lacks-requires
+    cast-q
+    mul-q
+    element-write-q
+    add-q
     add-v
     loop-less
     loop-again
