@@ -4,10 +4,12 @@
 mod entries;
 mod equations;
 mod place;
+mod print;
 mod sheet;
 mod sizes;
 mod statements_in;
 
 pub use place::Text;
+pub use print::print;
 pub use sheet::{accepted, refused, Case, Sheet};
 pub use statements_in::{statements_in, Origin, StatementsIn};

@@ -2,7 +2,7 @@
 //! `release` does. With the source text, places are lines and columns. Exit status as that of `witness`.
 
 use builder::Answer;
-use sheet::{accepted, Case, Sheet, Text};
+use sheet::{accepted, print, Case, Sheet, Text};
 use std::process::ExitCode;
 use std::{env, fs};
 use treefile::File;
@@ -14,16 +14,7 @@ fn main() -> ExitCode {
         [file, root, area, source] => sheet(file, root.as_bytes(), area, Some(source)),
         _ => Err("usage: sheet TREEFILE ROOT AREAFILE [SOURCE]".to_string()),
     };
-    match result {
-        Ok(sheet) => {
-            print!("{}", sheet.text);
-            ExitCode::from(u8::from(!sheet.is_clean))
-        }
-        Err(error) => {
-            eprintln!("{error}");
-            ExitCode::from(2)
-        }
-    }
+    print(result)
 }
 
 fn read(path: &str) -> Result<Vec<u8>, String> {

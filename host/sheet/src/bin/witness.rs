@@ -2,7 +2,7 @@
 //! verified library, and the answer printed. Exit status: 0 where the build is accepted with no errors and the totals are
 //! equal, 1 where not, 2 where something cannot be read.
 
-use sheet::{accepted, refused, Case, Sheet, Text};
+use sheet::{accepted, print, refused, Case, Sheet, Text};
 use std::process::ExitCode;
 use std::{env, fs};
 
@@ -12,16 +12,7 @@ fn main() -> ExitCode {
         [source, root] => witness(source, root.as_bytes()),
         _ => Err("usage: witness SOURCE.model ROOT".to_string()),
     };
-    match result {
-        Ok(sheet) => {
-            print!("{}", sheet.text);
-            ExitCode::from(u8::from(!sheet.is_clean))
-        }
-        Err(error) => {
-            eprintln!("{error}");
-            ExitCode::from(2)
-        }
-    }
+    print(result)
 }
 
 fn witness(path: &str, root: &[u8]) -> Result<Sheet, String> {
