@@ -58,7 +58,7 @@ readable f s o i j e h = rw (e, nodes-from f s o) h
 -- nodes of an open file can be read at the levels of the rows
 pub ready : (f : List ℕ) (s : Sections) → Open f s → (rows : List ℕ) → RowsIn f s rows → Ready f (s .starts .nodes) (s .counts .nodes) rows
 ready f s o rows fit =
-    (ranges f s o .nodes, nodes-few f s o, (s .counts .names, names-few f s o, rw (nodes-from f s o) (passes f s o .nodes)), rw (nodes-from f s o) fit)
+    (ranges f s o .nodes, nodes-few f s o, (s .counts .names, names-few f s o, rw (nodes-from f s o) (passes f s o .nodes)), rw (nodes-from f s o) (fit .fit))
 
 pub kept-at : (a b : List ℕ) (n j : ℕ) → take n a ≡ take n b → j < n → getD a j 0 ≡ getD b j 0
 kept-at a b n j e h = sym (getD-take n a j 0 h) ∙ ap (λ (x : List ℕ). getD x j 0) e ∙ getD-take n b j 0 h

@@ -155,18 +155,21 @@ module _ (rs : List (List ℕ)) (i : ℕ) (h : i < length rs) (held first condit
 
 -- ---- behind the last statement, and all of them
 
-module _ (rs : List (List ℕ)) (held first conditions : List ℕ) where
-  pub fates-none : (n : ℕ) → length rs ≤ n → length held ≡ 129 → length first ≡ 129 → length conditions ≡ 129 → ((v : ℕ) → getD held v 0 ≡ 0) → ((v : ℕ) → getD first v 0 ≡ 0) → ((v : ℕ) → getD conditions v 0 ≡ 0) → FatesFrom n rs held first conditions
-  unfolding placeFrom plusOne times
-  fates-none n l a b c f g k = record {
-    held-long = a;
-    first-long = b;
-    conditions-long = c;
-    held-of = λ v h. f v ∙ sym (ap (λ (xs : List (List ℕ)). plusOne (placeFrom n (isFated 2 v) xs)) (drop-past rs n l));
-    first-of = λ v h. g v ∙ sym (ap (λ (xs : List (List ℕ)). plusOne (placeFrom n (isFated 1 v) xs)) (drop-past rs n l));
-    conditions-of = λ v h. k v ∙ sym (ap (times (isFated 1 v)) (drop-past rs n l));
-  }
+-- tables of zeros
+pub fates-none : (n at : ℕ) (d held first conditions : List ℕ) → (length held ≡ 129) × ((v : ℕ) → getD held v 0 ≡ 0) → (length first ≡ 129) × ((v : ℕ) → getD first v 0 ≡ 0) → (length conditions ≡ 129) × ((v : ℕ) → getD conditions v 0 ≡ 0) → FatesFrom n (section 8 n at d) held first conditions
+unfolding placeFrom plusOne times
+fates-none n at d held first conditions f g k =
+    let past : drop n (section 8 n at d) ≡ [] = drop-past (section 8 n at d) n (omega (arith, length-section 8 n at d)) in
+    record {
+      held-long = f .0;
+      first-long = g .0;
+      conditions-long = k .0;
+      held-of = λ v h. f .1 v ∙ sym (ap (λ (xs : List (List ℕ)). plusOne (placeFrom n (isFated 2 v) xs)) past);
+      first-of = λ v h. g .1 v ∙ sym (ap (λ (xs : List (List ℕ)). plusOne (placeFrom n (isFated 1 v) xs)) past);
+      conditions-of = λ v h. k .1 v ∙ sym (ap (times (isFated 1 v)) past);
+    }
 
+module _ (rs : List (List ℕ)) (held first conditions : List ℕ) where
   pub fates-all : (n : ℕ) → n ≡ 0 → FatesFrom n rs held first conditions → FatesIn rs held first conditions
   unfolding place
   fates-all n e t =

@@ -2,15 +2,17 @@
 use mathlib.Core.Path.{_≡_, refl, sym, ap, _∙_}
 use mathlib.Core.Bool.{Bool, true, false, cond}
 use mathlib.Core.List.{List, [], _∷_, _++_}
-use Prim.Native.Nat.{ℕ, zero, suc, _+_, _-_, _≤_, _<_}
+use Prim.Native.Nat.{ℕ, zero, suc, _+_, _-_, _*_, _≤_, _<_}
+use native.Mathlib.Nat.{zero-add}
 use native.Mathlib.Omega.{arith}
-use borrow.Author.Tests.{eqb-true, eqb-false, eq-eqb, ne-eqb, leb-true}
-use lib.Dec.{eqb}
-use lib.ListN.{length, take, drop, getD, set, replicate, length-set, length-append, length-drop, replicate-append-replicate}
-use lib.Seq.{getD-set-same, getD-set-other, getD-drop, length-take-le, take-at, drop-at}
+use borrow.Author.Tests.{eqb-true, eqb-false, eq-eqb, ne-eqb, leb-true, ltb-true, ltb-false}
+use lib.Dec.{eqb, ltb}
+use lib.ListN.{length, take, drop, getD, set, replicate, length-set, length-append, length-take, length-drop, length-replicate, replicate-append-replicate, List·getD-append, List·getD-eq-default}
+use lib.Seq.{getD-set-same, getD-set-other, getD-append-add, getD-take, getD-drop, length-take-le, take-at, drop-at}
 use Rattle.ast.specs.Tree.{Expr, Unknown}
 use Rattle.ast.specs.Subst.{Replacements}
 use Rattle.ast.specs.Words.{wordOf}
+use Rattle.ast.specs.Bytes.{front}
 use Rattle.ast.specs.Nodes.{kindAt, nameAt, opAt, sizeAt, isExpr, argsFit, treeAt, argsBefore}
 use Rattle.ast.specs.Levels.{byTable}
 use Rattle.ast.specs.Records.{unknownCount, firstUnknown, unknownOf}
@@ -21,11 +23,13 @@ use Rattle.ast.proofs.Fitting.{node-ok, LastArg, last-arg}
 use Rattle.ast.proofs.Trees.{args-more, args-none}
 use Rattle.ast.proofs.Sizes.{count-before}
 use Rattle.ast.proofs.Filling.{rows-fit-set}
+use Rattle.ast.proofs.Fronts.{length-front}
 use Rattle.builder.specs.Flatten.{unknownName, replacedName, replacements, modelAt}
-use Rattle.builder.specs.Descent.{replacedBy, RowsIn}
+use Rattle.builder.specs.Descent.{replacedBy, RowsIn, RowsKept}
 use Rattle.builder.specs.Overlay.{over, replacing}
-use Rattle.builder.proofs.Outputs.{take-step}
+use Rattle.builder.proofs.Outputs.{take-step, written-whole}
 use Rattle.builder.proofs.OpenRecords.{passes, unknown-is, model-is}
+use Rattle.builder.proofs.OpenStmts.{names-few}
 
 -- ---- what an argument replaces
 
@@ -110,9 +114,22 @@ module _ (ns : List (List ℕ)) where
       rw e at (rows-fit-set ns k row j (v - 1) fit h l x)
   free-fit k row j v false fit h p l x = fit
 
-  pub noted-fit : (k : ℕ) (row row′ : List ℕ) (j v : ℕ) → RowsFit ns k row → j < length row → 0 < v → v - 1 < k → isExpr ns (v - 1) ≡ true
-      → row′ ≡ cond (eqb (getD row j 0) 0) (set row j v) row → RowsFit ns k row′
-  noted-fit k row row′ j v fit h p l x e = rw e (free-fit k row j v (eqb (getD row j 0) 0) fit h p l x)
+-- in each row of 256 the entries beyond the names are 0
+abbrev Bare : ℕ → List ℕ → Type 0
+Bare names rows = (level j : ℕ) → names ≤ j → j < 256 → getD rows (256 * level + j) 0 ≡ 0
+
+-- an entry of a name may be set
+free-bare : (names : ℕ) (row : List ℕ) (j v : ℕ) (b : Bool) → Bare names row → j < names → Bare names (cond b (set row j v) row)
+free-bare names row j v true bare l = λ level i p h. getD-set-other row j (256 * level + i) v 0 (λ e. omega arith) ∙ bare level i p h
+free-bare names row j v false bare l = bare
+
+pub noted-in : (f : List ℕ) (s : Sections) (row row′ : List ℕ) (j v : ℕ) → RowsIn f s row → j < s .counts .names → j < length row → 0 < v → v - 1 < s .counts .nodes → isExpr (contentsIn f s .nodes) (v - 1) ≡ true
+    → row′ ≡ cond (eqb (getD row j 0) 0) (set row j v) row → RowsIn f s row′
+noted-in f s row row′ j v i k h p l x e =
+    rw e record {
+      fit = free-fit (contentsIn f s .nodes) (s .counts .nodes) row j v (eqb (getD row j 0) 0) (i .fit) h p l x;
+      bare = free-bare (s .counts .names) row j v (eqb (getD row j 0) 0) (i .bare) k;
+    }
 
 length-free : (row : List ℕ) (j v : ℕ) (b : Bool) → length (cond b (set row j v) row) ≡ length row
 length-free row j v true = length-set row j v
@@ -139,8 +156,9 @@ none-at zero n = refl
 none-at (suc k) zero = refl
 none-at (suc k) (suc n) = none-at k n
 
-pub zeros-fit : (ns : List (List ℕ)) (k : ℕ) (row : List ℕ) → ((n : ℕ) → getD row n 0 ≡ 0) → RowsFit ns k row
-zeros-fit ns k row e j h = absurd (omega (arith, e j))
+-- rows in which nothing stands
+pub zeros-in : (f : List ℕ) (s : Sections) (rows : List ℕ) → ((n : ℕ) → getD rows n 0 ≡ 0) → RowsIn f s rows
+zeros-in f s rows e = record { fit = λ j h. absurd (omega (arith, e j)); bare = λ level j p h. e (256 * level + j) }
 
 module _ (f : List ℕ) (s : Sections) (m call : ℕ) where
   -- `left` arguments before node `end` are still to be noted
@@ -163,7 +181,7 @@ module _ (f : List ℕ) (s : Sections) (m call : ℕ) where
     filling-start row many l k long e em =
         record {
           long = long;
-          fit = zeros-fit (contentsIn f s .nodes) (s .counts .nodes) row e;
+          fit = zeros-in f s row e;
           within = omega arith;
           total = sizeAt (contentsIn f s .nodes) call - 1;
           args = rw em (node-ok (s .counts .names) (contentsIn f s .nodes) (s .counts .nodes) (passes f s o .nodes) call l .call k);
@@ -213,7 +231,9 @@ module _ (f : List ℕ) (s : Sections) (m call : ℕ) where
 pub zeros-more : (row : List ℕ) (i : ℕ) → i < length row → take i row ≡ replicate i 0 → take (i + 1) (set row i 0) ≡ replicate (i + 1) 0
 zeros-more row i h e = take-step row i 0 h e ∙ replicate-append-replicate i 1 0
 
--- ---- a row lent out of the rows of all levels
+pub zeros-front : (row row′ : List ℕ) (n : ℕ) → take n row′ ≡ replicate n 0 → drop n row′ ≡ drop n row → row′ ≡ front row (replicate n 0)
+unfolding front
+zeros-front row row′ n e g = rw (length-replicate {A = ℕ} n 0) (written-whole row′ (replicate n 0) (drop n row) n e g)
 
 module _ (P : ℕ → Type 0) (none : P 0) where
   all-append : (xs ys : List ℕ) → ((j : ℕ) → P (getD xs j 0)) → ((j : ℕ) → P (getD ys j 0)) → (j : ℕ) → P (getD (xs ++ ys) j 0)
@@ -230,20 +250,87 @@ module _ (P : ℕ → Type 0) (none : P 0) where
   all-drop : (n : ℕ) (xs : List ℕ) → ((j : ℕ) → P (getD xs j 0)) → (j : ℕ) → P (getD (drop n xs) j 0)
   all-drop n xs h j = rw (getD-drop n xs j 0) (h (n + j))
 
-module _ (ns : List (List ℕ)) (k : ℕ) where
-  rows-fit-join : (a b : List ℕ) (n m : ℕ) → RowsFit ns k a → RowsFit ns k b → RowsFit ns k (take n a ++ (b ++ drop m (drop n a)))
-  rows-fit-join a b n m h g =
-      let P : ℕ → Type 0 = λ t. 0 < t → (t - 1 < k) × (isExpr ns (t - 1) ≡ true) in
-      let z : P 0 = λ p. absurd (omega arith) in
-      all-append P z (take n a) (b ++ drop m (drop n a)) (all-take P z n a h) (all-append P z b (drop m (drop n a)) g (all-drop P z m (drop n a) (all-drop P z n a h)))
+module _ (names : ℕ) (row : List ℕ) (long : length row ≡ 256) (bare : Bare names row) where
+  -- a row alone is level 0, and has nothing from the names on
+  bare-behind : (n : ℕ) → names ≤ n → getD row n 0 ≡ 0
+  bare-behind n p = go (ltb n 256) refl
+    where
+      go : (b : Bool) → ltb n 256 ≡ b → getD row n 0 ≡ 0
+      go true e = rw (zero-add n) at (bare 0 n p (ltb-true n 256 e))
+      go false e = List·getD-eq-default row 0 (omega (arith, ltb-false n 256 e))
 
-  pub row-lent : (rows ys : List ℕ) (from w : ℕ) (by : Replacements) → from + 256 ≤ length rows → w ≡ 256 → RowsFit ns k rows
-      → (length ys ≡ 256) × RowsFit ns k ys × ((n : ℕ) → byTable ns ys n ≡ by n)
-      → ((length (take from rows ++ (ys ++ drop w (drop from rows))) ≡ length rows)
-      × (take from (take from rows ++ (ys ++ drop w (drop from rows))) ≡ take from rows)
-      × RowsFit ns k (take from rows ++ (ys ++ drop w (drop from rows))))
-      × ((n : ℕ) → byTable ns (take 256 (drop from (take from rows ++ (ys ++ drop w (drop from rows))))) n ≡ by n)
-  row-lent rows ys from w by h ew fit g =
-      let l : length (take from rows) ≡ from = length-take-le from rows (omega arith) in
-      let row : take 256 (drop from (take from rows ++ (ys ++ drop w (drop from rows)))) ≡ ys = rw (drop-at (take from rows) (ys ++ drop w (drop from rows)) from l) (take-at ys (drop w (drop from rows)) 256 (g .0)) in
-      ((simp (length-append, length-drop) (omega (arith, l, g .0)), take-at (take from rows) (ys ++ drop w (drop from rows)) from l, rows-fit-join rows ys from w fit (g .1)), λ n. ap (λ (x : List ℕ). byTable ns x n) row ∙ g .2 n)
+  bare-cleared : (e : List ℕ) → length e ≡ names → ((n : ℕ) → getD e n 0 ≡ 0) → (n : ℕ) → getD (front row e) n 0 ≡ 0
+  unfolding front
+  bare-cleared e l h =
+      all-append (λ (t : ℕ). t ≡ 0) refl e (drop (length e) row) h (λ j. rw (getD-drop (length e) row j 0) (bare-behind (length e + j) (omega arith)))
+
+-- once the names of a row are cleared, all of it is
+pub cleared : (f : List ℕ) (s : Sections) (row row′ : List ℕ) → Open f s → length row ≡ 256 → RowsIn f s row → row′ ≡ front row (replicate (s .counts .names) 0)
+    → (length row′ ≡ 256) × ((n : ℕ) → getD row′ n 0 ≡ 0)
+cleared f s row row′ o l i e =
+    let z : List ℕ = replicate (s .counts .names) 0 in
+    let h : length z ≡ s .counts .names = length-replicate (s .counts .names) 0 in
+    rw e (length-front row z (omega (arith, names-few f s o)) ∙ l, bare-cleared (s .counts .names) row l (i .bare) z h (none-at (s .counts .names)))
+
+-- ---- a row lent out of the rows of all levels
+
+-- k rows, and what is before and behind them
+module _ (names k : ℕ) where
+  bare-append : (xs ys : List ℕ) → length xs ≡ 256 * k → Bare names xs → Bare names ys → Bare names (xs ++ ys)
+  bare-append xs ys e h g level j p l = go (ltb level k) refl
+    where
+      go : (b : Bool) → ltb level k ≡ b → getD (xs ++ ys) (256 * level + j) 0 ≡ 0
+      go true t = List·getD-append xs ys 0 (256 * level + j) (omega (arith, ltb-true level k t)) ∙ h level j p l
+      go false t =
+          let i : 256 * level + j ≡ length xs + (256 * (level - k) + j) = omega (arith, ltb-false level k t) in
+          rw i (getD-append-add xs ys (256 * (level - k) + j) 0 ∙ g (level - k) j p l)
+
+  bare-take : (xs : List ℕ) → Bare names xs → Bare names (take (256 * k) xs)
+  bare-take xs h level j p l = go (ltb level k) refl
+    where
+      go : (b : Bool) → ltb level k ≡ b → getD (take (256 * k) xs) (256 * level + j) 0 ≡ 0
+      go true t = getD-take (256 * k) xs (256 * level + j) 0 (omega (arith, ltb-true level k t)) ∙ h level j p l
+      go false t = List·getD-eq-default (take (256 * k) xs) 0 (rw (length-take (256 * k) xs) (omega (arith, ltb-false level k t)))
+
+  bare-drop : (xs : List ℕ) → Bare names xs → Bare names (drop (256 * k) xs)
+  bare-drop xs h level j p l =
+      let i : 256 * k + (256 * level + j) ≡ 256 * (k + level) + j = omega arith in
+      getD-drop (256 * k) xs (256 * level + j) 0 ∙ rw i (h (k + level) j p l)
+
+module _ (f : List ℕ) (s : Sections) (rows : List ℕ) (level : ℕ) (within : RowsIn f s rows) where
+  abbrev Fits : ℕ → Type 0
+  Fits t = 0 < t → (t - 1 < s .counts .nodes) × (isExpr (contentsIn f s .nodes) (t - 1) ≡ true)
+
+  none-fits : Fits 0
+  none-fits p = absurd (omega arith)
+
+  -- a level's row by itself
+  pub row-taken : (w : ℕ) → w ≡ 256 → RowsIn f s (take w (drop (256 * level) rows))
+  row-taken w e =
+      rw e record {
+        fit = all-take Fits none-fits 256 (drop (256 * level) rows) (all-drop Fits none-fits (256 * level) rows (within .fit));
+        bare = bare-take (s .counts .names) 1 (drop (256 * level) rows) (bare-drop (s .counts .names) level rows (within .bare));
+      }
+
+  rows-joined : (ys : List ℕ) → length (take (256 * level) rows) ≡ 256 * level → length ys ≡ 256 → RowsIn f s ys → RowsIn f s (take (256 * level) rows ++ (ys ++ drop 256 (drop (256 * level) rows)))
+  rows-joined ys l long own =
+      let before = take (256 * level) rows in
+      let behind = drop 256 (drop (256 * level) rows) in
+      record {
+        fit = all-append Fits none-fits before (ys ++ behind) (all-take Fits none-fits (256 * level) rows (within .fit))
+            (all-append Fits none-fits ys behind (own .fit) (all-drop Fits none-fits 256 (drop (256 * level) rows) (all-drop Fits none-fits (256 * level) rows (within .fit))));
+        bare = bare-append (s .counts .names) level before (ys ++ behind) l (bare-take (s .counts .names) level rows (within .bare))
+            (bare-append (s .counts .names) 1 ys behind long (own .bare) (bare-drop (s .counts .names) 1 (drop (256 * level) rows) (bare-drop (s .counts .names) level rows (within .bare))));
+      }
+
+  -- the new row stands at its level, and the rows before it are as they were
+  pub row-lent : (ys : List ℕ) (w : ℕ) (by : Replacements) → 256 * level + 256 ≤ length rows → w ≡ 256
+      → (length ys ≡ 256) × RowsIn f s ys × ((n : ℕ) → byTable (contentsIn f s .nodes) ys n ≡ by n)
+      → RowsKept f s level rows (take (256 * level) rows ++ (ys ++ drop w (drop (256 * level) rows)))
+      × ((n : ℕ) → byTable (contentsIn f s .nodes) (take 256 (drop (256 * level) (take (256 * level) rows ++ (ys ++ drop w (drop (256 * level) rows))))) n ≡ by n)
+  row-lent ys w by h ew g =
+      let before = take (256 * level) rows in
+      let rest = ys ++ drop w (drop (256 * level) rows) in
+      let l : length (take (256 * level) rows) ≡ 256 * level = length-take-le (256 * level) rows (omega arith) in
+      let row : take 256 (drop (256 * level) (before ++ rest)) ≡ ys = rw (drop-at before rest (256 * level) l) (take-at ys (drop w (drop (256 * level) rows)) 256 (g .0)) in
+      ((simp (length-append, length-drop) (omega (arith, l, g .0)), take-at before rest (256 * level) l, rw ew (rows-joined ys l (g .0) (g .1))), λ n. ap (λ (x : List ℕ). byTable (contentsIn f s .nodes) x n) row ∙ g .2 n)

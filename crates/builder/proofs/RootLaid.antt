@@ -17,13 +17,11 @@ use Rattle.ast.proofs.Encodes.{length-bytes}
 use Rattle.builder.specs.Variables.{Variable}
 use Rattle.builder.specs.Build.{tooBig}
 use Rattle.builder.specs.Checking as checking
-use Rattle.builder.specs.VariableTables.{rosterIn, Listing}
+use Rattle.builder.specs.VariableTables.{rosterIn, Roster, Listing}
 use Rattle.builder.specs.Unfated.{unfated}
 use Rattle.builder.specs.Places.{stmtsAt, varsAt, depsAt}
-use Rattle.builder.specs.Root.{flatsOf, scopeAt, TablesOf, SizesOf, Known, part, Unfated}
+use Rattle.builder.specs.Root.{flatsOf, scopeAt, Tables, TablesOf, SizesOf, Known, part, Unfated}
 use Rattle.builder.specs.declared.places.Sizes.{Sizes}
-use Rattle.builder.specs.declared.tables.Tables.{Tables}
-use Rattle.builder.specs.declared.variables.Roster.{Roster}
 use Rattle.builder.proofs.PutWords.{kept-few}
 use Rattle.builder.proofs.Putting.{length-flats}
 use Rattle.builder.proofs.AreaParts.{part-put, part-before}

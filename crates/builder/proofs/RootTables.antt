@@ -16,7 +16,7 @@ use Rattle.builder.specs.Variables.{Variable, lastTime, timeIndex, isSta
 use Rattle.builder.specs.Roles.{takesRate}
 use Rattle.builder.specs.Flatten.{modelAt, scopeOf}
 use Rattle.builder.specs.VariableTables.{wordsFrom, nextIn, DepsIn, TimeReached, unknownsIn, rosterIn, StartsOf}
-use Rattle.builder.specs.Root.{scopeAt, TablesOf}
+use Rattle.builder.specs.Root.{scopeAt, tabled, TablesOf}
 use Rattle.builder.proofs.Timing.{length-from}
 use Rattle.builder.proofs.PutWords.{each-take, each-fits, kept-few}
 use Rattle.builder.proofs.KeptDependents.{model-deps-in, model-next, model-reached, count-variables, variable-deps}
@@ -128,7 +128,7 @@ module _ (f : List ℕ) (s : Sections) (o : Open f s) (m : ℕ) (starts d out : 
     pub tables-of : (indexes rates : List ℕ) → length starts ≡ 130 → length indexes ≡ 129 → length reach ≡ 129 → length rates ≡ 129
         → ((v : ℕ) → v < vars → getD indexes v 0 ≡ plusOne (lastTime 0 none (nextIn starts out v)))
         → ((v : ℕ) → v < vars → getD rates v 0 ≡ flag (ltb (getD starts v 0) (getD starts (v + 1) 0) && (eqb v 0 || eqb (getD reach v 0) 1)))
-        → TablesOf (scopeAt (fileIn f s) m) (record { starts = starts; indexes = indexes; reach = reach; rates = rates })
+        → TablesOf (scopeAt (fileIn f s) m) (tabled starts indexes reach rates)
     unfolding scopeOf unknownsIn timeIndex takesRate
     tables-of indexes rates ls li lr la hi ha =
         let n = vars-count f s m in

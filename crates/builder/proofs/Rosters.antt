@@ -19,8 +19,7 @@ use Rattle.builder.specs.Names.{textOf, spells, isTime, isReserved, time
 use Rattle.builder.specs.Variables as vars
 use Rattle.builder.specs.Variables.{numberOf, variableNames}
 use Rattle.builder.specs.Tables.{Classes}
-use Rattle.builder.specs.VariableTables.{firstZero, listed, declareOne, Listing, unknownsIn, rosterIn}
-use Rattle.builder.specs.declared.variables.Roster.{Roster}
+use Rattle.builder.specs.VariableTables.{firstZero, Roster, listed, declareOne, Listing, unknownsIn, rosterIn}
 use Rattle.builder.proofs.Classes.{class-time, class-reserved}
 use Rattle.builder.proofs.Counts.{or-false}
 use Rattle.builder.proofs.OpenUnknowns.{noUnknown}
@@ -107,14 +106,14 @@ time-named names classes h =
 
 -- ---- t alone
 
-module _ (time : ℕ) (names numbers : List ℕ) (room : length names ≡ 129) (every : length numbers ≡ 256) (blank : (n : ℕ) → n < 256 → getD numbers n 0 ≡ 0) (few : time ≤ 256) where
+module _ (time : ℕ) (names numbers : List ℕ) (room : length names ≡ 129) (every : length numbers ≡ 256) (blank : (n : ℕ) → getD numbers n 0 ≡ 0) (few : time ≤ 256) where
   first-name : take 1 (set names 0 time) ≡ time ∷ []
   first-name = take-suc-set names 0 time (omega arith)
 
-  alone-at : (n : ℕ) (b : Bool) → n < 256 → 0 < time → eqb (suc n) time ≡ b → getD (set numbers (time - 1) 1) n 0 ≡ plusOne (cond b (some 0) none)
+  alone-at : (n : ℕ) (b : Bool) → 0 < time → eqb (suc n) time ≡ b → getD (set numbers (time - 1) 1) n 0 ≡ plusOne (cond b (some 0) none)
   unfolding plusOne
-  alone-at n true l h e = let q : n ≡ time - 1 = omega (arith, eqb-true (suc n) time e) in rw q (getD-set-same numbers (time - 1) 1 0 (omega arith))
-  alone-at n false l h e = getD-set-other numbers (time - 1) n 1 0 (λ q. eqb-false (suc n) time e (omega arith)) ∙ blank n l
+  alone-at n true h e = let q : n ≡ time - 1 = omega (arith, eqb-true (suc n) time e) in rw q (getD-set-same numbers (time - 1) 1 0 (omega arith))
+  alone-at n false h e = getD-set-other numbers (time - 1) n 1 0 (λ q. eqb-false (suc n) time e (omega arith)) ∙ blank n
 
   -- where a name is t
   pub time-listed : 0 < time → Listing (time ∷ []) (record { count = 1; names = set names 0 time; numbers = set numbers (time - 1) 1 })
@@ -123,7 +122,7 @@ module _ (time : ℕ) (names numbers : List ℕ) (room : length names ≡ 129) (
     few = omega arith;
     count = refl;
     names = first-name;
-    numbers = record { number = λ n l. alone-at n (eqb (suc n) time) l h refl };
+    numbers = record { number = λ n l. alone-at n (eqb (suc n) time) h refl };
     room = simp length-set room;
     every = simp length-set every;
   }
@@ -135,7 +134,7 @@ module _ (time : ℕ) (names numbers : List ℕ) (room : length names ≡ 129) (
     few = omega arith;
     count = refl;
     names = first-name;
-    numbers = record { number = λ n l. let q : suc n ≡ time → ⊥ = λ e. omega arith in rw (ne-eqb (suc n) time q) (blank n l) };
+    numbers = record { number = λ n l. let q : suc n ≡ time → ⊥ = λ e. omega arith in rw (ne-eqb (suc n) time q) (blank n) };
     room = simp length-set room;
     every = every;
   }
@@ -219,19 +218,19 @@ unfolding vars.declare
 declare-done names vs us i h = ap (vars.declare names vs) (drop-past us i h)
 
 -- of a roster that lists what is declared up to an unknown
-module _ (f : List ℕ) (s : Sections) (m i name : ℕ) (r r′ : Roster) (now : rosterIn f s m ≡ vars.declare (fileIn f s .names) (listed r) (drop i (unknownsIn f s m))) (l : i < length (unknownsIn f s m))
+module _ (f : List ℕ) (s : Sections) (m i name : ℕ) (r : Roster) (now : rosterIn f s m ≡ vars.declare (fileIn f s .names) (listed r) (drop i (unknownsIn f s m))) (l : i < length (unknownsIn f s m))
     (e : getD (unknownsIn f s m) i noUnknown .name ≡ name) where
   -- an unreserved unknown is declared
-  pub roster-next : isReserved (fileIn f s .names) name ≡ false → Listing (declareOne (listed r) name) r′
+  pub roster-next : (r′ : Roster) → isReserved (fileIn f s .names) name ≡ false → Listing (declareOne (listed r) name) r′
       → Listing (listed r′) r′ × (rosterIn f s m ≡ vars.declare (fileIn f s .names) (listed r′) (drop (i + 1) (unknownsIn f s m)))
-  roster-next g k =
+  roster-next r′ g k =
       let (a, b) = listing-listed _ r′ k in
       (a, rw b (now ∙ declare-next (fileIn f s .names) (listed r) (unknownsIn f s m) noUnknown i name l e g))
 
   -- a reserved one is passed over
-  pub roster-pass : isReserved (fileIn f s .names) name ≡ true → Listing (listed r) r → r′ ≡ r
-      → Listing (listed r′) r′ × (rosterIn f s m ≡ vars.declare (fileIn f s .names) (listed r′) (drop (i + 1) (unknownsIn f s m)))
-  roster-pass g k q = rw q (k, now ∙ declare-pass (fileIn f s .names) (listed r) (unknownsIn f s m) noUnknown i name l e g)
+  pub roster-pass : isReserved (fileIn f s .names) name ≡ true → Listing (listed r) r
+      → Listing (listed r) r × (rosterIn f s m ≡ vars.declare (fileIn f s .names) (listed r) (drop (i + 1) (unknownsIn f s m)))
+  roster-pass g k = (k, now ∙ declare-pass (fileIn f s .names) (listed r) (unknownsIn f s m) noUnknown i name l e g)
 
 -- t alone before the first
 pub roster-first : (f : List ℕ) (s : Sections) (m time : ℕ) (r : Roster) → time ≡ timeName (fileIn f s .names) → Listing (time ∷ []) r

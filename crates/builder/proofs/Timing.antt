@@ -1,12 +1,13 @@
 -- Words of bytes from a place up to another; the last t among them; and reaching t, round by round.
 use mathlib.Core.Path.{_≡_, refl, sym, ap, _∙_}
-use mathlib.Core.Bool.{Bool, true, false, _||_}
+use mathlib.Core.Bool.{Bool, true, false, not, _||_}
 use mathlib.Core.List.{List, [], _∷_, _++_}
 use mathlib.Core.Option.{Option, none, some}
 use Prim.Native.Nat.{ℕ, zero, suc, _+_, _-_, _*_, _≤_, _<_}
 use native.Mathlib.Numerals.{add-one}
 use native.Mathlib.Omega.{arith}
-use borrow.Author.Tests.{ltb-true, ltb-false, lt-ltb}
+use native.Mathlib.Decide.{ℕ-discrete}
+use borrow.Author.Tests.{ltb-true, ltb-false, lt-ltb, eqb-true, not-false}
 use lib.Dec.{ltb, eqb}
 use lib.ListN.{length, take, drop, getD, set, length-take, length-drop}
 use lib.Seq.{getD-take, getD-drop, length-take-le, take-suc, take-all, getD-set-same, getD-set-other}
@@ -19,6 +20,8 @@ use Rattle.ast.proofs.Fields.{dep-at, length-deps}
 use Rattle.ast.proofs.Files.{all-at}
 use Rattle.builder.specs.Variables.{lastTime}
 use Rattle.builder.specs.VariableTables.{wordsFrom, nextIn, DepsIn, leads, Round, TimeReached}
+use Rattle.builder.proofs.Filled.{Filled, filled-none, filled-more}
+use Rattle.builder.proofs.Counts.{or-false}
 use Rattle.builder.proofs.ListLaws.{flag-one}
 
 -- ---- words from `first` up to `end`
@@ -154,6 +157,25 @@ module _ (starts deps : List ℕ) (vars : ℕ) where
         ∙ rw add-one;
   }
 
+  -- a table with the same marks
+  pub reached-same : (k : ℕ) (old new : List ℕ) → TimeReached starts deps vars k old → ((v : ℕ) → v < vars → getD new v 0 ≡ getD old v 0) → TimeReached starts deps vars k new
+  reached-same k old new t e = record { mark = λ v h. e v h ∙ t .mark v h }
+
+  -- after a round that marks nothing new, no further step does
+  reached-on : (k j : ℕ) (old new : List ℕ) → DepsIn starts deps vars → TimeReached starts deps vars k old → Round starts deps vars old new
+      → ((v : ℕ) → v < vars → getD new v 0 ≡ getD old v 0) → TimeReached starts deps vars (j + k) old
+  reached-on k zero old new d t r e = let n : k ≡ 0 + k = omega arith in rw (← n) t
+  reached-on k (suc j) old new d t r e =
+      let n : j + k + 1 ≡ suc j + k = omega arith in
+      rw n at (reached-same (j + k + 1) new old (reached-more (j + k) old new d (reached-on k j old new d t r e) r) (λ v h. sym (e v h)))
+
+  -- so all are marked from which t is reached at all
+  pub reached-end : (k : ℕ) (old new : List ℕ) → k ≤ vars → DepsIn starts deps vars → TimeReached starts deps vars k old → Round starts deps vars old new
+      → ((v : ℕ) → v < vars → getD new v 0 ≡ getD old v 0) → TimeReached starts deps vars vars new
+  reached-end k old new l d t r e =
+      let n : vars - k + k ≡ vars = omega arith in
+      reached-same vars old new (rw n at (reached-on k (vars - k) old new d t r e)) e
+
   -- one variable more
   pub round-more : (old new : List ℕ) (v x : ℕ) → v < length new → x ≡ flag (any (leads old) (nextIn starts deps v))
       → ((w : ℕ) → w < v → getD new w 0 ≡ flag (any (leads old) (nextIn starts deps w)))
@@ -163,3 +185,29 @@ module _ (starts deps : List ℕ) (vars : ℕ) where
       go : (b : Bool) → ltb w v ≡ b → getD (set new v x) w 0 ≡ flag (any (leads old) (nextIn starts deps w))
       go true t = let n : w < v = ltb-true w v t in getD-set-other new v w x 0 (λ q. omega arith) ∙ h w n
       go false t = let n : v ≡ w = omega (arith, ltb-false w v t) in rw (← n) (getD-set-same new v x 0 l ∙ e)
+
+-- ---- marks taken over from another table
+
+-- the first v of them, and whether one of those was new
+pub record Taken (was next : List ℕ) (v : ℕ) (changed : Bool) (table : List ℕ) : Type 0 where
+  pub filled : Filled (length was) (λ (k : ℕ). getD next k 0) v table
+  pub rest : (k : ℕ) → v ≤ k → getD table k 0 ≡ getD was k 0
+  pub same : changed ≡ false → (k : ℕ) → k < v → getD next k 0 ≡ getD was k 0
+
+module _ (was next : List ℕ) where
+  -- none yet
+  pub taken-none : Taken was next 0 false was
+  taken-none = record { filled = filled-none (length was) _ was refl; rest = λ k l. refl; same = λ q k l. absurd (omega arith) }
+
+  -- one more
+  pub taken-more : (v : ℕ) (changed : Bool) (table : List ℕ) → v < length was → Taken was next v changed table
+      → Taken was next (v + 1) (changed || not (eqb (getD table v 0) (getD next v 0))) (set table v (getD next v 0))
+  taken-more v changed table l t = record {
+    filled = filled-more (length was) _ v (getD next v 0) table l refl (t .filled);
+    rest = λ k h. getD-set-other table v k (getD next v 0) 0 (λ q. omega arith) ∙ t .rest k (omega arith);
+    same = λ q k h. let (a, b) = or-false changed _ q in go a (not-false _ b) k h (ℕ-discrete k v);
+  }
+    where
+      go : changed ≡ false → eqb (getD table v 0) (getD next v 0) ≡ true → (k : ℕ) → k < v + 1 → Dec (k ≡ v) → getD next k 0 ≡ getD was k 0
+      go a b k h (yes q) = rw q (sym (eqb-true (getD table v 0) (getD next v 0) b) ∙ t .rest v (omega arith))
+      go a b k h (no q) = t .same a k (omega arith)

@@ -1,5 +1,5 @@
 -- What descents over a model's flattened statements read at a level of the rows: f is an open file and s its sections.
-use Prim.Native.Nat.{ℕ, _-_, _*_}
+use Prim.Native.Nat.{ℕ, _+_, _-_, _*_, _≤_, _<_}
 use mathlib.Core.Path.{_≡_}
 use mathlib.Core.List.{List, [], map}
 use lib.ListN.{length, take, getD}
@@ -26,10 +26,11 @@ module _ (f : List ℕ) (s : Sections) where
   abbrev pub replacedBy : ℕ → ℕ → Replacements
   replacedBy m call = replacements (modelAt (fileIn f s) m .unknowns) (argsBefore (contentsIn f s .nodes) call (opAt (contentsIn f s .nodes) call) (sizeAt (contentsIn f s .nodes) call - 1))
 
-  -- What replaces is an expression of the file.
-  abbrev pub RowsIn : List ℕ → Type 0
-  RowsIn rows = RowsFit (contentsIn f s .nodes) (s .counts .nodes) rows
+  -- What replaces is an expression of the file, and only names of the file are replaced.
+  pub record RowsIn (rows : List ℕ) : Type 0 where
+    pub fit : RowsFit (contentsIn f s .nodes) (s .counts .nodes) rows
+    pub bare : (level j : ℕ) → s .counts .names ≤ j → j < 256 → getD rows (256 * level + j) 0 ≡ 0
 
   -- The rows of the levels below one are as they were.
   abbrev pub RowsKept : ℕ → List ℕ → List ℕ → Type 0
-  RowsKept level rows rows′ = (length rows′ ≡ length rows) × (take (256 * level) rows′ ≡ take (256 * level) rows) × RowsFit (contentsIn f s .nodes) (s .counts .nodes) rows′
+  RowsKept level rows rows′ = (length rows′ ≡ length rows) × (take (256 * level) rows′ ≡ take (256 * level) rows) × RowsIn rows′

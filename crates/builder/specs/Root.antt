@@ -1,5 +1,5 @@
 -- What a build works out of a root model, step by step: the sizes, the tables of its variables, and the parts of the area that are written.
-use Prim.Native.Nat.{ℕ, _+_, _*_, _≤_, _<_}
+use Prim.Native.Nat.{ℕ, _*_, _≤_, _<_}
 use mathlib.Core.Path.{_≡_}
 use mathlib.Core.Bool.{cond, _||_}
 use mathlib.Core.List.{List, [], _++_, map}
@@ -20,14 +20,13 @@ use Rattle.builder.specs.Allocate.{Fate, fatesOf, pairedStates, countErr
 use Rattle.builder.specs.Answer.{Answer, answerBytes, flatRecords, variableRecords}
 use Rattle.builder.specs.Build.{Result, refusal, accepted, answerFrom, tooBig, fitted}
 use Rattle.builder.specs.Tables.{Classes, lackingIn}
-use Rattle.builder.specs.VariableTables.{rosterIn, Listing}
+use Rattle.builder.specs.VariableTables.{rosterIn, rostered, Listing}
 use Rattle.builder.specs.Unfated.{unfated}
 use Rattle.builder.specs.Places.{Small, stmtsAt, varsAt, depsAt}
 use Rattle.builder.specs.Fating as fating
 use Rattle.builder.specs.Allocating.{nodesIn, stmtsIn, flatsIn, roleBy, roleErrorsBy}
 use Rattle.builder.specs.Starting.{startingIn}
 use Rattle.builder.specs.declared.places.Sizes.{Sizes}
-use Rattle.builder.specs.declared.tables.Tables.{Tables}
 use Rattle.builder.specs.declared.measure.Measured as measured
 use Rattle.builder.specs.declared.measure.Measured.the-variants.{Refused, Sized}
 use Rattle.builder.specs.declared.filling.Answered as answered
@@ -70,6 +69,25 @@ module _ (f : File) (m : ℕ) where
 
 -- ---- the tables of the root's variables
 
+-- Where the variables' dependents begin, their time indexes, whether they reach t, and whether a rate equation may go to them.
+pub record Tables : Type 0 where
+  pub starts : List ℕ
+  pub indexes : List ℕ
+  pub reach : List ℕ
+  pub rates : List ℕ
+
+abbrev pub tabled : List ℕ → List ℕ → List ℕ → List ℕ → Tables
+tabled starts indexes reach rates = record { starts = starts; indexes = indexes; reach = reach; rates = rates }
+
+-- tables without entries
+pub record NoTables (starts indexes reach rates : List ℕ) : Type 0 where
+  pub starts-long : length starts ≡ 130
+  pub indexes-long : length indexes ≡ 129
+  pub reach-long : length reach ≡ 129
+  pub rates-long : length rates ≡ 129
+  pub no-start : getD starts 0 0 ≡ 0
+  pub no-mark : (v : ℕ) → getD reach v 0 ≡ 0
+
 pub record TablesOf (c : Scope) (t : Tables) : Type 0 where
   pub starts-long : length (t .starts) ≡ 130
   pub indexes-long : length (t .indexes) ≡ 129
@@ -95,8 +113,8 @@ pub record Known (f : List ℕ) (s : Sections) (m : ℕ) (classes names numbers 
   pub model : m < s .counts .models
   pub classed : Classes (fileIn f s .names) classes
   pub classes-long : length classes ≡ 256
-  pub listing : Listing (rosterIn f s m) (record { count = z .vars; names = names; numbers = numbers })
-  pub tables : TablesOf (scopeAt (fileIn f s) m) (record { starts = starts; indexes = indexes; reach = reach; rates = rates })
+  pub listing : Listing (rosterIn f s m) (rostered (z .vars) names numbers)
+  pub tables : TablesOf (scopeAt (fileIn f s) m) (tabled starts indexes reach rates)
   pub sizes : SizesOf (fileIn f s) m z
 
 -- ---- parts of an area

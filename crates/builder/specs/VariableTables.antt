@@ -15,7 +15,6 @@ use Rattle.ast.specs.declared.sections.Sections.{Sections}
 use Rattle.builder.specs.Variables as vars
 use Rattle.builder.specs.Variables.{variableNames, keptDeps}
 use Rattle.builder.specs.Flatten.{modelAt}
-use Rattle.builder.specs.declared.variables.Roster.{Roster}
 
 -- ---- dependents, as words of bytes: those of variable v go from starts v up to starts (v + 1)
 
@@ -50,6 +49,15 @@ pub record TimeReached (starts deps : List ℕ) (vars k : ℕ) (table : List ℕ
 unfoldable pub firstZero : List ℕ → ℕ → ℕ → ℕ
 firstZero table i zero = 0
 firstZero table i (suc n) = cond (eqb (getD table i 0) 0) (suc i) (firstZero table (suc i) n)
+
+-- A count of variables, the table of their names and that of their numbers.
+pub record Roster : Type 0 where
+  pub count : ℕ
+  pub names : List ℕ
+  pub numbers : List ℕ
+
+abbrev pub rostered : ℕ → List ℕ → List ℕ → Roster
+rostered count names numbers = record { count = count; names = names; numbers = numbers }
 
 unfoldable pub listed : Roster → List ℕ
 listed r = take (r .count) (r .names)

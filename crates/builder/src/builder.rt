@@ -21,6 +21,7 @@ use super::names::REAL;
 use super::names::is_reserved;
 use super::names::is_time;
 use super::scope::model_vars;
+use super::scope::no_marks;
 use ast::records::model;
 use ast::records::node;
 use ast::records::stmt;
@@ -245,7 +246,8 @@ pub fn builder(
     if k == 0 {
         return count;
     }
-    let vars = model_vars(f, s, classes, m);
+    let mut vars = no_marks();
+    model_vars(f, s, classes, m, &mut vars);
     let first = model(f, s, m, 3);
     let stmts = model(f, s, m, 4);
     let mut listed = unknowns_errors(f, s, classes, m, out, count);

@@ -80,15 +80,8 @@ pub fn write_fates(area: &mut [u8], z: Sizes, roles: &[u32], states: &[u32], que
     }
 }
 
-// Of each variable: the first statement that it holds plus 1 or 0, its first initial condition plus 1 or 0, and how many it has.
-pub struct Fates {
-    pub held: [u32; 129],
-    pub first: [u32; 129],
-    pub conditions: [u32; 129],
-}
-
 // 0 for each variable.
-fn zeros() -> [u32; 129]
+pub fn no_fates() -> [u32; 129]
     ensures { λ r. ⌜ (length r ≡ 129) × ((v : ℕ) → getD r v 0 ≡ 0) ⌝ }
 {
     [0u32; 129]
@@ -121,8 +114,15 @@ fn note_fate(
     }
 }
 
-// Adds all statements, from the last one on.
-fn note_fates(area: &[u8], z: Sizes, held: &mut [u32], first: &mut [u32], conditions: &mut [u32])
+// The fates of all statements, from the last one on, in tables of zeros. Of each variable: the first statement that it holds plus 1 or 0, its first
+// initial condition plus 1 or 0, and how many it has.
+pub fn note_fates(
+    area: &[u8],
+    z: Sizes,
+    held: &mut [u32],
+    first: &mut [u32],
+    conditions: &mut [u32],
+)
     requires { ⌜ Small z × (varsAt z ≤ length (now area)) × FatesFrom (z .stmts) (section 8 (z .stmts) (stmtsAt z) (now area)) (now held) (now first) (now conditions) ⌝ }
     ensures { λ _. ⌜ FatesIn (section 8 (z .stmts) (stmtsAt z) (now (area .entry))) (now (held .exit)) (now (first .exit)) (now (conditions .exit)) ⌝ }
 {
@@ -130,21 +130,5 @@ fn note_fates(area: &[u8], z: Sizes, held: &mut [u32], first: &mut [u32], condit
     while 0 < i {
         i -= 1;
         note_fate(area, z, i, held, first, conditions);
-    }
-}
-
-// The fates of all statements.
-pub fn fates_of(area: &[u8], z: Sizes) -> Fates
-    requires { ⌜ Small z × (varsAt z ≤ length (now area)) ⌝ }
-    ensures { λ r. ⌜ FatesIn (section 8 (z .stmts) (stmtsAt z) (now (area .entry))) (r .held) (r .first) (r .conditions) ⌝ }
-{
-    let mut held = zeros();
-    let mut first = zeros();
-    let mut conditions = zeros();
-    note_fates(area, z, &mut held, &mut first, &mut conditions);
-    Fates {
-        held: held,
-        first: first,
-        conditions: conditions,
     }
 }

@@ -1,8 +1,8 @@
 // An answer written whole into an area of 55,384 bytes.
 ghost use mathlib.Core.Path.{_≡_};
 ghost use mathlib.Core.Bool.{false, cond};
-ghost use Prim.Native.Nat.{_+_, _*_, min, _≤_, _<_};
-ghost use lib.ListN.{length, take};
+ghost use Prim.Native.Nat.{ℕ, _+_, _*_, min, _≤_, _<_};
+ghost use lib.ListN.{length, take, getD};
 ghost use Rattle.functions.specs.Lists.{sumOf};
 ghost use Rattle.ast.specs.Tree.{flatSize};
 ghost use Rattle.ast.specs.Opens.{fileIn};
@@ -14,18 +14,20 @@ ghost use Rattle.builder.specs.Build.{refusal, accepted, tooBig, anyShor
 ghost use Rattle.builder.specs.Places.{Small, errorsAt};
 ghost use Rattle.builder.specs.Descent.{RowsIn};
 ghost use Rattle.builder.specs.Checking as checking;
-ghost use Rattle.builder.specs.Root.{flatsOf, scopeAt, timeAt, rolesAt, answerAt, Known, Unfated, Varied, given, usedIn, bytesIn};
+ghost use Rattle.builder.specs.Root.{flatsOf, scopeAt, timeAt, rolesAt, answerAt, NoTables, Known, Unfated, Varied, given, usedIn, bytesIn};
 use super::all_errors::all_errors;
 use super::allocate::any_short;
 use super::allocation::Left;
 use super::allocation::allocate_stmts;
 use super::laying::lay_deps;
 use super::laying::lay_flats;
+use super::laying::no_flags;
+use super::laying::no_starts;
+use super::laying::no_variables;
 use super::laying::time_lower;
 use super::places::Sizes;
 use super::places::errors_at;
-use super::tables::Tables;
-use super::variables::Roster;
+use super::scope::no_marks;
 use super::variables::roster_of;
 use super::vars::write_header;
 use super::vars::write_vars;
@@ -181,29 +183,52 @@ fn answer_laid(
     ))
 }
 
-// The same, by the variables and their tables.
-fn answer_by(
+// The answer of model m, of i instances, q statements and n nodes, by tables without entries.
+fn fill_by(
     f: &[u8],
     s: Sections,
     classes: &[u8; 256],
     rules: &[u8; 256],
     calls: &[u8; 256],
+    rows: &mut [u32],
     m: usize,
     own: &mut [u8],
-    r: Roster,
-    t: Tables,
-    z: Sizes,
     i: usize,
+    q: usize,
+    n: usize,
+    names: &mut [u32],
+    numbers: &mut [u32],
+    starts: &mut [u32],
+    index: &mut [u32],
+    reach: &mut [u8],
+    rate: &mut [u8],
 ) -> Answered
-    requires { ⌜ Known (now f) s m (now classes) (r .names) (r .numbers) (t .starts) (t .indexes) (t .reach) (t .rates) z × checking.Tabled (now f) s (now classes) (now rules) (now calls) × Unfated (fileIn (now f) s) m z (now own) × (i ≡ instances (fileIn (now f) s) (length (fileIn (now f) s .models)) m) × (i ≤ 1024) ⌝ }
+    requires { ⌜ checking.Tabled (now f) s (now classes) (now rules) (now calls) × (length (now classes) ≡ 256) × (m < s .counts .models) × ((256 * s .counts .models ≤ length (now rows)) × RowsIn (now f) s (now rows)) × (length (now own) ≡ 55384) × ((i ≡ instances (fileIn (now f) s) (length (fileIn (now f) s .models)) m) × (q ≡ length (flatsOf (fileIn (now f) s) m)) × (n ≡ sumOf flatSize (flatsOf (fileIn (now f) s) m)) × (tooBig (fileIn (now f) s) m (flatsOf (fileIn (now f) s) m) ≡ false)) × (length (now names) ≡ 129) × (length (now numbers) ≡ 256) × ((j : ℕ) → getD (now numbers) j 0 ≡ 0) × NoTables (now starts) (now index) (now reach) (now rate) ⌝ }
     ensures { λ a. ⌜ (given a (now (own .exit)) ≡ bytesIn (cond (anyShort (scopeAt (fileIn (now (f .entry)) s) m) (flatsOf (fileIn (now (f .entry)) s) m)) (refusal shortLeftSide) (accepted (answerAt (fileIn (now (f .entry)) s) m)))) × (usedIn a ≤ 55384) ⌝ }
 {
-    let names = r.names;
-    let numbers = r.numbers;
-    let starts = t.starts;
-    let indexes = t.indexes;
-    let reach = t.reach;
-    let rates = t.rates;
+    let vars = roster_of(f, s, classes, m, names, numbers);
+    lay_flats(f, s, calls, rows, m, own, n);
+    let at = 40 + 32 * n + 32 * q + 48 * vars;
+    lay_deps(
+        f,
+        s,
+        m,
+        names,
+        numbers,
+        vars,
+        own,
+        at,
+        starts,
+        index,
+        reach,
+        rate,
+    );
+    let z = Sizes {
+        nodes: n,
+        stmts: q,
+        vars: vars,
+        deps: starts[vars] as usize,
+    };
     answer_laid(
         f,
         s,
@@ -212,18 +237,18 @@ fn answer_by(
         calls,
         m,
         own,
-        &names,
-        &numbers,
-        &starts,
-        &indexes,
-        &reach,
-        &rates,
+        names,
+        numbers,
+        starts,
+        index,
+        reach,
+        rate,
         z,
         i,
     )
 }
 
-// The answer of model m, of i instances, q statements and n nodes.
+// The same, by tables of its own.
 pub fn fill(
     f: &[u8],
     s: Sections,
@@ -240,15 +265,29 @@ pub fn fill(
     requires { ⌜ checking.Tabled (now f) s (now classes) (now rules) (now calls) × (length (now classes) ≡ 256) × (m < s .counts .models) × ((256 * s .counts .models ≤ length (now rows)) × RowsIn (now f) s (now rows)) × (length (now own) ≡ 55384) × ((i ≡ instances (fileIn (now f) s) (length (fileIn (now f) s .models)) m) × (q ≡ length (flatsOf (fileIn (now f) s) m)) × (n ≡ sumOf flatSize (flatsOf (fileIn (now f) s) m)) × (tooBig (fileIn (now f) s) m (flatsOf (fileIn (now f) s) m) ≡ false)) ⌝ }
     ensures { λ a. ⌜ (given a (now (own .exit)) ≡ bytesIn (cond (anyShort (scopeAt (fileIn (now (f .entry)) s) m) (flatsOf (fileIn (now (f .entry)) s) m)) (refusal shortLeftSide) (accepted (answerAt (fileIn (now (f .entry)) s) m)))) × (usedIn a ≤ 55384) ⌝ }
 {
-    let r = roster_of(f, s, classes, m);
-    let vars = r.count;
-    lay_flats(f, s, calls, rows, m, own, n);
-    let t = lay_deps(f, s, r, m, own, 40 + 32 * n + 32 * q + 48 * vars);
-    let z = Sizes {
-        nodes: n,
-        stmts: q,
-        vars: vars,
-        deps: t.starts[vars] as usize,
-    };
-    answer_by(f, s, classes, rules, calls, m, own, r, t, z, i)
+    let mut names = no_variables();
+    let mut numbers = no_marks();
+    let mut starts = no_starts();
+    let mut index = no_variables();
+    let mut reach = no_flags();
+    let mut rate = no_flags();
+    fill_by(
+        f,
+        s,
+        classes,
+        rules,
+        calls,
+        rows,
+        m,
+        own,
+        i,
+        q,
+        n,
+        &mut names,
+        &mut numbers,
+        &mut starts,
+        &mut index,
+        &mut reach,
+        &mut rate,
+    )
 }

@@ -9,7 +9,7 @@ ghost use Rattle.functions.specs.Lists.{each, sumOf};
 ghost use Rattle.ast.specs.Tree.{Flat, size, flatSize};
 ghost use Rattle.ast.specs.Words.{wordOf};
 ghost use Rattle.ast.specs.Subst.{Replacements};
-ghost use Rattle.ast.specs.Bytes.{put};
+ghost use Rattle.ast.specs.Bytes.{front, put};
 ghost use Rattle.ast.specs.Encode.{nodes, flatNodes, encode};
 ghost use Rattle.ast.specs.Nodes.{kindAt, nameAt, isExpr, treeAt};
 ghost use Rattle.ast.specs.Levels.{byTable};
@@ -42,11 +42,13 @@ fn target(f: &[u8], s: Sections, m: usize, i: usize, keyword: usize) -> usize
     0
 }
 
-fn clear_row(row: &mut [u32])
-    ensures { λ _. ⌜ now (row .exit) ≡ replicate (length (now (row .entry))) 0 ⌝ }
+// Clears the first n entries.
+fn clear_row(row: &mut [u32], n: usize)
+    requires { ⌜ n ≤ length (now row) ⌝ }
+    ensures { λ _. ⌜ now (row .exit) ≡ front (now (row .entry)) (replicate n 0) ⌝ }
 {
     let mut i = 0;
-    while i < row.len() {
+    while i < n {
         row[i] = 0;
         i += 1;
     }
@@ -87,12 +89,12 @@ fn fill_row(f: &[u8], s: Sections, m: usize, call: usize, row: &mut [u32])
     }
 }
 
-// The replacements of a call as a row, whatever stood there.
+// The replacements of a call as a row, whatever it held of the names.
 fn new_row(f: &[u8], s: Sections, m: usize, call: usize, row: &mut [u32])
-    requires { ⌜ Open (now f) s × (m < s .counts .models) × ((call < s .counts .nodes) × (kindAt (contentsIn (now f) s .nodes) call ≡ 5)) × (length (now row) ≡ 256) ⌝ }
+    requires { ⌜ Open (now f) s × (m < s .counts .models) × ((call < s .counts .nodes) × (kindAt (contentsIn (now f) s .nodes) call ≡ 5)) × (length (now row) ≡ 256) × RowsIn (now f) s (now row) ⌝ }
     ensures { λ _. ⌜ (length (now (row .exit)) ≡ 256) × RowsIn (now (f .entry)) s (now (row .exit)) × ((n : ℕ) → byTable (contentsIn (now (f .entry)) s .nodes) (now (row .exit)) n ≡ replacedBy (now (f .entry)) s m call n) ⌝ }
 {
-    clear_row(row);
+    clear_row(row, s.counts.names);
     fill_row(f, s, m, call, row);
 }
 

@@ -12,17 +12,15 @@ ghost use Rattle.builder.specs.Variables.{fromZero, lastBounds};
 ghost use Rattle.builder.specs.Flatten.{modelAt};
 ghost use Rattle.builder.specs.Answer.{boundsWords};
 ghost use Rattle.builder.specs.Tables.{Classes, Callees};
-ghost use Rattle.builder.specs.VariableTables.{rosterIn, Listing};
+ghost use Rattle.builder.specs.VariableTables.{rosterIn, rostered, Listing};
 ghost use Rattle.builder.specs.Descent.{RowsIn};
 ghost use Rattle.builder.specs.Unfated.{unfated};
-ghost use Rattle.builder.specs.Root.{flatsOf, scopeAt, TablesOf};
+ghost use Rattle.builder.specs.Root.{flatsOf, scopeAt, NoTables, tabled, TablesOf};
 use super::bounds::put_last_bounds;
 use super::flatten::write_nodes;
 use super::stmts::Done;
 use super::stmts::write_stmts;
-use super::tables::Tables;
 use super::tables::variable_tables;
-use super::variables::Roster;
 use ast::numbers::record_bits;
 use ast::sections::Sections;
 
@@ -38,6 +36,25 @@ pub fn few_rows() -> [u32; 512]
     ensures { λ r. ⌜ (length r ≡ 512) × ((n : ℕ) → getD r n 0 ≡ 0) ⌝ }
 {
     [0u32; 512]
+}
+
+// A table of variables without entries; the same of where their dependents begin, and of marks.
+pub fn no_variables() -> [u32; 129]
+    ensures { λ r. ⌜ length r ≡ 129 ⌝ }
+{
+    [0u32; 129]
+}
+
+pub fn no_starts() -> [u32; 130]
+    ensures { λ r. ⌜ (length r ≡ 130) × (getD r 0 0 ≡ 0) ⌝ }
+{
+    [0u32; 130]
+}
+
+pub fn no_flags() -> [u8; 129]
+    ensures { λ r. ⌜ (length r ≡ 129) × ((v : ℕ) → getD r v 0 ≡ 0) ⌝ }
+{
+    [0u8; 129]
 }
 
 // An answer of the builder's own.
@@ -99,12 +116,37 @@ pub fn lay_flats(
     lay_stmts(f, s, calls, rows, m, own, 40 + 32 * n);
 }
 
-// Writes the dependents at a place, and gives the tables of the variables.
-pub fn lay_deps(f: &[u8], s: Sections, r: Roster, m: usize, own: &mut [u8], at: usize) -> Tables
-    requires { ⌜ Open (now f) s × (m < s .counts .models) × Listing (rosterIn (now f) s m) r × (at + 4096 ≤ length (now own)) ⌝ }
-    ensures { λ t. ⌜ TablesOf (scopeAt (fileIn (now (f .entry)) s) m) t × (now (own .exit) ≡ put (now (own .entry)) at (bytesOf (each (λ x. x .deps) (scopeAt (fileIn (now (f .entry)) s) m .vars)))) ⌝ }
+// Writes the dependents at a place, and fills the tables of the variables.
+pub fn lay_deps(
+    f: &[u8],
+    s: Sections,
+    m: usize,
+    names: &[u32],
+    numbers: &[u32],
+    vars: usize,
+    own: &mut [u8],
+    at: usize,
+    starts: &mut [u32],
+    index: &mut [u32],
+    reach: &mut [u8],
+    rate: &mut [u8],
+)
+    requires { ⌜ Open (now f) s × (m < s .counts .models) × Listing (rosterIn (now f) s m) (rostered vars (now names) (now numbers)) × (at + 4096 ≤ length (now own)) × NoTables (now starts) (now index) (now reach) (now rate) ⌝ }
+    ensures { λ _. ⌜ TablesOf (scopeAt (fileIn (now (f .entry)) s) m) (tabled (now (starts .exit)) (now (index .exit)) (now (reach .exit)) (now (rate .exit))) × (now (own .exit) ≡ put (now (own .entry)) at (bytesOf (each (λ x. x .deps) (scopeAt (fileIn (now (f .entry)) s) m .vars)))) ⌝ }
 {
-    variable_tables(f, s, r, m, &mut own[at..])
+    variable_tables(
+        f,
+        s,
+        m,
+        names,
+        numbers,
+        vars,
+        &mut own[at..],
+        starts,
+        index,
+        reach,
+        rate,
+    );
 }
 
 // Writes time's bounds into the header, those that model m declares last for the name (plus 1) of t, and gives the lower one.

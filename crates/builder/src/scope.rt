@@ -81,7 +81,7 @@ fn time_name(f: &[u8], s: Sections, classes: &[u8; 256]) -> usize
 }
 
 // A table without marks.
-fn no_marks() -> [u32; 256]
+pub fn no_marks() -> [u32; 256]
     ensures { λ r. ⌜ (length r ≡ 256) × ((n : ℕ) → getD r n 0 ≡ 0) ⌝ }
 {
     [0u32; 256]
@@ -129,8 +129,8 @@ fn one_kept(entry: u32) -> u32
 }
 
 // How many of unknown u's dependents are variables.
-fn kept_count(f: &[u8], s: Sections, vars: &[u32; 256], u: usize) -> u32
-    requires { ⌜ Open (now f) s × (u < s .counts .unknowns) ⌝ }
+fn kept_count(f: &[u8], s: Sections, vars: &[u32], u: usize) -> u32
+    requires { ⌜ Open (now f) s × (u < s .counts .unknowns) × (length (now vars) ≡ 256) ⌝ }
     ensures { λ r. ⌜ (r ≡ keptIn (now (vars .entry)) (unknownIn (now (f .entry)) s u .deps)) × (r ≤ 1024) ⌝ }
 {
     let first = unknown(f, s, u, 1);
@@ -155,21 +155,19 @@ fn raised(entry: u32, kept: u32) -> u32
     entry + kept
 }
 
-// The variables of model m by name: 0 where a name is none, else 1 plus the count of its kept dependents.
-pub fn model_vars(f: &[u8], s: Sections, classes: &[u8; 256], m: usize) -> [u32; 256]
-    requires { ⌜ Open (now f) s × (m < s .counts .models) × Classes (fileIn (now f) s .names) (now classes) ⌝ }
-    ensures { λ r. ⌜ VarsOf (scopeIn (now (f .entry)) s m) r ⌝ }
+// Notes the variables of model m by name, in a table without marks: 0 where a name is none, else 1 plus the count of its kept dependents.
+pub fn model_vars(f: &[u8], s: Sections, classes: &[u8; 256], m: usize, out: &mut [u32])
+    requires { ⌜ Open (now f) s × (m < s .counts .models) × Classes (fileIn (now f) s .names) (now classes) × (length (now out) ≡ 256) × ((n : ℕ) → getD (now out) n 0 ≡ 0) ⌝ }
+    ensures { λ _. ⌜ VarsOf (scopeIn (now (f .entry)) s m) (now (out .exit)) × (length (now (out .exit)) ≡ 256) ⌝ }
 {
-    let mut out = no_marks();
-    declared(f, s, classes, m, &mut out);
+    declared(f, s, classes, m, out);
     let first = model(f, s, m, 1);
     let count = model(f, s, m, 2);
     let mut i = 0;
     while i < count {
         let name = unknown(f, s, first + i, 0);
-        let kept = kept_count(f, s, &out, first + i);
+        let kept = kept_count(f, s, out, first + i);
         out[name] = raised(out[name], kept);
         i += 1;
     }
-    out
 }

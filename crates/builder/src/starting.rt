@@ -11,7 +11,8 @@ ghost use Rattle.builder.specs.Places.{Small, errorsAt};
 ghost use Rattle.builder.specs.Allocating.{nodesIn, stmtsIn, ListsAt};
 ghost use Rattle.builder.specs.Starting.{Righted, rightSpanIn, heldErrorsIn, startingIn};
 use super::allocate::list_error;
-use super::fated::fates_of;
+use super::fated::no_fates;
+use super::fated::note_fates;
 use super::fated::stmt_of;
 use super::places::Sizes;
 use ast::records::model;
@@ -114,13 +115,16 @@ pub fn starting_errors(
     requires { ⌜ Open (now f) s × (m < s .counts .models) × (z .vars ≤ length (now names)) × Righted (now area) z × (count + z .vars < 2 ^ 40) ⌝ }
     ensures { λ r. ⌜ ListsAt (errorsAt z) (now (area .entry)) count (startingIn (modelAt (fileIn (now (f .entry)) s) m .span) (nodesIn (now (area .entry)) z) (stmtsIn (now (area .entry)) z) (now (names .entry)) (z .vars)) r (now (area .exit)) ⌝ }
 {
-    let t = fates_of(area, z);
+    let mut held = no_fates();
+    let mut first = no_fates();
+    let mut conditions = no_fates();
+    note_fates(area, z, &mut held, &mut first, &mut conditions);
     let mut listed = count;
     let mut v = 0;
     while v < z.vars {
-        let held = t.held[v] as usize;
-        let first = t.first[v] as usize;
-        listed = state_errors(f, s, m, area, z, names[v], held, first, listed);
+        let holds = held[v] as usize;
+        let starts = first[v] as usize;
+        listed = state_errors(f, s, m, area, z, names[v], holds, starts, listed);
         v += 1;
     }
     listed

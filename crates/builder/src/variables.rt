@@ -1,18 +1,18 @@
 // The root's variables: t first, then each unreserved unknown's name in order of first declaration.
 ghost use mathlib.Core.Path.{_≡_};
-ghost use mathlib.Core.Bool.{true, cond};
+ghost use mathlib.Core.Bool.{true, false, cond};
 ghost use mathlib.Core.List.{[], _∷_};
 ghost use mathlib.Core.Option.{none};
-ghost use Prim.Native.Nat.{suc, _+_, _*_, _≤_, _<_};
+ghost use Prim.Native.Nat.{ℕ, suc, _+_, _*_, _≤_, _<_};
 ghost use lib.Dec.{ltb, eqb};
-ghost use lib.ListN.{length};
+ghost use lib.ListN.{length, getD};
 ghost use Rattle.functions.specs.Lists.{any, all, each, plusOne, flag};
 ghost use Rattle.ast.specs.Bytes.{front, put};
 ghost use Rattle.ast.specs.Words.{bytesOf};
 ghost use Rattle.ast.specs.Opens.{Open, fileIn};
 ghost use Rattle.builder.specs.Variables.{keptDeps, lastTime};
 ghost use Rattle.builder.specs.Tables.{Classes};
-ghost use Rattle.builder.specs.VariableTables.{wordsFrom, DepsIn, leads, Round, TimeReached, firstZero, listed, declareOne, Numbers, Listing, unknownsIn, rosterIn, unknownIn, oneBelow, keptBy, StartsOf};
+ghost use Rattle.builder.specs.VariableTables.{wordsFrom, DepsIn, leads, Round, TimeReached, firstZero, rostered, listed, declareOne, Numbers, Listing, unknownsIn, rosterIn, unknownIn, oneBelow, keptBy, StartsOf};
 use super::names::is_reserved;
 use super::names::is_time;
 use ast::records::dep;
@@ -21,14 +21,6 @@ use ast::records::unknown;
 use ast::sections::Sections;
 use ast::words::put_word;
 use ast::words::read_word;
-
-// The variables by number and by name: `names` holds a name's number plus 1 (0 for t where no name is t), `numbers` a variable's
-// number plus 1, or 0.
-pub struct Roster {
-    pub count: usize,
-    pub names: [u32; 129],
-    pub numbers: [u32; 256],
-}
 
 // The name, plus 1, that is t, or 0.
 fn time_name(count: usize, classes: &[u8; 256]) -> usize
@@ -45,53 +37,56 @@ fn time_name(count: usize, classes: &[u8; 256]) -> usize
     0
 }
 
-// t alone.
-fn time_alone(time: usize) -> Roster
-    requires { ⌜ time ≤ 256 ⌝ }
-    ensures { λ r. ⌜ Listing (time ∷ []) r ⌝ }
+// Lists t alone, in tables without entries: `names` holds a name's number plus 1 by a variable's number (0 for t where no name is t),
+// `numbers` a variable's number plus 1, or 0, by a name's number.
+fn time_alone(time: usize, names: &mut [u32], numbers: &mut [u32])
+    requires { ⌜ (time ≤ 256) × (length (now names) ≡ 129) × (length (now numbers) ≡ 256) × ((n : ℕ) → getD (now numbers) n 0 ≡ 0) ⌝ }
+    ensures { λ _. ⌜ Listing (time ∷ []) (rostered 1 (now (names .exit)) (now (numbers .exit))) ⌝ }
 {
-    let mut r = Roster {
-        count: 1,
-        names: [0u32; 129],
-        numbers: [0u32; 256],
-    };
-    r.names[0] = time as u32;
+    names[0] = time as u32;
     if 0 < time {
-        r.numbers[time - 1] = 1;
+        numbers[time - 1] = 1;
     }
-    r
 }
 
-fn declare(old: Roster, name: usize) -> Roster
-    requires { ⌜ Listing (listed old) old × (old .count < 129) × (name < 256) ⌝ }
-    ensures { λ r. ⌜ Listing (declareOne (listed old) name) r × (r .count ≤ old .count + 1) ⌝ }
+// Lists a name behind `count` variables unless it is there, and gives their new number.
+fn declare(names: &mut [u32], numbers: &mut [u32], count: usize, name: usize) -> usize
+    requires { ⌜ Listing (listed (rostered count (now names) (now numbers))) (rostered count (now names) (now numbers)) × (count < 129) × (name < 256) ⌝ }
+    ensures { λ r. ⌜ Listing (declareOne (listed (rostered count (now (names .entry)) (now (numbers .entry)))) name) (rostered r (now (names .exit)) (now (numbers .exit))) × (r ≤ count + 1) ⌝ }
 {
-    let mut out = old;
-    let at = out.count;
-    if out.numbers[name] == 0 {
-        out.names[at] = (name + 1) as u32;
-        out.numbers[name] = (at + 1) as u32;
-        out.count = at + 1;
+    if numbers[name] != 0 {
+        return count;
     }
-    out
+    names[count] = (name + 1) as u32;
+    numbers[name] = (count + 1) as u32;
+    count + 1
 }
 
-pub fn roster_of(f: &[u8], s: Sections, classes: &[u8; 256], m: usize) -> Roster
-    requires { ⌜ Open (now f) s × (m < s .counts .models) × Classes (fileIn (now f) s .names) (now classes) ⌝ }
-    ensures { λ r. ⌜ Listing (rosterIn (now (f .entry)) s m) r ⌝ }
+// Lists the variables of model m, in tables without entries, and gives their number.
+pub fn roster_of(
+    f: &[u8],
+    s: Sections,
+    classes: &[u8; 256],
+    m: usize,
+    names: &mut [u32],
+    numbers: &mut [u32],
+) -> usize
+    requires { ⌜ Open (now f) s × (m < s .counts .models) × Classes (fileIn (now f) s .names) (now classes) × (length (now names) ≡ 129) × (length (now numbers) ≡ 256) × ((n : ℕ) → getD (now numbers) n 0 ≡ 0) ⌝ }
+    ensures { λ r. ⌜ Listing (rosterIn (now (f .entry)) s m) (rostered r (now (names .exit)) (now (numbers .exit))) ⌝ }
 {
     let first = model(f, s, m, 1);
     let count = model(f, s, m, 2);
-    let mut r = time_alone(time_name(s.counts.names, classes));
+    time_alone(time_name(s.counts.names, classes), names, numbers);
+    let mut vars = 1;
     let mut i = 0;
     while i < count {
         let name = unknown(f, s, first + i, 0);
         if !is_reserved(classes[name]) {
-            r = declare(r, name);
+            vars = declare(names, numbers, vars, name);
         }
         i += 1;
     }
-    r
+    vars
 }
 
 // Writes a kept dependent, plus 1, behind `done` ones and gives their new number.
@@ -110,12 +105,12 @@ fn put_dep(v: u32, out: &mut [u8], done: usize) -> usize
 fn put_unknown_deps(
     f: &[u8],
     s: Sections,
-    numbers: &[u32; 256],
+    numbers: &[u32],
     u: usize,
     out: &mut [u8],
     done: usize,
 ) -> usize
-    requires { ⌜ Open (now f) s × (u < s .counts .unknowns) × (4 * (done + length (keptBy (now numbers) (unknownIn (now f) s u .deps))) ≤ length (now out)) ⌝ }
+    requires { ⌜ Open (now f) s × (u < s .counts .unknowns) × (length (now numbers) ≡ 256) × (4 * (done + length (keptBy (now numbers) (unknownIn (now f) s u .deps))) ≤ length (now out)) ⌝ }
     ensures { λ r. ⌜ (r ≡ done + length (keptBy (now (numbers .entry)) (unknownIn (now (f .entry)) s u .deps))) × (now (out .exit) ≡ put (now (out .entry)) (4 * done) (bytesOf (keptBy (now (numbers .entry)) (unknownIn (now (f .entry)) s u .deps)))) ⌝ }
 {
     let first = unknown(f, s, u, 1);
@@ -133,13 +128,13 @@ fn put_unknown_deps(
 fn put_named_deps(
     f: &[u8],
     s: Sections,
-    numbers: &[u32; 256],
+    numbers: &[u32],
     u: usize,
     name: usize,
     out: &mut [u8],
     done: usize,
 ) -> usize
-    requires { ⌜ Open (now f) s × (u < s .counts .unknowns) × (4 * (done + length (cond (eqb (suc (unknownIn (now f) s u .name)) name) (keptBy (now numbers) (unknownIn (now f) s u .deps)) [])) ≤ length (now out)) ⌝ }
+    requires { ⌜ Open (now f) s × (u < s .counts .unknowns) × (length (now numbers) ≡ 256) × (4 * (done + length (cond (eqb (suc (unknownIn (now f) s u .name)) name) (keptBy (now numbers) (unknownIn (now f) s u .deps)) [])) ≤ length (now out)) ⌝ }
     ensures { λ r. ⌜ (r ≡ done + length (cond (eqb (suc (unknownIn (now (f .entry)) s u .name)) name) (keptBy (now (numbers .entry)) (unknownIn (now (f .entry)) s u .deps)) [])) × (now (out .exit) ≡ put (now (out .entry)) (4 * done) (bytesOf (cond (eqb (suc (unknownIn (now (f .entry)) s u .name)) name) (keptBy (now (numbers .entry)) (unknownIn (now (f .entry)) s u .deps)) []))) ⌝ }
 {
     if unknown(f, s, u, 0) + 1 == name {
@@ -152,13 +147,13 @@ fn put_named_deps(
 pub fn set_dependents(
     f: &[u8],
     s: Sections,
-    numbers: &[u32; 256],
+    numbers: &[u32],
     m: usize,
     name: usize,
     out: &mut [u8],
     done: usize,
 ) -> usize
-    requires { ⌜ Open (now f) s × (m < s .counts .models) × Numbers (rosterIn (now f) s m) (now numbers) × (4 * (done + length (keptDeps (rosterIn (now f) s m) (unknownsIn (now f) s m) name)) ≤ length (now out)) ⌝ }
+    requires { ⌜ Open (now f) s × (m < s .counts .models) × Numbers (rosterIn (now f) s m) (now numbers) × (length (now numbers) ≡ 256) × (4 * (done + length (keptDeps (rosterIn (now f) s m) (unknownsIn (now f) s m) name)) ≤ length (now out)) ⌝ }
     ensures { λ r. ⌜ (r ≡ done + length (keptDeps (rosterIn (now (f .entry)) s m) (unknownsIn (now (f .entry)) s m) name)) × (now (out .exit) ≡ put (now (out .entry)) (4 * done) (bytesOf (keptDeps (rosterIn (now (f .entry)) s m) (unknownsIn (now (f .entry)) s m) name))) ⌝ }
 {
     let first = model(f, s, m, 1);
@@ -172,21 +167,27 @@ pub fn set_dependents(
     total
 }
 
-// Where each variable's kept dependents begin, and, last, where they end.
-pub fn write_deps(f: &[u8], s: Sections, r: Roster, m: usize, out: &mut [u8]) -> [u32; 130]
-    requires { ⌜ Open (now f) s × (m < s .counts .models) × Listing (rosterIn (now f) s m) r × (4096 ≤ length (now out)) ⌝ }
-    ensures { λ t. ⌜ StartsOf (rosterIn (now (f .entry)) s m) (unknownsIn (now (f .entry)) s m) t × (now (out .exit) ≡ front (now (out .entry)) (bytesOf (each (keptDeps (rosterIn (now (f .entry)) s m) (unknownsIn (now (f .entry)) s m)) (rosterIn (now (f .entry)) s m)))) ⌝ }
+// Writes the kept dependents of all variables, and notes where each one's begin and, last, where they end.
+pub fn write_deps(
+    f: &[u8],
+    s: Sections,
+    m: usize,
+    names: &[u32],
+    numbers: &[u32],
+    count: usize,
+    out: &mut [u8],
+    starts: &mut [u32],
+)
+    requires { ⌜ Open (now f) s × (m < s .counts .models) × Listing (rosterIn (now f) s m) (rostered count (now names) (now numbers)) × (4096 ≤ length (now out)) × (length (now starts) ≡ 130) × (getD (now starts) 0 0 ≡ 0) ⌝ }
+    ensures { λ _. ⌜ StartsOf (rosterIn (now (f .entry)) s m) (unknownsIn (now (f .entry)) s m) (now (starts .exit)) × (length (now (starts .exit)) ≡ 130) × (now (out .exit) ≡ front (now (out .entry)) (bytesOf (each (keptDeps (rosterIn (now (f .entry)) s m) (unknownsIn (now (f .entry)) s m)) (rosterIn (now (f .entry)) s m)))) ⌝ }
 {
-    let mut starts = [0u32; 130];
-    let numbers = r.numbers;
     let mut total = 0;
     let mut v = 0;
-    while v < r.count {
-        total = set_dependents(f, s, &numbers, m, r.names[v] as usize, out, total);
+    while v < count {
+        total = set_dependents(f, s, numbers, m, names[v] as usize, out, total);
         starts[v + 1] = total as u32;
         v += 1;
     }
-    starts
 }
 
 // The place, plus 1, of the last t among the dependents from `first` up to `end`, or 0.
@@ -205,8 +206,8 @@ pub fn time_index(deps: &[u8], first: usize, end: usize) -> usize
 }
 
 // Whether one of the dependents from `first` up to `end` is t or is marked.
-fn reaches_time(deps: &[u8], first: usize, end: usize, old: &[u8; 129]) -> bool
-    requires { ⌜ (first ≤ end) × (4 * end ≤ length (now deps)) × (all (λ d. ltb d 129) (wordsFrom (now deps) first end) ≡ true) ⌝ }
+fn reaches_time(deps: &[u8], first: usize, end: usize, old: &[u8]) -> bool
+    requires { ⌜ (first ≤ end) × (4 * end ≤ length (now deps)) × (all (λ d. ltb d 129) (wordsFrom (now deps) first end) ≡ true) × (length (now old) ≡ 129) ⌝ }
     ensures { λ r. ⌜ r ≡ any (leads (now (old .entry))) (wordsFrom (now (deps .entry)) first end) ⌝ }
 {
     let mut i = first;
@@ -226,8 +227,8 @@ fn mark(yes: bool) -> u8
     if yes { 1 } else { 0 }
 }
 
-fn time_round(deps: &[u8], starts: &[u32; 130], vars: usize, old: &[u8; 129]) -> [u8; 129]
-    requires { ⌜ DepsIn (now starts) (now deps) vars ⌝ }
+fn time_round(deps: &[u8], starts: &[u32], vars: usize, old: &[u8]) -> [u8; 129]
+    requires { ⌜ DepsIn (now starts) (now deps) vars × (length (now starts) ≡ 130) × (length (now old) ≡ 129) ⌝ }
     ensures { λ r. ⌜ Round (now (starts .entry)) (now (deps .entry)) vars (now (old .entry)) r ⌝ }
 {
     let mut new = [0u8; 129];
@@ -239,16 +240,32 @@ fn time_round(deps: &[u8], starts: &[u32; 130], vars: usize, old: &[u8; 129]) ->
     new
 }
 
-// 1 for each variable from which t is reached through dependents.
-pub fn reach_time(deps: &[u8], starts: &[u32; 130], vars: usize) -> [u8; 129]
-    requires { ⌜ DepsIn (now starts) (now deps) vars ⌝ }
-    ensures { λ r. ⌜ TimeReached (now (starts .entry)) (now (deps .entry)) vars vars r ⌝ }
+// Takes over the marks of `vars` variables, and tells whether one of them is new.
+fn take_marks(table: &mut [u8], next: &[u8], vars: usize) -> bool
+    requires { ⌜ (vars ≤ length (now table)) × (vars ≤ length (now next)) ⌝ }
+    ensures { λ r. ⌜ ((v : ℕ) → v < vars → getD (now (table .exit)) v 0 ≡ getD (now (next .entry)) v 0) × (length (now (table .exit)) ≡ length (now (table .entry))) × (r ≡ false → (v : ℕ) → v < vars → getD (now (next .entry)) v 0 ≡ getD (now (table .entry)) v 0) ⌝ }
 {
-    let mut table = [0u8; 129];
+    let mut changed = false;
+    let mut v = 0;
+    while v < vars {
+        changed = changed | (table[v] != next[v]);
+        table[v] = next[v];
+        v += 1;
+    }
+    changed
+}
+
+// Marks, in a table without marks, each variable from which t is reached through dependents: round by round, until one marks nothing new.
+pub fn reach_time(deps: &[u8], starts: &[u32], vars: usize, table: &mut [u8])
+    requires { ⌜ DepsIn (now starts) (now deps) vars × (length (now starts) ≡ 130) × (length (now table) ≡ 129) × ((v : ℕ) → getD (now table) v 0 ≡ 0) ⌝ }
+    ensures { λ _. ⌜ TimeReached (now (starts .entry)) (now (deps .entry)) vars vars (now (table .exit)) × (length (now (table .exit)) ≡ 129) ⌝ }
+{
     let mut k = 0;
     while k < vars {
-        table = time_round(deps, starts, vars, &table);
+        let next = time_round(deps, starts, vars, table);
+        if !take_marks(table, &next, vars) {
+            return;
+        }
         k += 1;
     }
-    table
 }

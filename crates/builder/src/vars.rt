@@ -16,7 +16,8 @@ ghost use Rattle.builder.specs.Fating.{isFated};
 ghost use Rattle.builder.specs.VarRecords.{VarTables, leadWords, varWords, varRecords, headWords};
 use super::bounds::put_last_bounds;
 use super::bounds::put_var_bounds;
-use super::fated::fates_of;
+use super::fated::no_fates;
+use super::fated::note_fates;
 use super::places::Sizes;
 use super::places::vars_at;
 use ast::sections::Sections;
@@ -105,11 +106,14 @@ pub fn write_vars(
     requires { ⌜ Open (now f) s × Classes (fileIn (now f) s .names) (now classes) × (s .counts .names ≤ length (now classes)) × (m < s .counts .models) × Small z × (depsAt z ≤ length (now area)) × VarTables (z .vars) (now names) (now starts) (now indexes) (now reach) ⌝ }
     ensures { λ _. ⌜ now (area .exit) ≡ put (now (area .entry)) (varsAt z) (encode (varRecords (fileIn (now (f .entry)) s .names) (modelAt (fileIn (now (f .entry)) s) m .unknowns) (section 8 (z .stmts) (stmtsAt z) (now (area .entry))) (now (names .entry)) (now (starts .entry)) (now (indexes .entry)) (now (reach .entry)) (z .vars))) ⌝ }
 {
-    let t = fates_of(area, z);
+    let mut held = no_fates();
+    let mut first = no_fates();
+    let mut conditions = no_fates();
+    note_fates(area, z, &mut held, &mut first, &mut conditions);
     let mut v = 0;
     while v < z.vars {
-        let held = t.held[v];
-        let initial = t.conditions[v];
+        let holds = held[v];
+        let initial = conditions[v];
         write_var(
             f,
             s,
@@ -122,7 +126,7 @@ pub fn write_vars(
             starts,
             indexes,
             reach,
-            held,
+            holds,
             initial,
         );
         v += 1;

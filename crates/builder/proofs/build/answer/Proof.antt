@@ -1,6 +1,5 @@
 use native.Mathlib.Omega.{arith}
-use Rattle.ast.specs.Opens.{contentsIn}
-use Rattle.builder.proofs.Replacing.{zeros-fit}
+use Rattle.builder.proofs.Replacing.{zeros-in}
 use borrow.Author.Needs.{needs}
 use Rattle.builder.proofs.build.answer.Statement.{statement}
 use Rattle.builder.proofs.build.answer.Tie as tie
@@ -18,7 +17,7 @@ slice-aggregate-answer-with : tie.Need-slice-aggregate-answer-with
 slice-aggregate-answer-with c = search needs
 
 answer-with-requires : tie.Need-answer-with-requires
-answer-with-requires c κs = (c .before .before .before .before .before .before .before .before .before .before .before .pre .0, c .before .before .before .before .before .before .before .before .before .before .before .pre .1, (c .before .before .before .before .before .before .before .before .classes .ensures, c .before .before .before .before .before .before .before .before .classes .ok .1 .0 .1, c .before .before .before .before .before .before .before .callees .ensures), (omega (arith, c .before .before .before .before .few-rows .ensures .0, c .before .before .before .before .before .if1 .taken), zeros-fit (contentsIn (c .before .before .before .before .before .before .before .before .before .before .before .args .f .now) (c .before .before .before .before .before .before .before .before .before .before .before .args .s) .nodes) (c .before .before .before .before .before .before .before .before .before .before .before .args .s .counts .nodes) (c .before .before .before .before .few-rows .result) (c .before .before .before .before .few-rows .ensures .1)), c .before .before .before .before .before .before .before .before .before .before .before .pre .2)
+answer-with-requires c κs = (c .before .before .before .before .before .before .before .before .before .before .before .pre .0, c .before .before .before .before .before .before .before .before .before .before .before .pre .1, (c .before .before .before .before .before .before .before .before .classes .ensures, c .before .before .before .before .before .before .before .before .classes .ok .1 .0 .1, c .before .before .before .before .before .before .before .callees .ensures), (omega (arith, c .before .before .before .before .few-rows .ensures .0, c .before .before .before .before .before .if1 .taken), zeros-in (c .before .before .before .before .before .before .before .before .before .before .before .args .f .now) (c .before .before .before .before .before .before .before .before .before .before .before .args .s) (c .before .before .before .before .few-rows .result) (c .before .before .before .before .few-rows .ensures .1)), c .before .before .before .before .before .before .before .before .before .before .before .pre .2)
 
 same-length : tie.Need-same-length
 same-length c = search needs
@@ -33,7 +32,7 @@ slice-aggregate-answer-with-2 : tie.Need-slice-aggregate-answer-with-2
 slice-aggregate-answer-with-2 c = search needs
 
 answer-with-requires-2 : tie.Need-answer-with-requires-2
-answer-with-requires-2 c κs = (c .before .before .before .before .before .before .before .before .before .before .before .pre .0, c .before .before .before .before .before .before .before .before .before .before .before .pre .1, (c .before .before .before .before .before .before .before .before .classes .ensures, c .before .before .before .before .before .before .before .before .classes .ok .1 .0 .1, c .before .before .before .before .before .before .before .callees .ensures), (omega (arith, c .before .before .before .before .no-rows .ensures .0, c .before .before .before .before .before .before .before .before .before .before .before .pre .0 .laid .within .models), zeros-fit (contentsIn (c .before .before .before .before .before .before .before .before .before .before .before .args .f .now) (c .before .before .before .before .before .before .before .before .before .before .before .args .s) .nodes) (c .before .before .before .before .before .before .before .before .before .before .before .args .s .counts .nodes) (c .before .before .before .before .no-rows .result) (c .before .before .before .before .no-rows .ensures .1)), c .before .before .before .before .before .before .before .before .before .before .before .pre .2)
+answer-with-requires-2 c κs = (c .before .before .before .before .before .before .before .before .before .before .before .pre .0, c .before .before .before .before .before .before .before .before .before .before .before .pre .1, (c .before .before .before .before .before .before .before .before .classes .ensures, c .before .before .before .before .before .before .before .before .classes .ok .1 .0 .1, c .before .before .before .before .before .before .before .callees .ensures), (omega (arith, c .before .before .before .before .no-rows .ensures .0, c .before .before .before .before .before .before .before .before .before .before .before .pre .0 .laid .within .models), zeros-in (c .before .before .before .before .before .before .before .before .before .before .before .args .f .now) (c .before .before .before .before .before .before .before .before .before .before .before .args .s) (c .before .before .before .before .no-rows .result) (c .before .before .before .before .no-rows .ensures .1)), c .before .before .before .before .before .before .before .before .before .before .before .pre .2)
 
 same-length-2 : tie.Need-same-length-2
 same-length-2 c = search needs

@@ -1,6 +1,6 @@
 use mathlib.Core.Path.{refl, sym, ap, _∙_}
 use mathlib.Core.List.{[]}
-use Prim.Native.Nat.{_+_, _-_, _*_, _≤_}
+use Prim.Native.Nat.{ℕ, _+_, _-_, _*_, _≤_, _<_}
 use native.Mathlib.Omega.{arith}
 use lib.ListN.{length, take}
 use Rattle.functions.specs.Lists.{each}
@@ -13,7 +13,6 @@ use Rattle.builder.proofs.Runs.{stmts-below}
 use Rattle.builder.proofs.Calling.{entry-below}
 use Rattle.builder.proofs.Calls.{call-small, call-sized, call-args}
 use Rattle.builder.proofs.ModelErrors.{run-begins, run-room, run-goes, run-ends, stmt-here, stmt-there, stmts-past, errors-none, errors-more, against, not-three, own-same, call-in, any-scope, submodel-missing, submodel-found}
-use Prim.Native.Nat.{ℕ, _<_}
 use borrow.Fn.Kinds.{In}
 use borrow.Fn.PlainCycle.{Measures, is, falls, and}
 use Rattle.builder.proofs.builder.add_submodel.Reads as add-submodel
@@ -33,6 +32,7 @@ use Rattle.builder.proofs.builder.order_errors.Reads as order-errors-re
 use Rattle.builder.proofs.builder.own_errors.Reads as own-errors-reads
 use Rattle.builder.proofs.builder.unknowns_errors.Reads as unknowns-errors-reads
 use Rattle.builder.proofs.scope.model_vars.Reads as model-vars-reads
+use Rattle.builder.proofs.scope.no_marks.Reads as no-marks-reads
 use Rattle.builder.proofs.builder.+add_submodel+builder+stmt_errors.{statement}
 use Rattle.builder.proofs.builder.+add_submodel+builder+stmt_errors.Tie.{close}
 
@@ -122,47 +122,53 @@ builder-Inv-loop f s classes rules callees k m out₀ count vars first stmts lis
 abbrev builder-μ-loop : builder-lts.MeasureT-loop
 builder-μ-loop f s classes rules callees k m out₀ count vars first stmts listed₀ i₀ out listed i = stmts - i
 
-builder-returns : (t : ℕ) → builder-lts.Need-returns (model-vars-reads.Asked, model-vars-reads.Learnt, model-reads.Asked, model-reads.Learnt, unknowns-errors-reads.Asked, unknowns-errors-reads.Learnt, stmt-errors-below t, stmt-errors.Post) (builder-at t) builder.Post builder-Inv-loop builder-μ-loop
+builder-returns : (t : ℕ) → builder-lts.Need-returns (no-marks-reads.Asked, no-marks-reads.Learnt, model-vars-reads.Asked, model-vars-reads.Learnt, model-reads.Asked, model-reads.Learnt, unknowns-errors-reads.Asked, unknowns-errors-reads.Learnt, stmt-errors-below t, stmt-errors.Post) (builder-at t) builder.Post builder-Inv-loop builder-μ-loop
 builder-returns t c = rw (errors-none (fileIn (c .before .before .before .args .f .now) (c .before .before .before .args .s)) (c .before .before .before .args .k) (c .before .before .before .args .m) (c .if1 .taken)) (lists-none _ _)
 
-builder-model-vars-requires : (t : ℕ) → builder-lts.Need-model-vars-requires (model-vars-reads.Asked, model-vars-reads.Learnt, model-reads.Asked, model-reads.Learnt, unknowns-errors-reads.Asked, unknowns-errors-reads.Learnt, stmt-errors-below t, stmt-errors.Post) (builder-at t) builder.Post builder-Inv-loop builder-μ-loop
-builder-model-vars-requires t c κs = (c .before .before .before .pre .1 .0 .opened, c .before .before .before .pre .1 .1, c .before .before .before .pre .1 .0 .classes)
+builder-no-marks-requires : (t : ℕ) → builder-lts.Need-no-marks-requires (no-marks-reads.Asked, no-marks-reads.Learnt, model-vars-reads.Asked, model-vars-reads.Learnt, model-reads.Asked, model-reads.Learnt, unknowns-errors-reads.Asked, unknowns-errors-reads.Learnt, stmt-errors-below t, stmt-errors.Post) (builder-at t) builder.Post builder-Inv-loop builder-μ-loop
+builder-no-marks-requires t c κs = tt
 
-builder-model-requires : (t : ℕ) → builder-lts.Need-model-requires (model-vars-reads.Asked, model-vars-reads.Learnt, model-reads.Asked, model-reads.Learnt, unknowns-errors-reads.Asked, unknowns-errors-reads.Learnt, stmt-errors-below t, stmt-errors.Post) (builder-at t) builder.Post builder-Inv-loop builder-μ-loop
-builder-model-requires t c κs = (c .before .before .before .before .pre .1 .0 .opened, (c .before .before .before .before .pre .1 .1, omega arith))
+builder-slice-aggregate-model-vars : (t : ℕ) → builder-lts.Need-slice-aggregate-model-vars (no-marks-reads.Asked, no-marks-reads.Learnt, model-vars-reads.Asked, model-vars-reads.Learnt, model-reads.Asked, model-reads.Learnt, unknowns-errors-reads.Asked, unknowns-errors-reads.Learnt, stmt-errors-below t, stmt-errors.Post) (builder-at t) builder.Post builder-Inv-loop builder-μ-loop
+builder-slice-aggregate-model-vars t c = sym (c .before .no-marks .ensures .0)
 
-builder-model-requires-2 : (t : ℕ) → builder-lts.Need-model-requires-2 (model-vars-reads.Asked, model-vars-reads.Learnt, model-reads.Asked, model-reads.Learnt, unknowns-errors-reads.Asked, unknowns-errors-reads.Learnt, stmt-errors-below t, stmt-errors.Post) (builder-at t) builder.Post builder-Inv-loop builder-μ-loop
-builder-model-requires-2 t c κs = (c .before .before .before .before .before .pre .1 .0 .opened, (c .before .before .before .before .before .pre .1 .1, omega arith))
+builder-model-vars-requires : (t : ℕ) → builder-lts.Need-model-vars-requires (no-marks-reads.Asked, no-marks-reads.Learnt, model-vars-reads.Asked, model-vars-reads.Learnt, model-reads.Asked, model-reads.Learnt, unknowns-errors-reads.Asked, unknowns-errors-reads.Learnt, stmt-errors-below t, stmt-errors.Post) (builder-at t) builder.Post builder-Inv-loop builder-μ-loop
+builder-model-vars-requires t c κs = (c .before .before .before .before .before .pre .1 .0 .opened, c .before .before .before .before .before .pre .1 .1, c .before .before .before .before .before .pre .1 .0 .classes, c .before .no-marks .ensures .0, c .before .no-marks .ensures .1)
 
-builder-unknowns-errors-requires : (t : ℕ) → builder-lts.Need-unknowns-errors-requires (model-vars-reads.Asked, model-vars-reads.Learnt, model-reads.Asked, model-reads.Learnt, unknowns-errors-reads.Asked, unknowns-errors-reads.Learnt, stmt-errors-below t, stmt-errors.Post) (builder-at t) builder.Post builder-Inv-loop builder-μ-loop
-builder-unknowns-errors-requires t c κs = (c .before .before .before .before .before .before .before .pre .1 .0 .opened, c .before .before .before .before .before .before .before .pre .1 .0 .classes, c .before .before .before .before .before .before .before .pre .1 .1, room-first (errors-more (fileIn (c .before .before .before .before .before .before .before .args .f .now) (c .before .before .before .before .before .before .before .args .s)) (c .before .before .before .before .before .before .before .args .k) (c .before .before .before .before .before .before .before .args .m) (c .before .before .before .before .if1 .left)) (c .before .before .before .before .before .before .before .pre .1 .3))
+builder-model-requires : (t : ℕ) → builder-lts.Need-model-requires (no-marks-reads.Asked, no-marks-reads.Learnt, model-vars-reads.Asked, model-vars-reads.Learnt, model-reads.Asked, model-reads.Learnt, unknowns-errors-reads.Asked, unknowns-errors-reads.Learnt, stmt-errors-below t, stmt-errors.Post) (builder-at t) builder.Post builder-Inv-loop builder-μ-loop
+builder-model-requires t c κs = (c .before .before .before .before .before .before .before .pre .1 .0 .opened, (c .before .before .before .before .before .before .before .pre .1 .1, omega arith))
 
-builder-loop-holds : (t : ℕ) → builder-lts.Need-loop-holds (model-vars-reads.Asked, model-vars-reads.Learnt, model-reads.Asked, model-reads.Learnt, unknowns-errors-reads.Asked, unknowns-errors-reads.Learnt, stmt-errors-below t, stmt-errors.Post) (builder-at t) builder.Post builder-Inv-loop builder-μ-loop
-builder-loop-holds t c = (omega arith, run-begins (stmtErrors (fileIn (c .before .before .before .before .before .before .before .before .before .before .args .f .now) (c .before .before .before .before .before .before .before .before .before .before .args .s)) (λ j. errorsOf (fileIn (c .before .before .before .before .before .before .before .before .before .before .args .f .now) (c .before .before .before .before .before .before .before .before .before .before .args .s)) (c .before .before .before .before .before .before .before .before .before .before .args .k - 1) j) (scopeIn (c .before .before .before .before .before .before .before .before .before .before .args .f .now) (c .before .before .before .before .before .before .before .before .before .before .args .s) (c .before .before .before .before .before .before .before .before .before .before .args .m))) (modelAt (fileIn (c .before .before .before .before .before .before .before .before .before .before .args .f .now) (c .before .before .before .before .before .before .before .before .before .before .args .s)) (c .before .before .before .before .before .before .before .before .before .before .args .m) .stmts) _ _)
+builder-model-requires-2 : (t : ℕ) → builder-lts.Need-model-requires-2 (no-marks-reads.Asked, no-marks-reads.Learnt, model-vars-reads.Asked, model-vars-reads.Learnt, model-reads.Asked, model-reads.Learnt, unknowns-errors-reads.Asked, unknowns-errors-reads.Learnt, stmt-errors-below t, stmt-errors.Post) (builder-at t) builder.Post builder-Inv-loop builder-μ-loop
+builder-model-requires-2 t c κs = (c .before .before .before .before .before .before .before .before .pre .1 .0 .opened, (c .before .before .before .before .before .before .before .before .pre .1 .1, omega arith))
 
-builder-sub-stmt-errors : (t : ℕ) → builder-lts.Need-sub-stmt-errors (model-vars-reads.Asked, model-vars-reads.Learnt, model-reads.Asked, model-reads.Learnt, unknowns-errors-reads.Asked, unknowns-errors-reads.Learnt, stmt-errors-below t, stmt-errors.Post) (builder-at t) builder.Post builder-Inv-loop builder-μ-loop
-builder-sub-stmt-errors t c = omega (arith, c .before .before .before .before .before .before .before .before .before .before .if1 .left)
+builder-unknowns-errors-requires : (t : ℕ) → builder-lts.Need-unknowns-errors-requires (no-marks-reads.Asked, no-marks-reads.Learnt, model-vars-reads.Asked, model-vars-reads.Learnt, model-reads.Asked, model-reads.Learnt, unknowns-errors-reads.Asked, unknowns-errors-reads.Learnt, stmt-errors-below t, stmt-errors.Post) (builder-at t) builder.Post builder-Inv-loop builder-μ-loop
+builder-unknowns-errors-requires t c κs = (c .before .before .before .before .before .before .before .before .before .before .pre .1 .0 .opened, c .before .before .before .before .before .before .before .before .before .before .pre .1 .0 .classes, c .before .before .before .before .before .before .before .before .before .before .pre .1 .1, room-first (errors-more (fileIn (c .before .before .before .before .before .before .before .before .before .before .args .f .now) (c .before .before .before .before .before .before .before .before .before .before .args .s)) (c .before .before .before .before .before .before .before .before .before .before .args .k) (c .before .before .before .before .before .before .before .before .before .before .args .m) (c .before .before .before .before .before .before .before .if1 .left)) (c .before .before .before .before .before .before .before .before .before .before .pre .1 .3))
 
-builder-add-stmt-errors : (t : ℕ) → builder-lts.Need-add-stmt-errors (model-vars-reads.Asked, model-vars-reads.Learnt, model-reads.Asked, model-reads.Learnt, unknowns-errors-reads.Asked, unknowns-errors-reads.Learnt, stmt-errors-below t, stmt-errors.Post) (builder-at t) builder.Post builder-Inv-loop builder-μ-loop
-builder-add-stmt-errors t c = omega (arith, stmts-below (c .before .before .before .before .before .before .before .before .before .before .before .before .before .args .f .now) (c .before .before .before .before .before .before .before .before .before .before .before .before .before .args .s) (c .before .before .before .before .before .before .before .before .before .before .before .before .before .pre .1 .0 .opened) (c .before .before .before .before .before .before .before .before .before .before .before .before .before .args .m) (c .before .before .before .before .before .before .before .before .before .before .before .before .before .pre .1 .1) (c .before .before .before .before .before .before .before .before .model .result) (c .before .before .before .before .before .before .before .model2 .result) (c .before .before .loop .i) (c .before .before .before .before .before .before .before .before .model .ensures .0) (c .before .before .before .before .before .before .before .model2 .ensures .0) (c .before .loop-test .taken), c .before .before .before .before .before .before .before .before .before .before .before .before .before .pre .1 .0 .opened .laid .within .stmts)
+builder-loop-holds : (t : ℕ) → builder-lts.Need-loop-holds (no-marks-reads.Asked, no-marks-reads.Learnt, model-vars-reads.Asked, model-vars-reads.Learnt, model-reads.Asked, model-reads.Learnt, unknowns-errors-reads.Asked, unknowns-errors-reads.Learnt, stmt-errors-below t, stmt-errors.Post) (builder-at t) builder.Post builder-Inv-loop builder-μ-loop
+builder-loop-holds t c = (omega arith, run-begins (stmtErrors (fileIn (c .before .before .before .before .before .before .before .before .before .before .before .before .before .args .f .now) (c .before .before .before .before .before .before .before .before .before .before .before .before .before .args .s)) (λ j. errorsOf (fileIn (c .before .before .before .before .before .before .before .before .before .before .before .before .before .args .f .now) (c .before .before .before .before .before .before .before .before .before .before .before .before .before .args .s)) (c .before .before .before .before .before .before .before .before .before .before .before .before .before .args .k - 1) j) (scopeIn (c .before .before .before .before .before .before .before .before .before .before .before .before .before .args .f .now) (c .before .before .before .before .before .before .before .before .before .before .before .before .before .args .s) (c .before .before .before .before .before .before .before .before .before .before .before .before .before .args .m))) (modelAt (fileIn (c .before .before .before .before .before .before .before .before .before .before .before .before .before .args .f .now) (c .before .before .before .before .before .before .before .before .before .before .before .before .before .args .s)) (c .before .before .before .before .before .before .before .before .before .before .before .before .before .args .m) .stmts) _ _)
 
-builder-stmt-errors-requires : (t : ℕ) → builder-lts.Need-stmt-errors-requires (model-vars-reads.Asked, model-vars-reads.Learnt, model-reads.Asked, model-reads.Learnt, unknowns-errors-reads.Asked, unknowns-errors-reads.Learnt, stmt-errors-below t, stmt-errors.Post) (builder-at t) builder.Post builder-Inv-loop builder-μ-loop
-builder-stmt-errors-requires t c κs = (omega (arith, c .before .before .before .before .before .before .before .before .before .before .before .before .before .before .pre .0, c .before .before .before .before .before .before .before .before .before .before .before .if1 .left), (c .before .before .before .before .before .before .before .before .before .before .before .before .before .before .pre .1 .0, against (c .before .before .before .before .before .before .before .before .before .before .before .before .before .before .pre .1 .0) (c .before .before .before .before .before .before .before .before .before .before .before .before .before .before .args .m) (c .before .before .before .before .before .before .before .before .before .before .before .before .before .before .pre .1 .1) (c .before .before .before .before .before .before .before .before .before .before .model-vars .ensures), stmts-below (c .before .before .before .before .before .before .before .before .before .before .before .before .before .before .args .f .now) (c .before .before .before .before .before .before .before .before .before .before .before .before .before .before .args .s) (c .before .before .before .before .before .before .before .before .before .before .before .before .before .before .pre .1 .0 .opened) (c .before .before .before .before .before .before .before .before .before .before .before .before .before .before .args .m) (c .before .before .before .before .before .before .before .before .before .before .before .before .before .before .pre .1 .1) (c .before .before .before .before .before .before .before .before .before .model .result) (c .before .before .before .before .before .before .before .before .model2 .result) (c .before .before .before .loop .i) (c .before .before .before .before .before .before .before .before .before .model .ensures .0) (c .before .before .before .before .before .before .before .before .model2 .ensures .0) (c .before .before .loop-test .taken), omega (arith, c .before .before .before .before .before .before .before .before .before .before .before .before .before .before .pre .1 .2), run-room (stmtErrors (fileIn (c .before .before .before .before .before .before .before .before .before .before .before .before .before .before .args .f .now) (c .before .before .before .before .before .before .before .before .before .before .before .before .before .before .args .s)) (λ j. errorsOf (fileIn (c .before .before .before .before .before .before .before .before .before .before .before .before .before .before .args .f .now) (c .before .before .before .before .before .before .before .before .before .before .before .before .before .before .args .s)) (c .before .before .before .before .before .before .before .before .before .before .before .before .before .before .args .k - 1) j) (scopeIn (c .before .before .before .before .before .before .before .before .before .before .before .before .before .before .args .f .now) (c .before .before .before .before .before .before .before .before .before .before .before .before .before .before .args .s) (c .before .before .before .before .before .before .before .before .before .before .before .before .before .before .args .m))) (modelAt (fileIn (c .before .before .before .before .before .before .before .before .before .before .before .before .before .before .args .f .now) (c .before .before .before .before .before .before .before .before .before .before .before .before .before .before .args .s)) (c .before .before .before .before .before .before .before .before .before .before .before .before .before .before .args .m) .stmts) (stmtIn (c .before .before .before .before .before .before .before .before .before .before .before .before .before .before .args .f .now) (c .before .before .before .before .before .before .before .before .before .before .before .before .before .before .args .s) (c .before .before .before .before .before .before .before .before .before .model .result + c .before .before .before .loop .i)) (c .before .before .before .loop .i) (stmt-there (c .before .before .before .before .before .before .before .before .before .before .before .before .before .before .args .f .now) (c .before .before .before .before .before .before .before .before .before .before .before .before .before .before .args .s) (c .before .before .before .before .before .before .before .before .before .before .before .before .before .before .pre .1 .0 .opened) (c .before .before .before .before .before .before .before .before .before .before .before .before .before .before .args .m) (c .before .before .before .before .before .before .before .before .before .before .before .before .before .before .pre .1 .1) (c .before .before .before .before .before .before .before .before .before .model .result) (c .before .before .before .before .before .before .before .before .model2 .result) (c .before .before .before .loop .i) (c .before .before .before .before .before .before .before .before .before .model .ensures .0) (c .before .before .before .before .before .before .before .before .model2 .ensures .0) (c .before .before .loop-test .taken)) (stmt-here (c .before .before .before .before .before .before .before .before .before .before .before .before .before .before .args .f .now) (c .before .before .before .before .before .before .before .before .before .before .before .before .before .before .args .s) (c .before .before .before .before .before .before .before .before .before .before .before .before .before .before .pre .1 .0 .opened) (c .before .before .before .before .before .before .before .before .before .before .before .before .before .before .args .m) (c .before .before .before .before .before .before .before .before .before .before .before .before .before .before .pre .1 .1) (c .before .before .before .before .before .before .before .before .before .model .result) (c .before .before .before .before .before .before .before .before .model2 .result) (c .before .before .before .loop .i) (c .before .before .before .before .before .before .before .before .before .model .ensures .0) (c .before .before .before .before .before .before .before .before .model2 .ensures .0) (c .before .before .loop-test .taken)) _ _ _ _ (room-then (errors-more (fileIn (c .before .before .before .before .before .before .before .before .before .before .before .before .before .before .args .f .now) (c .before .before .before .before .before .before .before .before .before .before .before .before .before .before .args .s)) (c .before .before .before .before .before .before .before .before .before .before .before .before .before .before .args .k) (c .before .before .before .before .before .before .before .before .before .before .before .before .before .before .args .m) (c .before .before .before .before .before .before .before .before .before .before .before .if1 .left)) _ _ (c .before .before .before .before .before .before .before .before .before .before .before .before .before .before .pre .1 .3) (c .before .before .before .before .before .before .unknowns-errors .ensures)) (c .before .before .before .loop .inv .1)))
+builder-sub-stmt-errors : (t : ℕ) → builder-lts.Need-sub-stmt-errors (no-marks-reads.Asked, no-marks-reads.Learnt, model-vars-reads.Asked, model-vars-reads.Learnt, model-reads.Asked, model-reads.Learnt, unknowns-errors-reads.Asked, unknowns-errors-reads.Learnt, stmt-errors-below t, stmt-errors.Post) (builder-at t) builder.Post builder-Inv-loop builder-μ-loop
+builder-sub-stmt-errors t c = omega (arith, c .before .before .before .before .before .before .before .before .before .before .before .before .before .if1 .left)
 
-builder-add-i : (t : ℕ) → builder-lts.Need-add-i (model-vars-reads.Asked, model-vars-reads.Learnt, model-reads.Asked, model-reads.Learnt, unknowns-errors-reads.Asked, unknowns-errors-reads.Learnt, stmt-errors-below t, stmt-errors.Post) (builder-at t) builder.Post builder-Inv-loop builder-μ-loop
-builder-add-i t c = omega (arith, stmts-below (c .before .before .before .before .before .before .before .before .before .before .before .before .before .before .before .before .before .args .f .now) (c .before .before .before .before .before .before .before .before .before .before .before .before .before .before .before .before .before .args .s) (c .before .before .before .before .before .before .before .before .before .before .before .before .before .before .before .before .before .pre .1 .0 .opened) (c .before .before .before .before .before .before .before .before .before .before .before .before .before .before .before .before .before .args .m) (c .before .before .before .before .before .before .before .before .before .before .before .before .before .before .before .before .before .pre .1 .1) (c .before .before .before .before .before .before .before .before .before .before .before .before .model .result) (c .before .before .before .before .before .before .before .before .before .before .before .model2 .result) (c .before .before .before .before .before .before .loop .i) (c .before .before .before .before .before .before .before .before .before .before .before .before .model .ensures .0) (c .before .before .before .before .before .before .before .before .before .before .before .model2 .ensures .0) (c .before .before .before .before .before .loop-test .taken), c .before .before .before .before .before .before .before .before .before .before .before .before .before .before .before .before .before .pre .1 .0 .opened .laid .within .stmts)
+builder-add-stmt-errors : (t : ℕ) → builder-lts.Need-add-stmt-errors (no-marks-reads.Asked, no-marks-reads.Learnt, model-vars-reads.Asked, model-vars-reads.Learnt, model-reads.Asked, model-reads.Learnt, unknowns-errors-reads.Asked, unknowns-errors-reads.Learnt, stmt-errors-below t, stmt-errors.Post) (builder-at t) builder.Post builder-Inv-loop builder-μ-loop
+builder-add-stmt-errors t c = omega (arith, stmts-below (c .before .before .before .before .before .before .before .before .before .before .before .before .before .before .before .before .args .f .now) (c .before .before .before .before .before .before .before .before .before .before .before .before .before .before .before .before .args .s) (c .before .before .before .before .before .before .before .before .before .before .before .before .before .before .before .before .pre .1 .0 .opened) (c .before .before .before .before .before .before .before .before .before .before .before .before .before .before .before .before .args .m) (c .before .before .before .before .before .before .before .before .before .before .before .before .before .before .before .before .pre .1 .1) (c .before .before .before .before .before .before .before .before .model .result) (c .before .before .before .before .before .before .before .model2 .result) (c .before .before .loop .i) (c .before .before .before .before .before .before .before .before .model .ensures .0) (c .before .before .before .before .before .before .before .model2 .ensures .0) (c .before .loop-test .taken), c .before .before .before .before .before .before .before .before .before .before .before .before .before .before .before .before .pre .1 .0 .opened .laid .within .stmts)
 
-builder-loop-less : (t : ℕ) → builder-lts.Need-loop-less (model-vars-reads.Asked, model-vars-reads.Learnt, model-reads.Asked, model-reads.Learnt, unknowns-errors-reads.Asked, unknowns-errors-reads.Learnt, stmt-errors-below t, stmt-errors.Post) (builder-at t) builder.Post builder-Inv-loop builder-μ-loop
+builder-stmt-errors-requires : (t : ℕ) → builder-lts.Need-stmt-errors-requires (no-marks-reads.Asked, no-marks-reads.Learnt, model-vars-reads.Asked, model-vars-reads.Learnt, model-reads.Asked, model-reads.Learnt, unknowns-errors-reads.Asked, unknowns-errors-reads.Learnt, stmt-errors-below t, stmt-errors.Post) (builder-at t) builder.Post builder-Inv-loop builder-μ-loop
+builder-stmt-errors-requires t c κs = (omega (arith, c .before .before .before .before .before .before .before .before .before .before .before .before .before .before .before .before .before .pre .0, c .before .before .before .before .before .before .before .before .before .before .before .before .before .before .if1 .left), (c .before .before .before .before .before .before .before .before .before .before .before .before .before .before .before .before .before .pre .1 .0, against (c .before .before .before .before .before .before .before .before .before .before .before .before .before .before .before .before .before .pre .1 .0) (c .before .before .before .before .before .before .before .before .before .before .before .before .before .before .before .before .before .args .m) (c .before .before .before .before .before .before .before .before .before .before .before .before .before .before .before .before .before .pre .1 .1) (c .before .before .before .before .before .before .before .before .before .before .before .model-vars .ensures .0), stmts-below (c .before .before .before .before .before .before .before .before .before .before .before .before .before .before .before .before .before .args .f .now) (c .before .before .before .before .before .before .before .before .before .before .before .before .before .before .before .before .before .args .s) (c .before .before .before .before .before .before .before .before .before .before .before .before .before .before .before .before .before .pre .1 .0 .opened) (c .before .before .before .before .before .before .before .before .before .before .before .before .before .before .before .before .before .args .m) (c .before .before .before .before .before .before .before .before .before .before .before .before .before .before .before .before .before .pre .1 .1) (c .before .before .before .before .before .before .before .before .before .model .result) (c .before .before .before .before .before .before .before .before .model2 .result) (c .before .before .before .loop .i) (c .before .before .before .before .before .before .before .before .before .model .ensures .0) (c .before .before .before .before .before .before .before .before .model2 .ensures .0) (c .before .before .loop-test .taken), omega (arith, c .before .before .before .before .before .before .before .before .before .before .before .before .before .before .before .before .before .pre .1 .2), run-room (stmtErrors (fileIn (c .before .before .before .before .before .before .before .before .before .before .before .before .before .before .before .before .before .args .f .now) (c .before .before .before .before .before .before .before .before .before .before .before .before .before .before .before .before .before .args .s)) (λ j. errorsOf (fileIn (c .before .before .before .before .before .before .before .before .before .before .before .before .before .before .before .before .before .args .f .now) (c .before .before .before .before .before .before .before .before .before .before .before .before .before .before .before .before .before .args .s)) (c .before .before .before .before .before .before .before .before .before .before .before .before .before .before .before .before .before .args .k - 1) j) (scopeIn (c .before .before .before .before .before .before .before .before .before .before .before .before .before .before .before .before .before .args .f .now) (c .before .before .before .before .before .before .before .before .before .before .before .before .before .before .before .before .before .args .s) (c .before .before .before .before .before .before .before .before .before .before .before .before .before .before .before .before .before .args .m))) (modelAt (fileIn (c .before .before .before .before .before .before .before .before .before .before .before .before .before .before .before .before .before .args .f .now) (c .before .before .before .before .before .before .before .before .before .before .before .before .before .before .before .before .before .args .s)) (c .before .before .before .before .before .before .before .before .before .before .before .before .before .before .before .before .before .args .m) .stmts) (stmtIn (c .before .before .before .before .before .before .before .before .before .before .before .before .before .before .before .before .before .args .f .now) (c .before .before .before .before .before .before .before .before .before .before .before .before .before .before .before .before .before .args .s) (c .before .before .before .before .before .before .before .before .before .model .result + c .before .before .before .loop .i)) (c .before .before .before .loop .i) (stmt-there (c .before .before .before .before .before .before .before .before .before .before .before .before .before .before .before .before .before .args .f .now) (c .before .before .before .before .before .before .before .before .before .before .before .before .before .before .before .before .before .args .s) (c .before .before .before .before .before .before .before .before .before .before .before .before .before .before .before .before .before .pre .1 .0 .opened) (c .before .before .before .before .before .before .before .before .before .before .before .before .before .before .before .before .before .args .m) (c .before .before .before .before .before .before .before .before .before .before .before .before .before .before .before .before .before .pre .1 .1) (c .before .before .before .before .before .before .before .before .before .model .result) (c .before .before .before .before .before .before .before .before .model2 .result) (c .before .before .before .loop .i) (c .before .before .before .before .before .before .before .before .before .model .ensures .0) (c .before .before .before .before .before .before .before .before .model2 .ensures .0) (c .before .before .loop-test .taken)) (stmt-here (c .before .before .before .before .before .before .before .before .before .before .before .before .before .before .before .before .before .args .f .now) (c .before .before .before .before .before .before .before .before .before .before .before .before .before .before .before .before .before .args .s) (c .before .before .before .before .before .before .before .before .before .before .before .before .before .before .before .before .before .pre .1 .0 .opened) (c .before .before .before .before .before .before .before .before .before .before .before .before .before .before .before .before .before .args .m) (c .before .before .before .before .before .before .before .before .before .before .before .before .before .before .before .before .before .pre .1 .1) (c .before .before .before .before .before .before .before .before .before .model .result) (c .before .before .before .before .before .before .before .before .model2 .result) (c .before .before .before .loop .i) (c .before .before .before .before .before .before .before .before .before .model .ensures .0) (c .before .before .before .before .before .before .before .before .model2 .ensures .0) (c .before .before .loop-test .taken)) _ _ _ _ (room-then (errors-more (fileIn (c .before .before .before .before .before .before .before .before .before .before .before .before .before .before .before .before .before .args .f .now) (c .before .before .before .before .before .before .before .before .before .before .before .before .before .before .before .before .before .args .s)) (c .before .before .before .before .before .before .before .before .before .before .before .before .before .before .before .before .before .args .k) (c .before .before .before .before .before .before .before .before .before .before .before .before .before .before .before .before .before .args .m) (c .before .before .before .before .before .before .before .before .before .before .before .before .before .before .if1 .left)) _ _ (c .before .before .before .before .before .before .before .before .before .before .before .before .before .before .before .before .before .pre .1 .3) (c .before .before .before .before .before .before .unknowns-errors .ensures)) (c .before .before .before .loop .inv .1)))
+
+builder-add-i : (t : ℕ) → builder-lts.Need-add-i (no-marks-reads.Asked, no-marks-reads.Learnt, model-vars-reads.Asked, model-vars-reads.Learnt, model-reads.Asked, model-reads.Learnt, unknowns-errors-reads.Asked, unknowns-errors-reads.Learnt, stmt-errors-below t, stmt-errors.Post) (builder-at t) builder.Post builder-Inv-loop builder-μ-loop
+builder-add-i t c = omega (arith, stmts-below (c .before .before .before .before .before .before .before .before .before .before .before .before .before .before .before .before .before .before .before .before .args .f .now) (c .before .before .before .before .before .before .before .before .before .before .before .before .before .before .before .before .before .before .before .before .args .s) (c .before .before .before .before .before .before .before .before .before .before .before .before .before .before .before .before .before .before .before .before .pre .1 .0 .opened) (c .before .before .before .before .before .before .before .before .before .before .before .before .before .before .before .before .before .before .before .before .args .m) (c .before .before .before .before .before .before .before .before .before .before .before .before .before .before .before .before .before .before .before .before .pre .1 .1) (c .before .before .before .before .before .before .before .before .before .before .before .before .model .result) (c .before .before .before .before .before .before .before .before .before .before .before .model2 .result) (c .before .before .before .before .before .before .loop .i) (c .before .before .before .before .before .before .before .before .before .before .before .before .model .ensures .0) (c .before .before .before .before .before .before .before .before .before .before .before .model2 .ensures .0) (c .before .before .before .before .before .loop-test .taken), c .before .before .before .before .before .before .before .before .before .before .before .before .before .before .before .before .before .before .before .before .pre .1 .0 .opened .laid .within .stmts)
+
+builder-loop-less : (t : ℕ) → builder-lts.Need-loop-less (no-marks-reads.Asked, no-marks-reads.Learnt, model-vars-reads.Asked, model-vars-reads.Learnt, model-reads.Asked, model-reads.Learnt, unknowns-errors-reads.Asked, unknowns-errors-reads.Learnt, stmt-errors-below t, stmt-errors.Post) (builder-at t) builder.Post builder-Inv-loop builder-μ-loop
 builder-loop-less t c = omega (arith, c .before .before .before .before .before .loop-test .taken)
 
-builder-loop-again : (t : ℕ) → builder-lts.Need-loop-again (model-vars-reads.Asked, model-vars-reads.Learnt, model-reads.Asked, model-reads.Learnt, unknowns-errors-reads.Asked, unknowns-errors-reads.Learnt, stmt-errors-below t, stmt-errors.Post) (builder-at t) builder.Post builder-Inv-loop builder-μ-loop
-builder-loop-again t c = (omega (arith, c .before .before .before .before .before .loop-test .taken), run-goes (stmtErrors (fileIn (c .before .before .before .before .before .before .before .before .before .before .before .before .before .before .before .before .before .args .f .now) (c .before .before .before .before .before .before .before .before .before .before .before .before .before .before .before .before .before .args .s)) (λ j. errorsOf (fileIn (c .before .before .before .before .before .before .before .before .before .before .before .before .before .before .before .before .before .args .f .now) (c .before .before .before .before .before .before .before .before .before .before .before .before .before .before .before .before .before .args .s)) (c .before .before .before .before .before .before .before .before .before .before .before .before .before .before .before .before .before .args .k - 1) j) (scopeIn (c .before .before .before .before .before .before .before .before .before .before .before .before .before .before .before .before .before .args .f .now) (c .before .before .before .before .before .before .before .before .before .before .before .before .before .before .before .before .before .args .s) (c .before .before .before .before .before .before .before .before .before .before .before .before .before .before .before .before .before .args .m))) (modelAt (fileIn (c .before .before .before .before .before .before .before .before .before .before .before .before .before .before .before .before .before .args .f .now) (c .before .before .before .before .before .before .before .before .before .before .before .before .before .before .before .before .before .args .s)) (c .before .before .before .before .before .before .before .before .before .before .before .before .before .before .before .before .before .args .m) .stmts) (stmtIn (c .before .before .before .before .before .before .before .before .before .before .before .before .before .before .before .before .before .args .f .now) (c .before .before .before .before .before .before .before .before .before .before .before .before .before .before .before .before .before .args .s) (c .before .before .before .before .before .before .before .before .before .before .before .before .model .result + c .before .before .before .before .before .before .loop .i)) (c .before .before .before .before .before .before .loop .i) (stmt-there (c .before .before .before .before .before .before .before .before .before .before .before .before .before .before .before .before .before .args .f .now) (c .before .before .before .before .before .before .before .before .before .before .before .before .before .before .before .before .before .args .s) (c .before .before .before .before .before .before .before .before .before .before .before .before .before .before .before .before .before .pre .1 .0 .opened) (c .before .before .before .before .before .before .before .before .before .before .before .before .before .before .before .before .before .args .m) (c .before .before .before .before .before .before .before .before .before .before .before .before .before .before .before .before .before .pre .1 .1) (c .before .before .before .before .before .before .before .before .before .before .before .before .model .result) (c .before .before .before .before .before .before .before .before .before .before .before .model2 .result) (c .before .before .before .before .before .before .loop .i) (c .before .before .before .before .before .before .before .before .before .before .before .before .model .ensures .0) (c .before .before .before .before .before .before .before .before .before .before .before .model2 .ensures .0) (c .before .before .before .before .before .loop-test .taken)) (stmt-here (c .before .before .before .before .before .before .before .before .before .before .before .before .before .before .before .before .before .args .f .now) (c .before .before .before .before .before .before .before .before .before .before .before .before .before .before .before .before .before .args .s) (c .before .before .before .before .before .before .before .before .before .before .before .before .before .before .before .before .before .pre .1 .0 .opened) (c .before .before .before .before .before .before .before .before .before .before .before .before .before .before .before .before .before .args .m) (c .before .before .before .before .before .before .before .before .before .before .before .before .before .before .before .before .before .pre .1 .1) (c .before .before .before .before .before .before .before .before .before .before .before .before .model .result) (c .before .before .before .before .before .before .before .before .before .before .before .model2 .result) (c .before .before .before .before .before .before .loop .i) (c .before .before .before .before .before .before .before .before .before .before .before .before .model .ensures .0) (c .before .before .before .before .before .before .before .before .before .before .before .model2 .ensures .0) (c .before .before .before .before .before .loop-test .taken)) _ _ _ _ _ _ (c .before .before .before .before .before .before .loop .inv .1) (c .before .before .stmt-errors .ensures))
+builder-loop-again : (t : ℕ) → builder-lts.Need-loop-again (no-marks-reads.Asked, no-marks-reads.Learnt, model-vars-reads.Asked, model-vars-reads.Learnt, model-reads.Asked, model-reads.Learnt, unknowns-errors-reads.Asked, unknowns-errors-reads.Learnt, stmt-errors-below t, stmt-errors.Post) (builder-at t) builder.Post builder-Inv-loop builder-μ-loop
+builder-loop-again t c = (omega (arith, c .before .before .before .before .before .loop-test .taken), run-goes (stmtErrors (fileIn (c .before .before .before .before .before .before .before .before .before .before .before .before .before .before .before .before .before .before .before .before .args .f .now) (c .before .before .before .before .before .before .before .before .before .before .before .before .before .before .before .before .before .before .before .before .args .s)) (λ j. errorsOf (fileIn (c .before .before .before .before .before .before .before .before .before .before .before .before .before .before .before .before .before .before .before .before .args .f .now) (c .before .before .before .before .before .before .before .before .before .before .before .before .before .before .before .before .before .before .before .before .args .s)) (c .before .before .before .before .before .before .before .before .before .before .before .before .before .before .before .before .before .before .before .before .args .k - 1) j) (scopeIn (c .before .before .before .before .before .before .before .before .before .before .before .before .before .before .before .before .before .before .before .before .args .f .now) (c .before .before .before .before .before .before .before .before .before .before .before .before .before .before .before .before .before .before .before .before .args .s) (c .before .before .before .before .before .before .before .before .before .before .before .before .before .before .before .before .before .before .before .before .args .m))) (modelAt (fileIn (c .before .before .before .before .before .before .before .before .before .before .before .before .before .before .before .before .before .before .before .before .args .f .now) (c .before .before .before .before .before .before .before .before .before .before .before .before .before .before .before .before .before .before .before .before .args .s)) (c .before .before .before .before .before .before .before .before .before .before .before .before .before .before .before .before .before .before .before .before .args .m) .stmts) (stmtIn (c .before .before .before .before .before .before .before .before .before .before .before .before .before .before .before .before .before .before .before .before .args .f .now) (c .before .before .before .before .before .before .before .before .before .before .before .before .before .before .before .before .before .before .before .before .args .s) (c .before .before .before .before .before .before .before .before .before .before .before .before .model .result + c .before .before .before .before .before .before .loop .i)) (c .before .before .before .before .before .before .loop .i) (stmt-there (c .before .before .before .before .before .before .before .before .before .before .before .before .before .before .before .before .before .before .before .before .args .f .now) (c .before .before .before .before .before .before .before .before .before .before .before .before .before .before .before .before .before .before .before .before .args .s) (c .before .before .before .before .before .before .before .before .before .before .before .before .before .before .before .before .before .before .before .before .pre .1 .0 .opened) (c .before .before .before .before .before .before .before .before .before .before .before .before .before .before .before .before .before .before .before .before .args .m) (c .before .before .before .before .before .before .before .before .before .before .before .before .before .before .before .before .before .before .before .before .pre .1 .1) (c .before .before .before .before .before .before .before .before .before .before .before .before .model .result) (c .before .before .before .before .before .before .before .before .before .before .before .model2 .result) (c .before .before .before .before .before .before .loop .i) (c .before .before .before .before .before .before .before .before .before .before .before .before .model .ensures .0) (c .before .before .before .before .before .before .before .before .before .before .before .model2 .ensures .0) (c .before .before .before .before .before .loop-test .taken)) (stmt-here (c .before .before .before .before .before .before .before .before .before .before .before .before .before .before .before .before .before .before .before .before .args .f .now) (c .before .before .before .before .before .before .before .before .before .before .before .before .before .before .before .before .before .before .before .before .args .s) (c .before .before .before .before .before .before .before .before .before .before .before .before .before .before .before .before .before .before .before .before .pre .1 .0 .opened) (c .before .before .before .before .before .before .before .before .before .before .before .before .before .before .before .before .before .before .before .before .args .m) (c .before .before .before .before .before .before .before .before .before .before .before .before .before .before .before .before .before .before .before .before .pre .1 .1) (c .before .before .before .before .before .before .before .before .before .before .before .before .model .result) (c .before .before .before .before .before .before .before .before .before .before .before .model2 .result) (c .before .before .before .before .before .before .loop .i) (c .before .before .before .before .before .before .before .before .before .before .before .before .model .ensures .0) (c .before .before .before .before .before .before .before .before .before .before .before .model2 .ensures .0) (c .before .before .before .before .before .loop-test .taken)) _ _ _ _ _ _ (c .before .before .before .before .before .before .loop .inv .1) (c .before .before .stmt-errors .ensures))
 
-builder-same-length : (t : ℕ) → builder-lts.Need-same-length (model-vars-reads.Asked, model-vars-reads.Learnt, model-reads.Asked, model-reads.Learnt, unknowns-errors-reads.Asked, unknowns-errors-reads.Learnt, stmt-errors-below t, stmt-errors.Post) (builder-at t) builder.Post builder-Inv-loop builder-μ-loop
-builder-same-length t c = let r = room-then (errors-more (fileIn (c .before .before .before .before .before .before .before .before .before .before .before .before .args .f .now) (c .before .before .before .before .before .before .before .before .before .before .before .before .args .s)) (c .before .before .before .before .before .before .before .before .before .before .before .before .args .k) (c .before .before .before .before .before .before .before .before .before .before .before .before .args .m) (c .before .before .before .before .before .before .before .before .before .if1 .left)) _ _ (c .before .before .before .before .before .before .before .before .before .before .before .before .pre .1 .3) (c .before .before .before .before .unknowns-errors .ensures) in ap length (c .before .loop .inv .1 .1) ∙ length-listed _ _ _ (r .long) ∙ ap length (c .before .before .before .before .unknowns-errors .ensures .1) ∙ length-listed _ _ _ (c .before .before .before .before .before .before .before .before .before .before .before .before .pre .1 .3 .long)
+builder-same-length : (t : ℕ) → builder-lts.Need-same-length (no-marks-reads.Asked, no-marks-reads.Learnt, model-vars-reads.Asked, model-vars-reads.Learnt, model-reads.Asked, model-reads.Learnt, unknowns-errors-reads.Asked, unknowns-errors-reads.Learnt, stmt-errors-below t, stmt-errors.Post) (builder-at t) builder.Post builder-Inv-loop builder-μ-loop
+builder-same-length t c = let r = room-then (errors-more (fileIn (c .before .before .before .before .before .before .before .before .before .before .before .before .before .before .before .args .f .now) (c .before .before .before .before .before .before .before .before .before .before .before .before .before .before .before .args .s)) (c .before .before .before .before .before .before .before .before .before .before .before .before .before .before .before .args .k) (c .before .before .before .before .before .before .before .before .before .before .before .before .before .before .before .args .m) (c .before .before .before .before .before .before .before .before .before .before .before .before .if1 .left)) _ _ (c .before .before .before .before .before .before .before .before .before .before .before .before .before .before .before .pre .1 .3) (c .before .before .before .before .unknowns-errors .ensures) in ap length (c .before .loop .inv .1 .1) ∙ length-listed _ _ _ (r .long) ∙ ap length (c .before .before .before .before .unknowns-errors .ensures .1) ∙ length-listed _ _ _ (c .before .before .before .before .before .before .before .before .before .before .before .before .before .before .before .pre .1 .3 .long)
 
-builder-returns-2 : (t : ℕ) → builder-lts.Need-returns-2 (model-vars-reads.Asked, model-vars-reads.Learnt, model-reads.Asked, model-reads.Learnt, unknowns-errors-reads.Asked, unknowns-errors-reads.Learnt, stmt-errors-below t, stmt-errors.Post) (builder-at t) builder.Post builder-Inv-loop builder-μ-loop
-builder-returns-2 t c = lists-then (errors-more (fileIn (c .before .before .before .before .before .before .before .before .before .before .before .before .args .f .now) (c .before .before .before .before .before .before .before .before .before .before .before .before .args .s)) (c .before .before .before .before .before .before .before .before .before .before .before .before .args .k) (c .before .before .before .before .before .before .before .before .before .before .before .before .args .m) (c .before .before .before .before .before .before .before .before .before .if1 .left)) _ _ _ _ _ _ (c .before .before .before .before .unknowns-errors .ensures) (run-ends (stmtErrors (fileIn (c .before .before .before .before .before .before .before .before .before .before .before .before .args .f .now) (c .before .before .before .before .before .before .before .before .before .before .before .before .args .s)) (λ j. errorsOf (fileIn (c .before .before .before .before .before .before .before .before .before .before .before .before .args .f .now) (c .before .before .before .before .before .before .before .before .before .before .before .before .args .s)) (c .before .before .before .before .before .before .before .before .before .before .before .before .args .k - 1) j) (scopeIn (c .before .before .before .before .before .before .before .before .before .before .before .before .args .f .now) (c .before .before .before .before .before .before .before .before .before .before .before .before .args .s) (c .before .before .before .before .before .before .before .before .before .before .before .before .args .m))) (modelAt (fileIn (c .before .before .before .before .before .before .before .before .before .before .before .before .args .f .now) (c .before .before .before .before .before .before .before .before .before .before .before .before .args .s)) (c .before .before .before .before .before .before .before .before .before .before .before .before .args .m) .stmts) (c .before .loop .i) (stmts-past (c .before .before .before .before .before .before .before .before .before .before .before .before .args .f .now) (c .before .before .before .before .before .before .before .before .before .before .before .before .args .s) (c .before .before .before .before .before .before .before .before .before .before .before .before .pre .1 .0 .opened) (c .before .before .before .before .before .before .before .before .before .before .before .before .args .m) (c .before .before .before .before .before .before .before .before .before .before .before .before .pre .1 .1) (c .before .before .before .before .before .before .before .model .result) (c .before .before .before .before .before .before .model2 .result) (c .before .loop .i) (c .before .before .before .before .before .before .before .model .ensures .0) (c .before .before .before .before .before .before .model2 .ensures .0) (c .loop-test .left)) _ _ _ _ (c .before .loop .inv .1))
+builder-returns-2 : (t : ℕ) → builder-lts.Need-returns-2 (no-marks-reads.Asked, no-marks-reads.Learnt, model-vars-reads.Asked, model-vars-reads.Learnt, model-reads.Asked, model-reads.Learnt, unknowns-errors-reads.Asked, unknowns-errors-reads.Learnt, stmt-errors-below t, stmt-errors.Post) (builder-at t) builder.Post builder-Inv-loop builder-μ-loop
+builder-returns-2 t c = lists-then (errors-more (fileIn (c .before .before .before .before .before .before .before .before .before .before .before .before .before .before .before .args .f .now) (c .before .before .before .before .before .before .before .before .before .before .before .before .before .before .before .args .s)) (c .before .before .before .before .before .before .before .before .before .before .before .before .before .before .before .args .k) (c .before .before .before .before .before .before .before .before .before .before .before .before .before .before .before .args .m) (c .before .before .before .before .before .before .before .before .before .before .before .before .if1 .left)) _ _ _ _ _ _ (c .before .before .before .before .unknowns-errors .ensures) (run-ends (stmtErrors (fileIn (c .before .before .before .before .before .before .before .before .before .before .before .before .before .before .before .args .f .now) (c .before .before .before .before .before .before .before .before .before .before .before .before .before .before .before .args .s)) (λ j. errorsOf (fileIn (c .before .before .before .before .before .before .before .before .before .before .before .before .before .before .before .args .f .now) (c .before .before .before .before .before .before .before .before .before .before .before .before .before .before .before .args .s)) (c .before .before .before .before .before .before .before .before .before .before .before .before .before .before .before .args .k - 1) j) (scopeIn (c .before .before .before .before .before .before .before .before .before .before .before .before .before .before .before .args .f .now) (c .before .before .before .before .before .before .before .before .before .before .before .before .before .before .before .args .s) (c .before .before .before .before .before .before .before .before .before .before .before .before .before .before .before .args .m))) (modelAt (fileIn (c .before .before .before .before .before .before .before .before .before .before .before .before .before .before .before .args .f .now) (c .before .before .before .before .before .before .before .before .before .before .before .before .before .before .before .args .s)) (c .before .before .before .before .before .before .before .before .before .before .before .before .before .before .before .args .m) .stmts) (c .before .loop .i) (stmts-past (c .before .before .before .before .before .before .before .before .before .before .before .before .before .before .before .args .f .now) (c .before .before .before .before .before .before .before .before .before .before .before .before .before .before .before .args .s) (c .before .before .before .before .before .before .before .before .before .before .before .before .before .before .before .pre .1 .0 .opened) (c .before .before .before .before .before .before .before .before .before .before .before .before .before .before .before .args .m) (c .before .before .before .before .before .before .before .before .before .before .before .before .before .before .before .pre .1 .1) (c .before .before .before .before .before .before .before .model .result) (c .before .before .before .before .before .before .model2 .result) (c .before .loop .i) (c .before .before .before .before .before .before .before .model .ensures .0) (c .before .before .before .before .before .before .model2 .ensures .0) (c .loop-test .left)) _ _ _ _ (c .before .loop .inv .1))
 
 stmt-errors-stmt-requires : (t : ℕ) → stmt-errors-lts.Need-stmt-requires (stmt-reads.Asked, stmt-reads.Learnt, own-errors-reads.Asked, own-errors-reads.Learnt, add-submodel-below t, add-submodel.Post) (stmt-errors-at t) stmt-errors.Post
 stmt-errors-stmt-requires t c κs = (c .before .before .pre .1 .0 .opened, (c .before .before .pre .1 .2, omega arith))
@@ -205,12 +211,14 @@ pub +add-submodel+builder+stmt-errors-spec : {M : Type 1} → statement M
     (add-submodel-order-errors-requires t)
     (add-submodel-same-length-2 t)
     (add-submodel-returns-2 t))
-    (λ t. builder-lts.spec (model-vars-reads.Asked, model-vars-reads.Learnt, model-reads.Asked, model-reads.Learnt, unknowns-errors-reads.Asked, unknowns-errors-reads.Learnt, stmt-errors-below t, stmt-errors.Post)
+    (λ t. builder-lts.spec (no-marks-reads.Asked, no-marks-reads.Learnt, model-vars-reads.Asked, model-vars-reads.Learnt, model-reads.Asked, model-reads.Learnt, unknowns-errors-reads.Asked, unknowns-errors-reads.Learnt, stmt-errors-below t, stmt-errors.Post)
     (builder-at t)
     builder.Post
     builder-Inv-loop
     builder-μ-loop
     (builder-returns t)
+    (builder-no-marks-requires t)
+    (builder-slice-aggregate-model-vars t)
     (builder-model-vars-requires t)
     (builder-model-requires t)
     (builder-model-requires-2 t)

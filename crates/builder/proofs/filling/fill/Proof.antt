@@ -1,87 +1,47 @@
-use native.Mathlib.Omega.{arith}
-use Rattle.ast.specs.Opens.{fileIn}
-use Rattle.builder.proofs.RootLaid.{deps-room, sizes-known, model-known, laid-out}
 use borrow.Author.Needs.{needs}
-use Rattle.builder.specs.Root.{flatsOf}
-use Rattle.builder.proofs.Mosts.{few-flats}
 use Rattle.builder.proofs.filling.fill.Statement.{statement}
 use Rattle.builder.proofs.filling.fill.Tie as tie
 
-roster-of-requires : tie.Need-roster-of-requires
-roster-of-requires c κs = search needs
+no-variables-requires : tie.Need-no-variables-requires
+no-variables-requires c κs = search needs
 
-lay-flats-requires : tie.Need-lay-flats-requires
-lay-flats-requires c κs =
-    let a = c .before .before .before .before .before .before .args in
-    let p = c .before .before .before .before .before .before .pre in
-    let (i, n, q) = few-flats (fileIn (a .f .now) (a .s)) (a .m) (flatsOf (fileIn (a .f .now) (a .s)) (a .m)) (p .5 .3) in
-    (p .0 .opened, p .0 .callees, p .2, p .3, (n, q, p .5 .2, p .4))
+no-marks-requires : tie.Need-no-marks-requires
+no-marks-requires c κs = search needs
 
-mul-lay-deps : tie.Need-mul-lay-deps
-mul-lay-deps c =
-    let a = c .before .before .before .before .before .before .before .before .before .before .before .before .args in
-    let p = c .before .before .before .before .before .before .before .before .before .before .before .before .pre in
-    let (i, n, q) = few-flats (fileIn (a .f .now) (a .s)) (a .m) (flatsOf (fileIn (a .f .now) (a .s)) (a .m)) (p .5 .3) in
-    omega (arith, p .5 .1, p .5 .2)
+no-starts-requires : tie.Need-no-starts-requires
+no-starts-requires c κs = search needs
 
-add-lay-deps : tie.Need-add-lay-deps
-add-lay-deps c =
-    let a = c .before .before .before .before .before .before .before .before .before .before .before .before .args in
-    let p = c .before .before .before .before .before .before .before .before .before .before .before .before .pre in
-    let (i, n, q) = few-flats (fileIn (a .f .now) (a .s)) (a .m) (flatsOf (fileIn (a .f .now) (a .s)) (a .m)) (p .5 .3) in
-    omega (arith, p .5 .1, p .5 .2)
+no-variables-requires-2 : tie.Need-no-variables-requires-2
+no-variables-requires-2 c κs = search needs
 
-mul-lay-deps-2 : tie.Need-mul-lay-deps-2
-mul-lay-deps-2 c =
-    let a = c .before .before .before .before .before .before .before .before .before .before .before .before .args in
-    let p = c .before .before .before .before .before .before .before .before .before .before .before .before .pre in
-    let (i, n, q) = few-flats (fileIn (a .f .now) (a .s)) (a .m) (flatsOf (fileIn (a .f .now) (a .s)) (a .m)) (p .5 .3) in
-    omega (arith, p .5 .1, p .5 .2)
+no-flags-requires : tie.Need-no-flags-requires
+no-flags-requires c κs = search needs
 
-add-lay-deps-2 : tie.Need-add-lay-deps-2
-add-lay-deps-2 c =
-    let a = c .before .before .before .before .before .before .before .before .before .before .before .before .args in
-    let p = c .before .before .before .before .before .before .before .before .before .before .before .before .pre in
-    let (i, n, q) = few-flats (fileIn (a .f .now) (a .s)) (a .m) (flatsOf (fileIn (a .f .now) (a .s)) (a .m)) (p .5 .3) in
-    omega (arith, p .5 .1, p .5 .2)
+no-flags-requires-2 : tie.Need-no-flags-requires-2
+no-flags-requires-2 c κs = search needs
 
-mul-lay-deps-3 : tie.Need-mul-lay-deps-3
-mul-lay-deps-3 c = search needs
+slice-aggregate-fill-by : tie.Need-slice-aggregate-fill-by
+slice-aggregate-fill-by c = search needs
 
-add-lay-deps-3 : tie.Need-add-lay-deps-3
-add-lay-deps-3 c =
-    let a = c .before .before .before .before .before .before .before .before .before .before .before .before .args in
-    let p = c .before .before .before .before .before .before .before .before .before .before .before .before .pre in
-    let (i, n, q) = few-flats (fileIn (a .f .now) (a .s)) (a .m) (flatsOf (fileIn (a .f .now) (a .s)) (a .m)) (p .5 .3) in
-    omega (arith, p .5 .1, p .5 .2, c .before .before .before .before .before .before .before .before .roster-of .ensures .few)
+slice-aggregate-fill-by-2 : tie.Need-slice-aggregate-fill-by-2
+slice-aggregate-fill-by-2 c = search needs
 
-lay-deps-requires : tie.Need-lay-deps-requires
-lay-deps-requires c κs =
-    let a = c .before .before .before .before .before .before .before .before .before .before .before .before .args in
-    let p = c .before .before .before .before .before .before .before .before .before .before .before .before .pre in
-    let r = c .before .before .before .before .before .before .before .before .roster-of .result in
-    let v = c .before .before .before .before .before .before .before .before .roster-of .ensures in
-    (p .0 .opened, p .2, v, deps-room (a .f .now) (a .s) (a .m) (a .n) (a .q) r (p .5 .2) (p .5 .1) (p .5 .3) v (a .own .now) _ (p .4) (c .before .before .before .before .before .lay-flats .ensures))
+slice-aggregate-fill-by-3 : tie.Need-slice-aggregate-fill-by-3
+slice-aggregate-fill-by-3 c = search needs
 
-mul-t24 : tie.Need-mul-t24
-mul-t24 c = search needs
+slice-aggregate-fill-by-4 : tie.Need-slice-aggregate-fill-by-4
+slice-aggregate-fill-by-4 c = search needs
 
-element-copy-out-t32 : tie.Need-element-copy-out-t32
-element-copy-out-t32 c = search needs
+slice-aggregate-fill-by-5 : tie.Need-slice-aggregate-fill-by-5
+slice-aggregate-fill-by-5 c = search needs
 
-cast-t29 : tie.Need-cast-t29
-cast-t29 c = search needs
+slice-aggregate-fill-by-6 : tie.Need-slice-aggregate-fill-by-6
+slice-aggregate-fill-by-6 c = search needs
 
-answer-by-requires : tie.Need-answer-by-requires
-answer-by-requires c κs =
-    let a = c .before .before .before .before .before .before .before .before .before .before .before .before .before .before .before .before .before .args in
+fill-by-requires : tie.Need-fill-by-requires
+fill-by-requires c κs =
     let p = c .before .before .before .before .before .before .before .before .before .before .before .before .before .before .before .before .before .pre in
-    let r = c .before .before .before .before .before .before .before .before .before .before .before .before .before .roster-of .result in
-    let v = c .before .before .before .before .before .before .before .before .before .before .before .before .before .roster-of .ensures in
-    let w = c .before .before .before .before .lay-deps .ensures in
-    let (i, n, q) = few-flats (fileIn (a .f .now) (a .s)) (a .m) (flatsOf (fileIn (a .f .now) (a .s)) (a .m)) (p .5 .3) in
-    let z = sizes-known (a .f .now) (a .s) (a .m) (a .n) (a .q) r (p .5 .2) (p .5 .1) (p .5 .3) v (p .0 .opened) (c .before .before .before .before .lay-deps .result) (w .0) in
-    (model-known (a .f .now) (a .s) (a .m) (a .n) (a .q) r (p .5 .2) (p .5 .1) (p .5 .3) v (p .0 .opened) (c .before .before .before .before .lay-deps .result) (w .0) _ _ _ (p .0) (p .1) (p .2), p .0, laid-out (fileIn (a .f .now) (a .s)) (a .m) _ (a .own .now) _ _ z (p .4) (c .before .before .before .before .before .before .before .before .before .before .lay-flats .ensures) (w .1), p .5 .0, omega (arith, i, p .5 .0))
+    (p .0, p .1, p .2, p .3, p .4, p .5, c .before .before .before .before .before .before .before .before .before .before .before .before .before .no-variables .ensures, c .before .before .before .before .before .before .before .before .before .before .before .before .no-marks .ensures .0, c .before .before .before .before .before .before .before .before .before .before .before .before .no-marks .ensures .1, record { starts-long = c .before .before .before .before .before .before .before .before .before .before .before .no-starts .ensures .0; indexes-long = c .before .before .before .before .before .before .before .before .before .before .no-variables2 .ensures; reach-long = c .before .before .before .before .before .before .before .before .before .no-flags .ensures .0; rates-long = c .before .before .before .before .before .before .before .before .no-flags2 .ensures .0; no-start = c .before .before .before .before .before .before .before .before .before .before .before .no-starts .ensures .1; no-mark = c .before .before .before .before .before .before .before .before .before .no-flags .ensures .1 })
 
 same-length : tie.Need-same-length
 same-length c = search needs
@@ -96,19 +56,19 @@ pub fill-spec : {M : Type 1} → statement M
 fill-spec =
     tie.close
     (tie.spec
-    roster-of-requires
-    lay-flats-requires
-    mul-lay-deps
-    add-lay-deps
-    mul-lay-deps-2
-    add-lay-deps-2
-    mul-lay-deps-3
-    add-lay-deps-3
-    lay-deps-requires
-    mul-t24
-    element-copy-out-t32
-    cast-t29
-    answer-by-requires
+    no-variables-requires
+    no-marks-requires
+    no-starts-requires
+    no-variables-requires-2
+    no-flags-requires
+    no-flags-requires-2
+    slice-aggregate-fill-by
+    slice-aggregate-fill-by-2
+    slice-aggregate-fill-by-3
+    slice-aggregate-fill-by-4
+    slice-aggregate-fill-by-5
+    slice-aggregate-fill-by-6
+    fill-by-requires
     same-length
     same-length-2
     returns)

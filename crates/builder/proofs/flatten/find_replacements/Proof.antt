@@ -1,7 +1,6 @@
 use native.Mathlib.Omega.{arith}
 use Prim.Native.Nat.{_+_, _*_, _-_}
-use Rattle.ast.specs.Opens.{contentsIn}
-use Rattle.builder.proofs.Replacing.{row-lent}
+use Rattle.builder.proofs.Replacing.{row-taken, row-lent}
 use borrow.Author.Needs.{needs}
 use Rattle.builder.proofs.flatten.find_replacements.Statement.{statement}
 use Rattle.builder.proofs.flatten.find_replacements.Tie as tie
@@ -25,13 +24,13 @@ part-new-row-end : tie.Need-part-new-row-end
 part-new-row-end c = search needs
 
 new-row-requires : tie.Need-new-row-requires
-new-row-requires c κs = search needs
+new-row-requires c κs = let p = c .before .before .before .pre in (p .0, p .1, p .2, search needs, row-taken _ _ _ (c .before .before .before .args .level) (p .3 .2) (256 * c .before .before .before .args .level + 256 - 256 * c .before .before .before .args .level) (omega arith))
 
 same-length : tie.Need-same-length
 same-length c = search needs
 
 returns : tie.Need-returns
-returns c = let p = c .before .before .before .before .before .before .pre in row-lent (contentsIn (c .before .before .before .before .before .before .args .f .now) (c .before .before .before .before .before .before .args .s) .nodes) _ (c .before .before .before .before .before .before .args .rows .now) _ (256 * c .before .before .before .before .before .before .args .level) (256 * c .before .before .before .before .before .before .args .level + 256 - 256 * c .before .before .before .before .before .before .args .level) _ (omega arith) (omega arith) (p .3 .2) (c .before .before .new-row .ensures)
+returns c = let p = c .before .before .before .before .before .before .pre in row-lent _ _ (c .before .before .before .before .before .before .args .rows .now) (c .before .before .before .before .before .before .args .level) (p .3 .2) _ (256 * c .before .before .before .before .before .before .args .level + 256 - 256 * c .before .before .before .before .before .before .args .level) _ (omega arith) (omega arith) (c .before .before .new-row .ensures)
 
 pub find-replacements-spec : {M : Type 1} → statement M
 find-replacements-spec =

@@ -2,9 +2,8 @@ use mathlib.Core.Path.{_∙_}
 use native.Mathlib.Omega.{arith}
 use Prim.Native.Nat.{_-_, _<_}
 use lib.ListN.{length}
-use Rattle.ast.specs.Opens.{contentsIn}
 use Rattle.builder.proofs.OpenStmts.{names-few}
-use Rattle.builder.proofs.Replacing.{argument-keyword, argument-child, noted, noted-none, noted-fit, noted-length}
+use Rattle.builder.proofs.Replacing.{argument-keyword, argument-child, noted, noted-none, noted-in, noted-length}
 use borrow.Author.Needs.{needs}
 use Rattle.builder.proofs.flatten.note_argument.Statement.{statement}
 use Rattle.builder.proofs.flatten.note_argument.Tie as tie
@@ -37,7 +36,8 @@ returns : tie.Need-returns
 returns c = let p = c .before .before .before .before .before .before .before .before .before .pre in let a = argument-child _ _ (p .0) (c .before .before .before .before .before .before .before .before .before .args .end) (p .2 .0) (p .2 .1) (p .2 .2) in
     let e = c .before .before .set-free .ensures in
     let b : c .before .before .before .before .before .target .result - 1 < length (c .before .before .before .before .before .before .before .before .before .args .row .now) = omega (arith, names-few _ _ (p .0), c .before .before .before .before .before .target .ensures .1) in
-    (noted-length (c .before .before .before .before .before .before .before .before .before .args .row .now) _ (c .before .before .before .before .before .target .result - 1) (c .before .before .before .before .before .before .before .before .before .args .end - 1) e ∙ p .3 .0, noted-fit (contentsIn (c .before .before .before .before .before .before .before .before .before .args .f .now) (c .before .before .before .before .before .before .before .before .before .args .s) .nodes) _ (c .before .before .before .before .before .before .before .before .before .args .row .now) _ (c .before .before .before .before .before .target .result - 1) (c .before .before .before .before .before .before .before .before .before .args .end - 1) (p .3 .1) b (omega (arith, a .0)) (omega (arith, a .0, p .2 .1)) (a .1) e, rw (← c .before .before .before .before .before .before .node .ensures .0, ← c .before .before .before .before .before .target .ensures .0) (noted _ (c .before .before .before .before .before .before .before .before .before .args .row .now) _ (c .before .before .before .before .before .target .result) (c .before .before .before .before .before .before .before .before .before .args .end - 1) (omega arith) b (omega (arith, a .0)) e))
+    let d : c .before .before .before .before .before .target .result - 1 < c .before .before .before .before .before .before .before .before .before .args .s .counts .names = omega (arith, c .before .before .before .before .before .target .ensures .1) in
+    (noted-length (c .before .before .before .before .before .before .before .before .before .args .row .now) _ (c .before .before .before .before .before .target .result - 1) (c .before .before .before .before .before .before .before .before .before .args .end - 1) e ∙ p .3 .0, noted-in (c .before .before .before .before .before .before .before .before .before .args .f .now) (c .before .before .before .before .before .before .before .before .before .args .s) (c .before .before .before .before .before .before .before .before .before .args .row .now) _ (c .before .before .before .before .before .target .result - 1) (c .before .before .before .before .before .before .before .before .before .args .end - 1) (p .3 .1) d b (omega (arith, a .0)) (omega (arith, a .0, p .2 .1)) (a .1) e, rw (← c .before .before .before .before .before .before .node .ensures .0, ← c .before .before .before .before .before .target .ensures .0) (noted _ (c .before .before .before .before .before .before .before .before .before .args .row .now) _ (c .before .before .before .before .before .target .result) (c .before .before .before .before .before .before .before .before .before .args .end - 1) (omega arith) b (omega (arith, a .0)) e))
 
 returns-2 : tie.Need-returns-2
 returns-2 c = let p = c .before .before .before .before .before .pre in

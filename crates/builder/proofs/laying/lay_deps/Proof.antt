@@ -1,3 +1,4 @@
+use mathlib.Core.Path.{sym, _∙_}
 use native.Mathlib.Omega.{arith}
 use Rattle.ast.proofs.Fronts.{lent-put}
 use borrow.Author.Needs.{needs}
@@ -19,8 +20,20 @@ variable-tables-requires c κs = search needs
 same-length : tie.Need-same-length
 same-length c = search needs
 
+same-length-2 : tie.Need-same-length-2
+same-length-2 c = c .before .before .before .before .before .before .before .before .before .before .variable-tables .ensures .0 .starts-long ∙ sym (c .before .before .before .before .before .before .before .before .before .before .before .before .before .before .before .before .before .before .before .before .before .before .before .before .pre .4 .starts-long)
+
+same-length-3 : tie.Need-same-length-3
+same-length-3 c = c .before .before .before .before .before .before .before .before .before .before .variable-tables .ensures .0 .indexes-long ∙ sym (c .before .before .before .before .before .before .before .before .before .before .before .before .before .before .before .before .before .before .before .before .before .before .before .before .pre .4 .indexes-long)
+
+same-length-4 : tie.Need-same-length-4
+same-length-4 c = c .before .before .before .before .before .before .before .before .before .before .variable-tables .ensures .0 .reach-long ∙ sym (c .before .before .before .before .before .before .before .before .before .before .before .before .before .before .before .before .before .before .before .before .before .before .before .before .pre .4 .reach-long)
+
+same-length-5 : tie.Need-same-length-5
+same-length-5 c = c .before .before .before .before .before .before .before .before .before .before .variable-tables .ensures .0 .rates-long ∙ sym (c .before .before .before .before .before .before .before .before .before .before .before .before .before .before .before .before .before .before .before .before .before .before .before .before .pre .4 .rates-long)
+
 returns : tie.Need-returns
-returns c = (c .before .before .variable-tables .ensures .0, lent-put (c .before .before .before .before .before .before .args .own .now) _ _ (c .before .before .before .before .before .before .args .at) (omega (arith, c .before .before .before .before .before .before .pre .3)) (c .before .before .variable-tables .ensures .1))
+returns c = (c .before .before .before .before .before .before .before .before .before .before .variable-tables .ensures .0, lent-put (c .before .before .before .before .before .before .before .before .before .before .before .before .before .before .before .before .before .before .before .before .before .before .before .before .args .own .now) _ _ (c .before .before .before .before .before .before .before .before .before .before .before .before .before .before .before .before .before .before .before .before .before .before .before .before .args .at) (omega (arith, c .before .before .before .before .before .before .before .before .before .before .before .before .before .before .before .before .before .before .before .before .before .before .before .before .pre .3)) (c .before .before .before .before .before .before .before .before .before .before .variable-tables .ensures .1))
 
 pub lay-deps-spec : {M : Type 1} → statement M
 lay-deps-spec =
@@ -31,4 +44,8 @@ lay-deps-spec =
     part-variable-tables-end
     variable-tables-requires
     same-length
+    same-length-2
+    same-length-3
+    same-length-4
+    same-length-5
     returns)

@@ -1,80 +1,100 @@
 use mathlib.Core.Path.{_≡_}
 use Prim.Native.Nat.{_+_, _-_, _≤_, _<_}
 use native.Mathlib.Omega.{arith}
+use borrow.Author.Needs.{needs}
 use Rattle.ast.specs.Opens.{fileIn}
 use Rattle.builder.specs.Flatten.{modelAt}
 use Rattle.builder.specs.Places.{stmtsAt, varsAt, depsAt, errorsAt}
 use Rattle.builder.specs.Allocating.{nodesIn, stmtsIn, ListsAt}
 use Rattle.builder.specs.Starting.{startingIn}
-use Rattle.builder.proofs.FateTables.{held-few, first-few}
+use Rattle.builder.proofs.FateTables.{fates-none, held-few, first-few}
 use Rattle.builder.proofs.ListedAt.{none-at, lists-length}
 use Rattle.builder.proofs.StartingLaws.{starting-none, starting-next, righted-listed}
 use Rattle.builder.proofs.starting.starting_errors.Statement.{statement}
 use Rattle.builder.proofs.starting.starting_errors.Tie as tie
 
 abbrev Inv-loop : tie.InvT-loop
-Inv-loop f s m names area₀ z count t listed₀ v₀ area listed v = (v ≤ z .vars) × (listed ≤ count + v) × ListsAt (errorsAt z) area₀ count (startingIn (modelAt (fileIn f s) m .span) (nodesIn area₀ z) (stmtsIn area₀ z) names v) listed area
+Inv-loop f s m names area₀ z count held first listed₀ v₀ area listed v = (v ≤ z .vars) × (listed ≤ count + v) × ListsAt (errorsAt z) area₀ count (startingIn (modelAt (fileIn f s) m .span) (nodesIn area₀ z) (stmtsIn area₀ z) names v) listed area
 
 abbrev μ-loop : tie.MeasureT-loop
-μ-loop f s m names area₀ z count t listed₀ v₀ area listed v = z .vars - v
+μ-loop f s m names area₀ z count held first listed₀ v₀ area listed v = z .vars - v
 
-fates-of-requires : tie.Need-fates-of-requires Inv-loop μ-loop
+no-fates-requires : tie.Need-no-fates-requires Inv-loop μ-loop
+no-fates-requires c κs = search needs
+
+no-fates-requires-2 : tie.Need-no-fates-requires-2 Inv-loop μ-loop
+no-fates-requires-2 c κs = search needs
+
+no-fates-requires-3 : tie.Need-no-fates-requires-3 Inv-loop μ-loop
+no-fates-requires-3 c κs = search needs
+
+slice-aggregate-note-fates : tie.Need-slice-aggregate-note-fates Inv-loop μ-loop
+slice-aggregate-note-fates c = search needs
+
+slice-aggregate-note-fates-2 : tie.Need-slice-aggregate-note-fates-2 Inv-loop μ-loop
+slice-aggregate-note-fates-2 c = search needs
+
+slice-aggregate-note-fates-3 : tie.Need-slice-aggregate-note-fates-3 Inv-loop μ-loop
+slice-aggregate-note-fates-3 c = search needs
+
+note-fates-requires : tie.Need-note-fates-requires Inv-loop μ-loop
 unfolding stmtsAt varsAt depsAt errorsAt
-fates-of-requires c κs = (c .before .before .before .before .pre .3 .small, omega (arith, c .before .before .before .before .pre .3 .long))
+note-fates-requires c κs = let a = c .before .before .before .before .before .before .before .before .before .before .args in
+    (c .before .before .before .before .before .before .before .before .before .before .pre .3 .small, omega (arith, c .before .before .before .before .before .before .before .before .before .before .pre .3 .long), fates-none (a .z .stmts) (stmtsAt (a .z)) (a .area .now) _ _ _ (c .before .before .before .before .before .before .no-fates .ensures) (c .before .before .before .before .before .no-fates2 .ensures) (c .before .before .before .before .no-fates3 .ensures))
 
 loop-holds : tie.Need-loop-holds Inv-loop μ-loop
 loop-holds c = (omega arith, omega arith, rw (starting-none _ _ _ _) (none-at _ _ _))
 
-mul-held : tie.Need-mul-held Inv-loop μ-loop
-mul-held c = omega (arith, c .if1 .taken, c .before .before .before .before .before .before .before .before .pre .3 .small .vars)
+mul-holds : tie.Need-mul-holds Inv-loop μ-loop
+mul-holds c = omega (arith, c .if1 .taken, c .before .before .before .before .before .before .before .before .before .before .before .before .before .before .before .before .before .pre .3 .small .vars)
 
-element-copy-out-held : tie.Need-element-copy-out-held Inv-loop μ-loop
-element-copy-out-held c = omega (arith, c .if1 .taken, c .before .before .before .before .before .before .before .before .pre .3 .small .vars)
+array-read-holds : tie.Need-array-read-holds Inv-loop μ-loop
+array-read-holds c = omega (arith, c .if1 .taken, c .before .before .before .before .before .before .before .before .before .before .before .before .before .before .before .before .before .pre .3 .small .vars)
 
-cast-held : tie.Need-cast-held Inv-loop μ-loop
-cast-held c = let w = c .before .before .before .before .before .before .before .before .before .pre .3 .small in omega (arith, w .stmts, held-few _ _ _ _ _ _ (c .before .before .before .before .fates-of .ensures) (c .before .before .before .loop .v) (omega (arith, c .before .if1 .taken, w .vars)))
+cast-holds : tie.Need-cast-holds Inv-loop μ-loop
+cast-holds c = let w = c .before .before .before .before .before .before .before .before .before .before .before .before .before .before .before .before .before .pre .3 .small in omega (arith, w .stmts, held-few _ _ _ _ _ _ (c .before .before .before .before .before .before .note-fates .ensures) (c .before .before .loop .v) (omega (arith, c .if1 .taken, w .vars)))
 
-mul-first : tie.Need-mul-first Inv-loop μ-loop
-mul-first c = omega (arith, c .before .if1 .taken, c .before .before .before .before .before .before .before .before .before .pre .3 .small .vars)
+mul-starts : tie.Need-mul-starts Inv-loop μ-loop
+mul-starts c = omega (arith, c .if1 .taken, c .before .before .before .before .before .before .before .before .before .before .before .before .before .before .before .before .before .pre .3 .small .vars)
 
-element-copy-out-first : tie.Need-element-copy-out-first Inv-loop μ-loop
-element-copy-out-first c = omega (arith, c .before .if1 .taken, c .before .before .before .before .before .before .before .before .before .pre .3 .small .vars)
+array-read-starts : tie.Need-array-read-starts Inv-loop μ-loop
+array-read-starts c = omega (arith, c .if1 .taken, c .before .before .before .before .before .before .before .before .before .before .before .before .before .before .before .before .before .pre .3 .small .vars)
 
-cast-first : tie.Need-cast-first Inv-loop μ-loop
-cast-first c = let w = c .before .before .before .before .before .before .before .before .before .before .pre .3 .small in omega (arith, w .stmts, first-few _ _ _ _ _ _ (c .before .before .before .before .before .fates-of .ensures) (c .before .before .before .before .loop .v) (omega (arith, c .before .before .if1 .taken, w .vars)))
+cast-starts : tie.Need-cast-starts Inv-loop μ-loop
+cast-starts c = let w = c .before .before .before .before .before .before .before .before .before .before .before .before .before .before .before .before .before .pre .3 .small in omega (arith, w .stmts, first-few _ _ _ _ _ _ (c .before .before .before .before .before .before .note-fates .ensures) (c .before .before .loop .v) (omega (arith, c .if1 .taken, w .vars)))
 
 mul-state-errors : tie.Need-mul-state-errors Inv-loop μ-loop
-mul-state-errors c = omega (arith, c .before .before .before .if1 .taken, c .before .before .before .before .before .before .before .before .before .before .before .pre .3 .small .vars)
+mul-state-errors c = omega (arith, c .before .if1 .taken, c .before .before .before .before .before .before .before .before .before .before .before .before .before .before .before .before .before .before .pre .3 .small .vars)
 
 shared-slice-read-state-errors : tie.Need-shared-slice-read-state-errors Inv-loop μ-loop
-shared-slice-read-state-errors c = omega (arith, c .before .before .before .before .if1 .taken, c .before .before .before .before .before .before .before .before .before .before .before .before .pre .2)
+shared-slice-read-state-errors c = omega (arith, c .before .before .if1 .taken, c .before .before .before .before .before .before .before .before .before .before .before .before .before .before .before .before .before .before .before .pre .2)
 
 state-errors-requires : tie.Need-state-errors-requires Inv-loop μ-loop
-state-errors-requires c κs = let a = c .before .before .before .before .before .before .before .before .before .before .before .before .args in
-    let p : ListsAt (errorsAt (a .z)) (a .area .now) (a .count) (startingIn (modelAt (fileIn (a .f .now) (a .s)) (a .m) .span) (nodesIn (a .area .now) (a .z)) (stmtsIn (a .area .now) (a .z)) (a .names .now) (c .before .before .before .before .before .before .loop .v)) (c .before .before .before .before .before .before .loop .listed) (c .before .before .before .before .before .before .loop .area) = c .before .before .before .before .before .before .loop .inv .2 in
-    let few : c .before .before .before .before .before .before .loop .v < 129 = omega (arith, c .before .before .before .before .if1 .taken, c .before .before .before .before .before .before .before .before .before .before .before .before .pre .3 .small .vars) in
-    (c .before .before .before .before .before .before .before .before .before .before .before .before .pre .0, c .before .before .before .before .before .before .before .before .before .before .before .before .pre .1, righted-listed _ _ _ _ _ _ (c .before .before .before .before .before .before .before .before .before .before .before .before .pre .3) p, held-few _ _ _ _ _ _ (c .before .before .before .before .before .before .before .fates-of .ensures) (c .before .before .before .before .before .before .loop .v) few, first-few _ _ _ _ _ _ (c .before .before .before .before .before .before .before .fates-of .ensures) (c .before .before .before .before .before .before .loop .v) few, omega (arith, c .before .before .before .before .before .before .loop .inv .1, c .before .before .before .before .if1 .taken, c .before .before .before .before .before .before .before .before .before .before .before .before .pre .4))
+state-errors-requires c κs = let a = c .before .before .before .before .before .before .before .before .before .before .before .before .before .before .before .before .before .before .before .args in
+    let p : ListsAt (errorsAt (a .z)) (a .area .now) (a .count) (startingIn (modelAt (fileIn (a .f .now) (a .s)) (a .m) .span) (nodesIn (a .area .now) (a .z)) (stmtsIn (a .area .now) (a .z)) (a .names .now) (c .before .before .before .before .loop .v)) (c .before .before .before .before .loop .listed) (c .before .before .before .before .loop .area) = c .before .before .before .before .loop .inv .2 in
+    let few : c .before .before .before .before .loop .v < 129 = omega (arith, c .before .before .if1 .taken, c .before .before .before .before .before .before .before .before .before .before .before .before .before .before .before .before .before .before .before .pre .3 .small .vars) in
+    (c .before .before .before .before .before .before .before .before .before .before .before .before .before .before .before .before .before .before .before .pre .0, c .before .before .before .before .before .before .before .before .before .before .before .before .before .before .before .before .before .before .before .pre .1, righted-listed _ _ _ _ _ _ (c .before .before .before .before .before .before .before .before .before .before .before .before .before .before .before .before .before .before .before .pre .3) p, held-few _ _ _ _ _ _ (c .before .before .before .before .before .before .before .before .note-fates .ensures) (c .before .before .before .before .loop .v) few, first-few _ _ _ _ _ _ (c .before .before .before .before .before .before .before .before .note-fates .ensures) (c .before .before .before .before .loop .v) few, omega (arith, c .before .before .before .before .loop .inv .1, c .before .before .if1 .taken, c .before .before .before .before .before .before .before .before .before .before .before .before .before .before .before .before .before .before .before .pre .4))
 
 add-v : tie.Need-add-v Inv-loop μ-loop
-add-v c = omega (arith, c .before .before .before .before .before .before .before .before .before .before .before .before .before .before .before .pre .3 .small .vars, c .before .before .before .before .before .before .before .if1 .taken)
+add-v c = omega (arith, c .before .before .before .before .before .before .before .before .before .before .before .before .before .before .before .before .before .before .before .before .before .before .pre .3 .small .vars, c .before .before .before .before .before .if1 .taken)
 
 loop-less : tie.Need-loop-less Inv-loop μ-loop
-loop-less c = omega (arith, c .before .before .before .before .before .before .before .if1 .taken)
+loop-less c = omega (arith, c .before .before .before .before .before .if1 .taken)
 
 loop-again : tie.Need-loop-again Inv-loop μ-loop
-loop-again c = let a = c .before .before .before .before .before .before .before .before .before .before .before .before .before .before .before .args in
-    let p : ListsAt (errorsAt (a .z)) (a .area .now) (a .count) (startingIn (modelAt (fileIn (a .f .now) (a .s)) (a .m) .span) (nodesIn (a .area .now) (a .z)) (stmtsIn (a .area .now) (a .z)) (a .names .now) (c .before .before .before .before .before .before .before .before .before .loop .v)) (c .before .before .before .before .before .before .before .before .before .loop .listed) (c .before .before .before .before .before .before .before .before .before .loop .area) = c .before .before .before .before .before .before .before .before .before .loop .inv .2 in
-    let few : c .before .before .before .before .before .before .before .before .before .loop .v < 129 = omega (arith, c .before .before .before .before .before .before .before .if1 .taken, c .before .before .before .before .before .before .before .before .before .before .before .before .before .before .before .pre .3 .small .vars) in
-    let n = starting-next _ _ _ _ _ _ _ _ _ _ _ _ (c .before .before .before .before .before .before .before .before .before .before .before .before .before .before .before .pre .3) (c .before .before .before .before .before .before .before .before .before .before .fates-of .ensures .held-of (c .before .before .before .before .before .before .before .before .before .loop .v) few) (c .before .before .before .before .before .before .before .before .before .before .fates-of .ensures .first-of (c .before .before .before .before .before .before .before .before .before .loop .v) few) p (c .before .before .state-errors .ensures) in
-    (omega (arith, c .before .before .before .before .before .before .before .if1 .taken), omega (arith, n .0, c .before .before .before .before .before .before .before .before .before .loop .inv .1), n .1)
+loop-again c = let a = c .before .before .before .before .before .before .before .before .before .before .before .before .before .before .before .before .before .before .before .before .before .before .args in
+    let p : ListsAt (errorsAt (a .z)) (a .area .now) (a .count) (startingIn (modelAt (fileIn (a .f .now) (a .s)) (a .m) .span) (nodesIn (a .area .now) (a .z)) (stmtsIn (a .area .now) (a .z)) (a .names .now) (c .before .before .before .before .before .before .before .loop .v)) (c .before .before .before .before .before .before .before .loop .listed) (c .before .before .before .before .before .before .before .loop .area) = c .before .before .before .before .before .before .before .loop .inv .2 in
+    let few : c .before .before .before .before .before .before .before .loop .v < 129 = omega (arith, c .before .before .before .before .before .if1 .taken, c .before .before .before .before .before .before .before .before .before .before .before .before .before .before .before .before .before .before .before .before .before .before .pre .3 .small .vars) in
+    let n = starting-next _ _ _ _ _ _ _ _ _ _ _ _ (c .before .before .before .before .before .before .before .before .before .before .before .before .before .before .before .before .before .before .before .before .before .before .pre .3) (c .before .before .before .before .before .before .before .before .before .before .before .note-fates .ensures .held-of (c .before .before .before .before .before .before .before .loop .v) few) (c .before .before .before .before .before .before .before .before .before .before .before .note-fates .ensures .first-of (c .before .before .before .before .before .before .before .loop .v) few) p (c .before .before .state-errors .ensures) in
+    (omega (arith, c .before .before .before .before .before .if1 .taken), omega (arith, n .0, c .before .before .before .before .before .before .before .loop .inv .1), n .1)
 
 same-length : tie.Need-same-length Inv-loop μ-loop
-same-length c = let a = c .before .before .before .before .before .before .before .before .args in
+same-length c = let a = c .before .before .before .before .before .before .before .before .before .before .before .before .before .before .before .before .before .args in
     let p : ListsAt (errorsAt (a .z)) (a .area .now) (a .count) (startingIn (modelAt (fileIn (a .f .now) (a .s)) (a .m) .span) (nodesIn (a .area .now) (a .z)) (stmtsIn (a .area .now) (a .z)) (a .names .now) (c .before .before .loop .v)) (c .before .before .loop .listed) (c .before .before .loop .area) = c .before .before .loop .inv .2 in
-    lists-length _ _ _ _ _ _ (c .before .before .before .before .before .before .before .before .pre .3 .long) p
+    lists-length _ _ _ _ _ _ (c .before .before .before .before .before .before .before .before .before .before .before .before .before .before .before .before .before .pre .3 .long) p
 
 returns : tie.Need-returns Inv-loop μ-loop
-returns c = let a = c .before .before .before .before .before .before .before .before .args in
+returns c = let a = c .before .before .before .before .before .before .before .before .before .before .before .before .before .before .before .before .before .args in
     let p : ListsAt (errorsAt (a .z)) (a .area .now) (a .count) (startingIn (modelAt (fileIn (a .f .now) (a .s)) (a .m) .span) (nodesIn (a .area .now) (a .z)) (stmtsIn (a .area .now) (a .z)) (a .names .now) (c .before .before .loop .v)) (c .before .before .loop .listed) (c .before .before .loop .area) = c .before .before .loop .inv .2 in
     let e : c .before .before .loop .v ≡ a .z .vars = omega (arith, c .before .before .loop .inv .0, c .if1 .left) in
     rw e at p
@@ -85,14 +105,20 @@ starting-errors-spec =
     (tie.spec
     Inv-loop
     μ-loop
-    fates-of-requires
+    no-fates-requires
+    no-fates-requires-2
+    no-fates-requires-3
+    slice-aggregate-note-fates
+    slice-aggregate-note-fates-2
+    slice-aggregate-note-fates-3
+    note-fates-requires
     loop-holds
-    mul-held
-    element-copy-out-held
-    cast-held
-    mul-first
-    element-copy-out-first
-    cast-first
+    mul-holds
+    array-read-holds
+    cast-holds
+    mul-starts
+    array-read-starts
+    cast-starts
     mul-state-errors
     shared-slice-read-state-errors
     state-errors-requires

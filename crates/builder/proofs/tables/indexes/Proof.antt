@@ -1,8 +1,6 @@
 use Prim.Native.Nat.{ℕ, _-_, _≤_, _<_}
 use mathlib.Core.Option.{none}
-use mathlib.Core.Path.{refl}
 use native.Mathlib.Omega.{arith}
-use lib.ListN.{replicate}
 use Rattle.functions.specs.Lists.{plusOne}
 use Rattle.builder.specs.Variables.{lastTime}
 use Rattle.builder.specs.VariableTables.{nextIn}
@@ -18,52 +16,55 @@ abbrev μ-loop : tie.MeasureT-loop
 μ-loop deps starts vars out₀ v₀ out v = vars - v
 
 loop-holds : tie.Need-loop-holds Inv-loop μ-loop
-loop-holds c = (omega arith, filled-none 129 _ (replicate 129 0) refl)
+loop-holds c = (omega arith, filled-none 129 _ (c .before .before .before .args .out .now) (c .before .before .before .pre .3))
 
 mul-time-index : tie.Need-mul-time-index Inv-loop μ-loop
-mul-time-index c = omega (arith, c .before .before .before .pre .0 .few)
+mul-time-index c = omega (arith, c .before .before .before .before .before .pre .0 .few)
 
-element-copy-out-time-index : tie.Need-element-copy-out-time-index Inv-loop μ-loop
-element-copy-out-time-index c = omega (arith, c .before .before .before .pre .0 .few)
+shared-slice-read-time-index : tie.Need-shared-slice-read-time-index Inv-loop μ-loop
+shared-slice-read-time-index c = omega (arith, c .before .before .before .before .before .before .pre .0 .few)
 
 cast-time-index : tie.Need-cast-time-index Inv-loop μ-loop
-cast-time-index c = let v = c .before .before .loop .v in omega (arith, c .before .before .before .before .pre .0 .few, c .before .before .before .before .pre .0 .rise v (omega arith), c .before .before .before .before .pre .1 v (omega arith))
+cast-time-index c = let v = c .before .before .loop .v in omega (arith, c .before .before .before .before .before .before .pre .0 .few, c .before .before .before .before .before .before .pre .0 .rise v (omega arith), c .before .before .before .before .before .before .pre .2 v (omega arith))
 
 add-time-index : tie.Need-add-time-index Inv-loop μ-loop
-add-time-index c = omega (arith, c .before .before .before .before .pre .0 .few)
+add-time-index c = omega (arith, c .before .before .before .before .before .before .pre .0 .few)
 
 mul-time-index-2 : tie.Need-mul-time-index-2 Inv-loop μ-loop
-mul-time-index-2 c = omega (arith, c .before .before .before .before .pre .0 .few)
+mul-time-index-2 c = omega (arith, c .before .before .before .before .before .before .pre .0 .few)
 
-element-copy-out-time-index-2 : tie.Need-element-copy-out-time-index-2 Inv-loop μ-loop
-element-copy-out-time-index-2 c = omega (arith, c .before .before .before .before .pre .0 .few)
+shared-slice-read-time-index-2 : tie.Need-shared-slice-read-time-index-2 Inv-loop μ-loop
+shared-slice-read-time-index-2 c = omega (arith, c .before .before .before .before .before .before .before .pre .0 .few)
 
 cast-time-index-2 : tie.Need-cast-time-index-2 Inv-loop μ-loop
-cast-time-index-2 c = let v = c .before .before .before .loop .v in omega (arith, c .before .before .before .before .before .pre .0 .few, c .before .before .before .before .before .pre .0 .rise v (omega arith), c .before .before .before .before .before .pre .1 v (omega arith))
+cast-time-index-2 c = let v = c .before .before .before .loop .v in omega (arith, c .before .before .before .before .before .before .before .pre .0 .few, c .before .before .before .before .before .before .before .pre .0 .rise v (omega arith), c .before .before .before .before .before .before .before .pre .2 v (omega arith))
 
 time-index-requires : tie.Need-time-index-requires Inv-loop μ-loop
-time-index-requires c κs = let l : c .before .before .before .loop .v < c .before .before .before .before .before .args .vars = omega arith in (c .before .before .before .before .before .pre .0 .rise (c .before .before .before .loop .v) l, c .before .before .before .before .before .pre .0 .within (c .before .before .before .loop .v) l)
+time-index-requires c κs = let l : c .before .before .before .loop .v < c .before .before .before .before .before .before .before .args .vars = omega arith in (c .before .before .before .before .before .before .before .pre .0 .rise (c .before .before .before .loop .v) l, c .before .before .before .before .before .before .before .pre .0 .within (c .before .before .before .loop .v) l)
 
 cast-out : tie.Need-cast-out Inv-loop μ-loop
 cast-out c = omega arith
 
 mul-out : tie.Need-mul-out Inv-loop μ-loop
-mul-out c = omega (arith, c .before .before .before .before .before .before .pre .0 .few)
+mul-out c = omega (arith, c .before .before .before .before .before .before .before .before .pre .0 .few)
 
-array-write-out : tie.Need-array-write-out Inv-loop μ-loop
-array-write-out c = omega (arith, c .before .before .before .before .before .before .pre .0 .few)
+slice-write-out : tie.Need-slice-write-out Inv-loop μ-loop
+slice-write-out c = omega (arith, c .before .before .before .before .before .before .before .before .pre .0 .few, c .before .before .before .before .loop .inv .1 .long)
 
 add-v : tie.Need-add-v Inv-loop μ-loop
-add-v c = omega (arith, c .before .before .before .before .before .before .pre .0 .few)
+add-v c = omega (arith, c .before .before .before .before .before .before .before .before .pre .0 .few)
 
 loop-less : tie.Need-loop-less Inv-loop μ-loop
 loop-less c = omega arith
 
 loop-again : tie.Need-loop-again Inv-loop μ-loop
-loop-again c = (omega arith, filled-more 129 _ (c .before .before .before .before .loop .v) _ (c .before .before .before .before .loop .out) (omega (arith, c .before .before .before .before .before .before .pre .0 .few)) (index-word (c .before .before .before .before .before .before .args .starts .now) (c .before .before .before .before .before .before .args .deps .now) (c .before .before .before .before .before .before .args .vars) (c .before .before .before .before .loop .v) (c .time-index .result) (c .before .before .before .before .before .before .pre .0) (omega arith) (c .before .before .before .before .before .before .pre .1 (c .before .before .before .before .loop .v) (omega arith)) (c .time-index .ensures)) (c .before .before .before .before .loop .inv .1))
+loop-again c = (omega arith, filled-more 129 _ (c .before .before .before .before .loop .v) _ (c .before .before .before .before .loop .out) (omega (arith, c .before .before .before .before .before .before .before .before .pre .0 .few)) (index-word (c .before .before .before .before .before .before .before .before .args .starts .now) (c .before .before .before .before .before .before .before .before .args .deps .now) (c .before .before .before .before .before .before .before .before .args .vars) (c .before .before .before .before .loop .v) (c .time-index .result) (c .before .before .before .before .before .before .before .before .pre .0) (omega arith) (c .before .before .before .before .before .before .before .before .pre .2 (c .before .before .before .before .loop .v) (omega arith)) (c .time-index .ensures)) (c .before .before .before .before .loop .inv .1))
+
+same-length : tie.Need-same-length Inv-loop μ-loop
+same-length c = omega (arith, c .before .loop .inv .1 .long)
 
 returns : tie.Need-returns Inv-loop μ-loop
-returns c = λ v l. c .before .loop .inv .1 .entry v (omega arith)
+returns c = (λ v l. c .before .loop .inv .1 .entry v (omega arith), c .before .loop .inv .1 .long)
 
 pub indexes-spec : {M : Type 1} → statement M
 indexes-spec =
@@ -73,17 +74,18 @@ indexes-spec =
     μ-loop
     loop-holds
     mul-time-index
-    element-copy-out-time-index
+    shared-slice-read-time-index
     cast-time-index
     add-time-index
     mul-time-index-2
-    element-copy-out-time-index-2
+    shared-slice-read-time-index-2
     cast-time-index-2
     time-index-requires
     cast-out
     mul-out
-    array-write-out
+    slice-write-out
     add-v
     loop-less
     loop-again
+    same-length
     returns)

@@ -1,9 +1,8 @@
 use Prim.Native.Nat.{ℕ, _+_, _-_, _≤_}
 use mathlib.Core.Bool.{_||_, _&&_}
-use mathlib.Core.Path.{refl}
 use native.Mathlib.Omega.{arith}
 use lib.Dec.{eqb, ltb}
-use lib.ListN.{getD, replicate}
+use lib.ListN.{getD}
 use Rattle.functions.specs.Lists.{flag}
 use Rattle.builder.proofs.Filled.{Filled, filled-none, filled-more}
 use Rattle.builder.proofs.tables.rates.Statement.{statement}
@@ -16,13 +15,13 @@ abbrev μ-loop : tie.MeasureT-loop
 μ-loop starts reach vars out₀ v₀ out v = vars - v
 
 loop-holds : tie.Need-loop-holds Inv-loop μ-loop
-loop-holds c = (omega arith, filled-none 129 _ (replicate 129 0) refl)
+loop-holds c = (omega arith, filled-none 129 _ (c .before .before .before .args .out .now) (c .before .before .before .pre .3))
 
 mul-rate-flag : tie.Need-mul-rate-flag Inv-loop μ-loop
 mul-rate-flag c = omega arith
 
-element-copy-out-rate-flag : tie.Need-element-copy-out-rate-flag Inv-loop μ-loop
-element-copy-out-rate-flag c = omega arith
+shared-slice-read-rate-flag : tie.Need-shared-slice-read-rate-flag Inv-loop μ-loop
+shared-slice-read-rate-flag c = omega arith
 
 add-rate-flag : tie.Need-add-rate-flag Inv-loop μ-loop
 add-rate-flag c = omega arith
@@ -30,17 +29,17 @@ add-rate-flag c = omega arith
 mul-rate-flag-2 : tie.Need-mul-rate-flag-2 Inv-loop μ-loop
 mul-rate-flag-2 c = omega arith
 
-element-copy-out-rate-flag-2 : tie.Need-element-copy-out-rate-flag-2 Inv-loop μ-loop
-element-copy-out-rate-flag-2 c = omega arith
+shared-slice-read-rate-flag-2 : tie.Need-shared-slice-read-rate-flag-2 Inv-loop μ-loop
+shared-slice-read-rate-flag-2 c = omega arith
 
-element-copy-out-rate-flag-3 : tie.Need-element-copy-out-rate-flag-3 Inv-loop μ-loop
-element-copy-out-rate-flag-3 c = omega arith
+shared-slice-read-rate-flag-3 : tie.Need-shared-slice-read-rate-flag-3 Inv-loop μ-loop
+shared-slice-read-rate-flag-3 c = omega arith
 
 rate-flag-requires : tie.Need-rate-flag-requires Inv-loop μ-loop
 rate-flag-requires c κs = tt
 
-array-write-out : tie.Need-array-write-out Inv-loop μ-loop
-array-write-out c = omega arith
+slice-write-out : tie.Need-slice-write-out Inv-loop μ-loop
+slice-write-out c = omega (arith, c .before .before .before .before .before .loop .inv .1 .long)
 
 add-v : tie.Need-add-v Inv-loop μ-loop
 add-v c = omega arith
@@ -51,8 +50,11 @@ loop-less c = omega arith
 loop-again : tie.Need-loop-again Inv-loop μ-loop
 loop-again c = (omega arith, filled-more 129 _ (c .before .before .before .before .before .loop .v) (c .rate-flag .result) (c .before .before .before .before .before .loop .out) (omega arith) (c .rate-flag .ensures) (c .before .before .before .before .before .loop .inv .1))
 
+same-length : tie.Need-same-length Inv-loop μ-loop
+same-length c = omega (arith, c .before .loop .inv .1 .long)
+
 returns : tie.Need-returns Inv-loop μ-loop
-returns c = λ v l. c .before .loop .inv .1 .entry v (omega arith)
+returns c = (λ v l. c .before .loop .inv .1 .entry v (omega arith), c .before .loop .inv .1 .long)
 
 pub rates-spec : {M : Type 1} → statement M
 rates-spec =
@@ -62,14 +64,15 @@ rates-spec =
     μ-loop
     loop-holds
     mul-rate-flag
-    element-copy-out-rate-flag
+    shared-slice-read-rate-flag
     add-rate-flag
     mul-rate-flag-2
-    element-copy-out-rate-flag-2
-    element-copy-out-rate-flag-3
+    shared-slice-read-rate-flag-2
+    shared-slice-read-rate-flag-3
     rate-flag-requires
-    array-write-out
+    slice-write-out
     add-v
     loop-less
     loop-again
+    same-length
     returns)

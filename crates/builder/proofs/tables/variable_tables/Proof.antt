@@ -1,5 +1,4 @@
 use mathlib.Core.Path.{sym, ap, _∙_}
-use native.Mathlib.Omega.{arith}
 use Rattle.ast.specs.Bytes.{front}
 use Rattle.ast.specs.Words.{bytesOf}
 use Rattle.builder.proofs.RootTables.{counted-deps, counted-starts, tables-of, model-written}
@@ -8,24 +7,36 @@ use Rattle.builder.proofs.tables.variable_tables.Statement.{statement}
 use Rattle.builder.proofs.tables.variable_tables.Tie as tie
 
 write-deps-requires : tie.Need-write-deps-requires
-write-deps-requires c κs = search needs
-
-reach-time-requires : tie.Need-reach-time-requires
-reach-time-requires c κs = counted-deps (c .before .before .before .before .before .before .before .before .args .f .now) (c .before .before .before .before .before .before .before .before .args .s) (c .before .before .before .before .before .before .before .before .pre .0) (c .before .before .before .before .before .before .before .before .args .m) (c .before .before .before .before .write-deps .result) (c .before .before .before .before .before .before .before .before .args .out .now) _ (c .before .before .before .before .write-deps .ensures .0) (c .before .before .before .before .write-deps .ensures .1) (c .before .before .before .before .before .before .before .before .args .r .count) (c .before .before .before .before .before .before .before .before .pre .2 .count) (c .before .before .before .before .before .before .before .before .pre .2 .few) (c .before .before .before .before .before .before .before .before .pre .3)
+write-deps-requires c κs = (c .before .before .before .before .before .before .before .before .before .before .pre .0, c .before .before .before .before .before .before .before .before .before .before .pre .1, c .before .before .before .before .before .before .before .before .before .before .pre .2, c .before .before .before .before .before .before .before .before .before .before .pre .3, c .before .before .before .before .before .before .before .before .before .before .pre .4 .starts-long, c .before .before .before .before .before .before .before .before .before .before .pre .4 .no-start)
 
 indexes-requires : tie.Need-indexes-requires
-indexes-requires c κs = (counted-deps (c .before .before .before .before .before .before .before .before .before .before .before .args .f .now) (c .before .before .before .before .before .before .before .before .before .before .before .args .s) (c .before .before .before .before .before .before .before .before .before .before .before .pre .0) (c .before .before .before .before .before .before .before .before .before .before .before .args .m) (c .before .before .before .before .before .before .before .write-deps .result) (c .before .before .before .before .before .before .before .before .before .before .before .args .out .now) _ (c .before .before .before .before .before .before .before .write-deps .ensures .0) (c .before .before .before .before .before .before .before .write-deps .ensures .1) (c .before .before .before .before .before .before .before .before .before .before .before .args .r .count) (c .before .before .before .before .before .before .before .before .before .before .before .pre .2 .count) (c .before .before .before .before .before .before .before .before .before .before .before .pre .2 .few) (c .before .before .before .before .before .before .before .before .before .before .before .pre .3), counted-starts (c .before .before .before .before .before .before .before .before .before .before .before .args .f .now) (c .before .before .before .before .before .before .before .before .before .before .before .args .s) (c .before .before .before .before .before .before .before .before .before .before .before .pre .0) (c .before .before .before .before .before .before .before .before .before .before .before .args .m) (c .before .before .before .before .before .before .before .write-deps .result) (c .before .before .before .before .before .before .before .before .before .before .before .args .out .now) _ (c .before .before .before .before .before .before .before .write-deps .ensures .0) (c .before .before .before .before .before .before .before .write-deps .ensures .1) (c .before .before .before .before .before .before .before .before .before .before .before .args .r .count) (c .before .before .before .before .before .before .before .before .before .before .before .pre .2 .count) (c .before .before .before .before .before .before .before .before .before .before .before .pre .2 .few) (c .before .before .before .before .before .before .before .before .before .before .before .pre .3))
+indexes-requires c κs = (counted-deps (c .before .before .before .before .before .before .before .before .before .before .before .before .before .before .before .before .before .before .args .f .now) (c .before .before .before .before .before .before .before .before .before .before .before .before .before .before .before .before .before .before .args .s) (c .before .before .before .before .before .before .before .before .before .before .before .before .before .before .before .before .before .before .pre .0) (c .before .before .before .before .before .before .before .before .before .before .before .before .before .before .before .before .before .before .args .m) _ (c .before .before .before .before .before .before .before .before .before .before .before .before .before .before .before .before .before .before .args .out .now) _ (c .before .before .before .before .before .before .before .write-deps .ensures .0) (c .before .before .before .before .before .before .before .write-deps .ensures .2) (c .before .before .before .before .before .before .before .before .before .before .before .before .before .before .before .before .before .before .args .vars) (c .before .before .before .before .before .before .before .before .before .before .before .before .before .before .before .before .before .before .pre .2 .count) (c .before .before .before .before .before .before .before .before .before .before .before .before .before .before .before .before .before .before .pre .2 .few) (c .before .before .before .before .before .before .before .before .before .before .before .before .before .before .before .before .before .before .pre .3), c .before .before .before .before .before .before .before .write-deps .ensures .1, counted-starts (c .before .before .before .before .before .before .before .before .before .before .before .before .before .before .before .before .before .before .args .f .now) (c .before .before .before .before .before .before .before .before .before .before .before .before .before .before .before .before .before .before .args .s) (c .before .before .before .before .before .before .before .before .before .before .before .before .before .before .before .before .before .before .pre .0) (c .before .before .before .before .before .before .before .before .before .before .before .before .before .before .before .before .before .before .args .m) _ (c .before .before .before .before .before .before .before .before .before .before .before .before .before .before .before .before .before .before .args .out .now) _ (c .before .before .before .before .before .before .before .write-deps .ensures .0) (c .before .before .before .before .before .before .before .write-deps .ensures .2) (c .before .before .before .before .before .before .before .before .before .before .before .before .before .before .before .before .before .before .args .vars) (c .before .before .before .before .before .before .before .before .before .before .before .before .before .before .before .before .before .before .pre .2 .count) (c .before .before .before .before .before .before .before .before .before .before .before .before .before .before .before .before .before .before .pre .2 .few) (c .before .before .before .before .before .before .before .before .before .before .before .before .before .before .before .before .before .before .pre .3), c .before .before .before .before .before .before .before .before .before .before .before .before .before .before .before .before .before .before .pre .4 .indexes-long)
+
+reach-time-requires : tie.Need-reach-time-requires
+reach-time-requires c κs = (counted-deps (c .before .before .before .before .before .before .before .before .before .before .before .before .before .before .before .before .before .before .before .before .before .before .before .before .args .f .now) (c .before .before .before .before .before .before .before .before .before .before .before .before .before .before .before .before .before .before .before .before .before .before .before .before .args .s) (c .before .before .before .before .before .before .before .before .before .before .before .before .before .before .before .before .before .before .before .before .before .before .before .before .pre .0) (c .before .before .before .before .before .before .before .before .before .before .before .before .before .before .before .before .before .before .before .before .before .before .before .before .args .m) _ (c .before .before .before .before .before .before .before .before .before .before .before .before .before .before .before .before .before .before .before .before .before .before .before .before .args .out .now) _ (c .before .before .before .before .before .before .before .before .before .before .before .before .before .write-deps .ensures .0) (c .before .before .before .before .before .before .before .before .before .before .before .before .before .write-deps .ensures .2) (c .before .before .before .before .before .before .before .before .before .before .before .before .before .before .before .before .before .before .before .before .before .before .before .before .args .vars) (c .before .before .before .before .before .before .before .before .before .before .before .before .before .before .before .before .before .before .before .before .before .before .before .before .pre .2 .count) (c .before .before .before .before .before .before .before .before .before .before .before .before .before .before .before .before .before .before .before .before .before .before .before .before .pre .2 .few) (c .before .before .before .before .before .before .before .before .before .before .before .before .before .before .before .before .before .before .before .before .before .before .before .before .pre .3), c .before .before .before .before .before .before .before .before .before .before .before .before .before .write-deps .ensures .1, c .before .before .before .before .before .before .before .before .before .before .before .before .before .before .before .before .before .before .before .before .before .before .before .before .pre .4 .reach-long, c .before .before .before .before .before .before .before .before .before .before .before .before .before .before .before .before .before .before .before .before .before .before .before .before .pre .4 .no-mark)
 
 rates-requires : tie.Need-rates-requires
-rates-requires c κs = search needs
+rates-requires c κs = (c .before .before .before .before .before .before .before .before .before .before .before .before .before .before .before .before .before .before .before .before .before .before .before .before .before .before .before .before .before .before .pre .2 .few, c .before .before .before .before .before .before .before .before .before .before .before .before .before .before .before .before .before .before .before .write-deps .ensures .1, c .before .before .before .before .before .reach-time .ensures .1, c .before .before .before .before .before .before .before .before .before .before .before .before .before .before .before .before .before .before .before .before .before .before .before .before .before .before .before .before .before .before .pre .4 .rates-long)
 
 same-length : tie.Need-same-length
 same-length c = search needs
 
+same-length-2 : tie.Need-same-length-2
+same-length-2 c = c .before .before .before .before .before .before .before .before .before .before .before .before .before .before .before .before .before .before .before .before .before .before .write-deps .ensures .1 ∙ sym (c .before .before .before .before .before .before .before .before .before .before .before .before .before .before .before .before .before .before .before .before .before .before .before .before .before .before .before .before .before .before .before .before .before .pre .4 .starts-long)
+
+same-length-3 : tie.Need-same-length-3
+same-length-3 c = c .before .before .before .before .before .before .before .before .before .before .before .before .before .before .indexes .ensures .1 ∙ sym (c .before .before .before .before .before .before .before .before .before .before .before .before .before .before .before .before .before .before .before .before .before .before .before .before .before .before .before .before .before .before .before .before .before .pre .4 .indexes-long)
+
+same-length-4 : tie.Need-same-length-4
+same-length-4 c = c .before .before .before .before .before .before .before .before .reach-time .ensures .1 ∙ sym (c .before .before .before .before .before .before .before .before .before .before .before .before .before .before .before .before .before .before .before .before .before .before .before .before .before .before .before .before .before .before .before .before .before .pre .4 .reach-long)
+
+same-length-5 : tie.Need-same-length-5
+same-length-5 c = c .before .before .rates .ensures .1 ∙ sym (c .before .before .before .before .before .before .before .before .before .before .before .before .before .before .before .before .before .before .before .before .before .before .before .before .before .before .before .before .before .before .before .before .before .pre .4 .rates-long)
+
 returns : tie.Need-returns
 returns c = (
-  tables-of (c .before .before .before .before .before .before .before .before .before .before .before .before .before .before .before .args .f .now) (c .before .before .before .before .before .before .before .before .before .before .before .before .before .before .before .args .s) (c .before .before .before .before .before .before .before .before .before .before .before .before .before .before .before .pre .0) (c .before .before .before .before .before .before .before .before .before .before .before .before .before .before .before .args .m) (c .before .before .before .before .before .before .before .before .before .before .before .write-deps .result) (c .before .before .before .before .before .before .before .before .before .before .before .before .before .before .before .args .out .now) _ (c .before .before .before .before .before .before .before .before .before .before .before .write-deps .ensures .0) (c .before .before .before .before .before .before .before .before .before .before .before .write-deps .ensures .1) (c .before .before .before .before .before .before .before .before .before .before .before .before .before .before .before .args .r .count) (c .before .before .before .before .before .before .before .before .before .before .before .before .before .before .before .pre .2 .count) (c .before .before .before .before .before .before .before .before .before .before .before .before .before .before .before .pre .2 .few) (c .before .before .before .before .before .before .before .before .before .before .before .before .before .before .before .pre .3) (c .before .before .before .before .before .before .reach-time .result) (c .before .before .before .before .before .before .reach-time .ensures) (c .before .before .before .indexes .result) (c .rates .result) (omega arith) (omega arith) (omega arith) (omega arith) (c .before .before .before .indexes .ensures) (c .rates .ensures),
-  c .before .before .before .before .before .before .before .before .before .before .before .write-deps .ensures .1 ∙ ap (λ ds. front (c .before .before .before .before .before .before .before .before .before .before .before .before .before .before .before .args .out .now) (bytesOf ds)) (sym (model-written (c .before .before .before .before .before .before .before .before .before .before .before .before .before .before .before .args .f .now) (c .before .before .before .before .before .before .before .before .before .before .before .before .before .before .before .args .s) (c .before .before .before .before .before .before .before .before .before .before .before .before .before .before .before .args .m))),
+  tables-of (c .before .before .before .before .before .before .before .before .before .before .before .before .before .before .before .before .before .before .before .before .before .before .before .before .before .before .before .before .before .before .before .before .before .args .f .now) (c .before .before .before .before .before .before .before .before .before .before .before .before .before .before .before .before .before .before .before .before .before .before .before .before .before .before .before .before .before .before .before .before .before .args .s) (c .before .before .before .before .before .before .before .before .before .before .before .before .before .before .before .before .before .before .before .before .before .before .before .before .before .before .before .before .before .before .before .before .before .pre .0) (c .before .before .before .before .before .before .before .before .before .before .before .before .before .before .before .before .before .before .before .before .before .before .before .before .before .before .before .before .before .before .before .before .before .args .m) _ (c .before .before .before .before .before .before .before .before .before .before .before .before .before .before .before .before .before .before .before .before .before .before .before .before .before .before .before .before .before .before .before .before .before .args .out .now) _ (c .before .before .before .before .before .before .before .before .before .before .before .before .before .before .before .before .before .before .before .before .before .before .write-deps .ensures .0) (c .before .before .before .before .before .before .before .before .before .before .before .before .before .before .before .before .before .before .before .before .before .before .write-deps .ensures .2) (c .before .before .before .before .before .before .before .before .before .before .before .before .before .before .before .before .before .before .before .before .before .before .before .before .before .before .before .before .before .before .before .before .before .args .vars) (c .before .before .before .before .before .before .before .before .before .before .before .before .before .before .before .before .before .before .before .before .before .before .before .before .before .before .before .before .before .before .before .before .before .pre .2 .count) (c .before .before .before .before .before .before .before .before .before .before .before .before .before .before .before .before .before .before .before .before .before .before .before .before .before .before .before .before .before .before .before .before .before .pre .2 .few) (c .before .before .before .before .before .before .before .before .before .before .before .before .before .before .before .before .before .before .before .before .before .before .before .before .before .before .before .before .before .before .before .before .before .pre .3) _ (c .before .before .before .before .before .before .before .before .reach-time .ensures .0) _ _ (c .before .before .before .before .before .before .before .before .before .before .before .before .before .before .before .before .before .before .before .before .before .before .write-deps .ensures .1) (c .before .before .before .before .before .before .before .before .before .before .before .before .before .before .indexes .ensures .1) (c .before .before .before .before .before .before .before .before .reach-time .ensures .1) (c .before .before .rates .ensures .1) (c .before .before .before .before .before .before .before .before .before .before .before .before .before .before .indexes .ensures .0) (c .before .before .rates .ensures .0),
+  c .before .before .before .before .before .before .before .before .before .before .before .before .before .before .before .before .before .before .before .before .before .before .write-deps .ensures .2 ∙ ap (λ ds. front (c .before .before .before .before .before .before .before .before .before .before .before .before .before .before .before .before .before .before .before .before .before .before .before .before .before .before .before .before .before .before .before .before .before .args .out .now) (bytesOf ds)) (sym (model-written (c .before .before .before .before .before .before .before .before .before .before .before .before .before .before .before .before .before .before .before .before .before .before .before .before .before .before .before .before .before .before .before .before .before .args .f .now) (c .before .before .before .before .before .before .before .before .before .before .before .before .before .before .before .before .before .before .before .before .before .before .before .before .before .before .before .before .before .before .before .before .before .args .s) (c .before .before .before .before .before .before .before .before .before .before .before .before .before .before .before .before .before .before .before .before .before .before .before .before .before .before .before .before .before .before .before .before .before .args .m))),
 )
 
 pub variable-tables-spec : {M : Type 1} → statement M
@@ -33,8 +44,12 @@ variable-tables-spec =
     tie.close
     (tie.spec
     write-deps-requires
-    reach-time-requires
     indexes-requires
+    reach-time-requires
     rates-requires
     same-length
+    same-length-2
+    same-length-3
+    same-length-4
+    same-length-5
     returns)

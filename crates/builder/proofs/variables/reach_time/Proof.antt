@@ -1,37 +1,67 @@
-use mathlib.Core.Path.{_≡_}
-use Prim.Native.Nat.{_-_, _≤_}
+use mathlib.Core.Path.{_≡_, sym, _∙_}
+use Prim.Native.Nat.{_+_, _-_, _≤_}
 use native.Mathlib.Omega.{arith}
-use lib.ListN.{replicate, getD-replicate}
+use borrow.Author.Needs.{needs}
+use borrow.Author.Tests.{not-true}
+use lib.ListN.{length}
 use Rattle.builder.specs.VariableTables.{TimeReached}
-use Rattle.builder.proofs.Timing.{reached-none, reached-more}
+use Rattle.builder.proofs.Timing.{reached-none, reached-more, reached-same, reached-end}
 use Rattle.builder.proofs.variables.reach_time.Statement.{statement}
 use Rattle.builder.proofs.variables.reach_time.Tie as tie
 
 abbrev Inv-loop : tie.InvT-loop
-Inv-loop deps starts vars table₀ k₀ table k = (k ≤ vars) × TimeReached starts deps vars k table
+Inv-loop deps starts vars table₀ k₀ table k = (k ≤ vars) × TimeReached starts deps vars k table × (length table ≡ 129)
 
 abbrev μ-loop : tie.MeasureT-loop
 μ-loop deps starts vars table₀ k₀ table k = vars - k
 
 loop-holds : tie.Need-loop-holds Inv-loop μ-loop
-loop-holds c = (omega arith, reached-none (c .before .args .starts .now) (c .before .args .deps .now) (c .before .args .vars) (replicate 129 0) (λ v h. getD-replicate 129 v 0 0 (omega (arith, c .before .pre .few))))
+loop-holds c = (omega arith, reached-none (c .before .before .before .args .starts .now) (c .before .before .before .args .deps .now) (c .before .before .before .args .vars) (c .before .before .before .args .table .now) (λ v h. c .before .before .before .pre .3 v), c .before .before .before .pre .2)
 
 time-round-requires : tie.Need-time-round-requires Inv-loop μ-loop
-time-round-requires c κs = c .before .before .before .before .pre
+time-round-requires c κs = (c .before .before .before .before .before .before .pre .0, c .before .before .before .before .before .before .pre .1, c .before .before .loop .inv .2)
+
+slice-aggregate-take-marks : tie.Need-slice-aggregate-take-marks Inv-loop μ-loop
+slice-aggregate-take-marks c = search needs
+
+take-marks-requires : tie.Need-take-marks-requires Inv-loop μ-loop
+take-marks-requires c κs = (omega (arith, c .before .before .before .before .before .before .before .before .before .pre .0 .few, c .before .before .before .before .before .loop .inv .2), omega (arith, c .before .before .before .before .before .before .before .before .before .pre .0 .few))
+
+same-length : tie.Need-same-length Inv-loop μ-loop
+same-length c = c .before .before .before .take-marks .ensures .1 ∙ c .before .before .before .before .before .before .before .before .before .loop .inv .2 ∙ sym (c .before .before .before .before .before .before .before .before .before .before .before .before .before .pre .2)
+
+returns : tie.Need-returns Inv-loop μ-loop
+returns c = (reached-same (c .before .before .before .before .before .before .before .before .before .before .before .before .before .args .starts .now) (c .before .before .before .before .before .before .before .before .before .before .before .before .before .args .deps .now) (c .before .before .before .before .before .before .before .before .before .before .before .before .before .args .vars) (c .before .before .before .before .before .before .before .before .before .before .before .before .before .args .vars) (c .before .before .before .before .before .before .time-round .result) _ (reached-end (c .before .before .before .before .before .before .before .before .before .before .before .before .before .args .starts .now) (c .before .before .before .before .before .before .before .before .before .before .before .before .before .args .deps .now) (c .before .before .before .before .before .before .before .before .before .before .before .before .before .args .vars) (c .before .before .before .before .before .before .before .before .before .loop .k) (c .before .before .before .before .before .before .before .before .before .loop .table) (c .before .before .before .before .before .before .time-round .result) (omega arith) (c .before .before .before .before .before .before .before .before .before .before .before .before .before .pre .0) (c .before .before .before .before .before .before .before .before .before .loop .inv .1) (c .before .before .before .before .before .before .time-round .ensures) (c .before .before .before .take-marks .ensures .2 (not-true _ (c .if1 .taken)))) (c .before .before .before .take-marks .ensures .0), c .before .before .before .take-marks .ensures .1 ∙ c .before .before .before .before .before .before .before .before .before .loop .inv .2)
 
 add-k : tie.Need-add-k Inv-loop μ-loop
-add-k c = omega (arith, c .before .before .before .before .before .pre .few)
+add-k c = omega (arith, c .before .before .before .before .before .before .before .before .before .before .before .before .before .pre .0 .few)
 
 loop-less : tie.Need-loop-less Inv-loop μ-loop
 loop-less c = omega arith
 
 loop-again : tie.Need-loop-again Inv-loop μ-loop
-loop-again c = (omega arith, reached-more (c .before .before .before .before .before .args .starts .now) (c .before .before .before .before .before .args .deps .now) (c .before .before .before .before .before .args .vars) (c .before .before .before .loop .k) (c .before .before .before .loop .table) (c .time-round .result) (c .before .before .before .before .before .pre) (c .before .before .before .loop .inv .1) (c .time-round .ensures))
+loop-again c = (omega arith, reached-same (c .before .before .before .before .before .before .before .before .before .before .before .before .before .args .starts .now) (c .before .before .before .before .before .before .before .before .before .before .before .before .before .args .deps .now) (c .before .before .before .before .before .before .before .before .before .before .before .before .before .args .vars) (c .before .before .before .before .before .before .before .before .before .loop .k + 1) (c .before .before .before .before .before .before .time-round .result) _ (reached-more (c .before .before .before .before .before .before .before .before .before .before .before .before .before .args .starts .now) (c .before .before .before .before .before .before .before .before .before .before .before .before .before .args .deps .now) (c .before .before .before .before .before .before .before .before .before .before .before .before .before .args .vars) (c .before .before .before .before .before .before .before .before .before .loop .k) (c .before .before .before .before .before .before .before .before .before .loop .table) (c .before .before .before .before .before .before .time-round .result) (c .before .before .before .before .before .before .before .before .before .before .before .before .before .pre .0) (c .before .before .before .before .before .before .before .before .before .loop .inv .1) (c .before .before .before .before .before .before .time-round .ensures)) (c .before .before .before .take-marks .ensures .0), c .before .before .before .take-marks .ensures .1 ∙ c .before .before .before .before .before .before .before .before .before .loop .inv .2)
 
-returns : tie.Need-returns Inv-loop μ-loop
-returns c = let e : c .before .loop .k ≡ c .before .before .before .args .vars = omega arith in rw e at (c .before .loop .inv .1)
+same-length-2 : tie.Need-same-length-2 Inv-loop μ-loop
+same-length-2 c = c .before .loop .inv .2 ∙ sym (c .before .before .before .before .before .pre .2)
+
+returns-2 : tie.Need-returns-2 Inv-loop μ-loop
+returns-2 c = let e : c .before .loop .k ≡ c .before .before .before .before .before .args .vars = omega arith in (rw e at (c .before .loop .inv .1), c .before .loop .inv .2)
 
 pub reach-time-spec : {M : Type 1} → statement M
 reach-time-spec =
     tie.close
-    (tie.spec Inv-loop μ-loop loop-holds time-round-requires add-k loop-less loop-again returns)
+    (tie.spec
+    Inv-loop
+    μ-loop
+    loop-holds
+    time-round-requires
+    slice-aggregate-take-marks
+    take-marks-requires
+    same-length
+    returns
+    add-k
+    loop-less
+    loop-again
+    same-length-2
+    returns-2)

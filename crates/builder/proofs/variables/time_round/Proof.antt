@@ -18,47 +18,47 @@ loop-holds : tie.Need-loop-holds Inv-loop μ-loop
 loop-holds c = (omega arith, refl, λ w h. absurd (omega arith))
 
 mul-reaches-time : tie.Need-mul-reaches-time Inv-loop μ-loop
-mul-reaches-time c = omega (arith, c .before .before .before .pre .few)
+mul-reaches-time c = omega (arith, c .before .before .before .before .before .pre .0 .few)
 
-element-copy-out-reaches-time : tie.Need-element-copy-out-reaches-time Inv-loop μ-loop
-element-copy-out-reaches-time c = omega (arith, c .before .before .before .pre .few)
+shared-slice-read-reaches-time : tie.Need-shared-slice-read-reaches-time Inv-loop μ-loop
+shared-slice-read-reaches-time c = omega (arith, c .before .before .before .before .before .before .pre .0 .few)
 
 cast-reaches-time : tie.Need-cast-reaches-time Inv-loop μ-loop
-cast-reaches-time c = let v = c .before .before .loop .v in omega (arith, c .before .before .before .before .pre .few, c .before .before .before .before .pre .rise v (omega arith), c .before .before .before .before .pre .within v (omega arith))
+cast-reaches-time c = let v = c .before .before .loop .v in omega (arith, c .before .before .before .before .before .before .pre .0 .few, c .before .before .before .before .before .before .pre .0 .rise v (omega arith), c .before .before .before .before .before .before .pre .0 .within v (omega arith))
 
 add-reaches-time : tie.Need-add-reaches-time Inv-loop μ-loop
-add-reaches-time c = omega (arith, c .before .before .before .before .pre .few)
+add-reaches-time c = omega (arith, c .before .before .before .before .before .before .pre .0 .few)
 
 mul-reaches-time-2 : tie.Need-mul-reaches-time-2 Inv-loop μ-loop
-mul-reaches-time-2 c = omega (arith, c .before .before .before .before .pre .few)
+mul-reaches-time-2 c = omega (arith, c .before .before .before .before .before .before .pre .0 .few)
 
-element-copy-out-reaches-time-2 : tie.Need-element-copy-out-reaches-time-2 Inv-loop μ-loop
-element-copy-out-reaches-time-2 c = omega (arith, c .before .before .before .before .pre .few)
+shared-slice-read-reaches-time-2 : tie.Need-shared-slice-read-reaches-time-2 Inv-loop μ-loop
+shared-slice-read-reaches-time-2 c = omega (arith, c .before .before .before .before .before .before .before .pre .0 .few)
 
 cast-reaches-time-2 : tie.Need-cast-reaches-time-2 Inv-loop μ-loop
-cast-reaches-time-2 c = let v = c .before .before .before .loop .v in omega (arith, c .before .before .before .before .before .pre .few, c .before .before .before .before .before .pre .rise v (omega arith), c .before .before .before .before .before .pre .within v (omega arith))
+cast-reaches-time-2 c = let v = c .before .before .before .loop .v in omega (arith, c .before .before .before .before .before .before .before .pre .0 .few, c .before .before .before .before .before .before .before .pre .0 .rise v (omega arith), c .before .before .before .before .before .before .before .pre .0 .within v (omega arith))
 
 reaches-time-requires : tie.Need-reaches-time-requires Inv-loop μ-loop
-reaches-time-requires c κs = let l : c .before .before .before .loop .v < c .before .before .before .before .before .args .vars = omega arith in
-    (c .before .before .before .before .before .pre .rise (c .before .before .before .loop .v) l, c .before .before .before .before .before .pre .within (c .before .before .before .loop .v) l, unfold nextIn in all-wider (c .before .before .before .before .before .args .vars) 129 (nextIn (c .before .before .before .before .before .args .starts .now) (c .before .before .before .before .before .args .deps .now) (c .before .before .before .loop .v)) (c .before .before .before .before .before .pre .few) (c .before .before .before .before .before .pre .below (c .before .before .before .loop .v) l))
+reaches-time-requires c κs = let l : c .before .before .before .loop .v < c .before .before .before .before .before .before .before .args .vars = omega arith in
+    (c .before .before .before .before .before .before .before .pre .0 .rise (c .before .before .before .loop .v) l, c .before .before .before .before .before .before .before .pre .0 .within (c .before .before .before .loop .v) l, unfold nextIn in all-wider (c .before .before .before .before .before .before .before .args .vars) 129 (nextIn (c .before .before .before .before .before .before .before .args .starts .now) (c .before .before .before .before .before .before .before .args .deps .now) (c .before .before .before .loop .v)) (c .before .before .before .before .before .before .before .pre .0 .few) (c .before .before .before .before .before .before .before .pre .0 .below (c .before .before .before .loop .v) l), c .before .before .before .before .before .before .before .pre .2)
 
 mark-requires : tie.Need-mark-requires Inv-loop μ-loop
 mark-requires c κs = tt
 
 array-write-new : tie.Need-array-write-new Inv-loop μ-loop
-array-write-new c = omega (arith, c .before .before .before .before .before .loop .inv .1, c .before .before .before .before .before .before .before .pre .few)
+array-write-new c = omega (arith, c .before .before .before .before .before .loop .inv .1, c .before .before .before .before .before .before .before .before .before .pre .0 .few)
 
 add-v : tie.Need-add-v Inv-loop μ-loop
-add-v c = omega (arith, c .before .before .before .before .before .before .before .pre .few)
+add-v c = omega (arith, c .before .before .before .before .before .before .before .before .before .pre .0 .few)
 
 loop-less : tie.Need-loop-less Inv-loop μ-loop
 loop-less c = omega arith
 
 loop-again : tie.Need-loop-again Inv-loop μ-loop
-loop-again c = (omega arith, simp length-set (c .before .before .before .before .before .loop .inv .1), round-more (c .before .before .before .before .before .before .before .args .starts .now) (c .before .before .before .before .before .before .before .args .deps .now) (c .before .before .before .before .before .before .before .args .vars) (c .before .before .before .before .before .before .before .args .old .now) (c .before .before .before .before .before .loop .new) (c .before .before .before .before .before .loop .v) (c .mark .result) (omega (arith, c .before .before .before .before .before .loop .inv .1, c .before .before .before .before .before .before .before .pre .few)) (unfold nextIn in c .mark .ensures ∙ ap flag (c .before .reaches-time .ensures)) (c .before .before .before .before .before .loop .inv .2))
+loop-again c = (omega arith, simp length-set (c .before .before .before .before .before .loop .inv .1), round-more (c .before .before .before .before .before .before .before .before .before .args .starts .now) (c .before .before .before .before .before .before .before .before .before .args .deps .now) (c .before .before .before .before .before .before .before .before .before .args .vars) (c .before .before .before .before .before .before .before .before .before .args .old .now) (c .before .before .before .before .before .loop .new) (c .before .before .before .before .before .loop .v) (c .mark .result) (omega (arith, c .before .before .before .before .before .loop .inv .1, c .before .before .before .before .before .before .before .before .before .pre .0 .few)) (unfold nextIn in c .mark .ensures ∙ ap flag (c .before .reaches-time .ensures)) (c .before .before .before .before .before .loop .inv .2))
 
 returns : tie.Need-returns Inv-loop μ-loop
-returns c = let e : c .before .loop .v ≡ c .before .before .before .args .vars = omega arith in record { mark = rw e at (c .before .loop .inv .2) }
+returns c = let e : c .before .loop .v ≡ c .before .before .before .before .before .args .vars = omega arith in record { mark = rw e at (c .before .loop .inv .2) }
 
 pub time-round-spec : {M : Type 1} → statement M
 time-round-spec =
@@ -68,11 +68,11 @@ time-round-spec =
     μ-loop
     loop-holds
     mul-reaches-time
-    element-copy-out-reaches-time
+    shared-slice-read-reaches-time
     cast-reaches-time
     add-reaches-time
     mul-reaches-time-2
-    element-copy-out-reaches-time-2
+    shared-slice-read-reaches-time-2
     cast-reaches-time-2
     reaches-time-requires
     mark-requires
