@@ -14,14 +14,14 @@ use Rattle.ast.specs.Tree.{Span, Expr, name, number, binary, unary, call, Args,
 use Rattle.ast.specs.Words.{wordOf}
 use Rattle.ast.specs.Nodes.{treeAt}
 use Rattle.ast.proofs.Formed.{WellFormed, tree-formed}
-use Rattle.builder.specs.Variables.{Error, Bounds, at, timeIndex}
-use Rattle.builder.specs.Check.{Scope, lookup}
-use Rattle.builder.specs.Roles.{Start, starts, rates, free, startOf, takesRate, rateRole, rateErrors, atLower, startRole, startErrors, roleOf, roleErrors, shortFor, shortCall, shortLeft, tooShort}
+use Rattle.definitions.specs.Variables.{Error, Bounds, at, timeIndex}
+use Rattle.definitions.specs.Check.{Scope, lookup}
+use Rattle.definitions.specs.Roles.{Start, starts, rates, free, startOf, takesRate, rateRole, rateErrors, atLower, startRole, startErrors, roleOf, roleErrors, shortFor, shortCall, shortLeft, tooShort}
 use Rattle.builder.specs.Tables.{roleNumber}
 use Rattle.builder.specs.declared.places.Sizes.{Sizes}
 use Rattle.builder.specs.Allocating.{flatAt, nodesIn, stmtIn, flatIn, flatsIn, Flattened, lessOne, entryBy, startBy, fewFor, shortCallBy, shortLeftBy, shortBy, startNumber, startErrorsBy, rateNumber, rateErrorsBy, roleBy, roleErrorsBy, Agree}
 use Rattle.builder.proofs.Flats.{flats-count, flat-at, flat-equation, flat-rate}
-use Rattle.builder.proofs.ListLaws.{flag-one, place-below}
+use Rattle.definitions.proofs.ListLaws.{flag-one, place-below}
 
 -- A statement whose names there are.
 abbrev pub FlatFormed : ℕ → Flat → Type 0

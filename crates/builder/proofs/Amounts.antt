@@ -14,12 +14,12 @@ use Rattle.ast.specs.Rows.{atMost}
 use Rattle.ast.specs.Opens.{Open, fileIn}
 use Rattle.ast.specs.declared.sections.Sections.{Sections}
 use Rattle.ast.proofs.FromBytes.{length-each}
-use Rattle.builder.specs.Flatten.{modelNamed, modelAt, subFlats, stmtFlats, stmtModels, submodels, flatten, instances}
+use Rattle.definitions.specs.Flatten.{modelNamed, modelAt, subFlats, stmtFlats, stmtModels, submodels, flatten, instances}
 use Rattle.builder.specs.Tables.{calleeOf}
 use Rattle.builder.specs.Checking.{stmtIn}
 use Rattle.builder.proofs.Open.{modelRecord}
 use Rattle.builder.proofs.OpenRecords.{model-is}
-use Rattle.builder.proofs.ListLaws.{sum-append}
+use Rattle.definitions.proofs.ListLaws.{sum-append}
 
 -- ---- counts with a most
 

@@ -15,9 +15,9 @@ use Rattle.ast.specs.File as file
 use Rattle.ast.specs.declared.sections.Counts.{Counts}
 use Rattle.ast.specs.declared.open.Opened.the-variants as opens-as
 use Rattle.ast.specs.Opens.{outcome, opens}
-use Rattle.builder.specs.Flatten.{instances, cyclic, selfListed, overfull}
-use Rattle.builder.specs.Answer.{Answer}
-use Rattle.builder.specs.Build.{Result, refusal, accepted, tooBig, anyShort, allocated, answerOfModel, rootOf, answerOfRoot, answerInFile, answer, fitted, written, build, told, resultArea}
+use Rattle.definitions.specs.Flatten.{instances, cyclic, selfListed, overfull}
+use Rattle.definitions.specs.Answer.{Answer}
+use Rattle.definitions.specs.Build.{Result, refusal, accepted, tooBig, anyShort, allocated, answerOfModel, rootOf, answerOfRoot, answerInFile, answer, fitted, written, build, told, resultArea}
 use Rattle.builder.specs.Root.{flatsOf, scopeAt, answerAt, forbiddenOf, sizeOf, measureOf, given, usedIn, bytesIn, fittedIn}
 use Rattle.builder.specs.declared.measure.Measured as measured
 use Rattle.builder.specs.declared.measure.Measured.the-variants.{Refused, Sized}

@@ -7,8 +7,8 @@ use lib.ListN.{length, take, drop, length-append}
 use lib.Seq.{length-take-le, take-at, drop-at, drop-append-add, drop-drop, take-add}
 use Rattle.ast.specs.Bytes.{front, put}
 use Rattle.ast.specs.Encode.{encode}
-use Rattle.builder.specs.Variables.{Error}
-use Rattle.builder.specs.Answer.{errorWords}
+use Rattle.definitions.specs.Variables.{Error}
+use Rattle.definitions.specs.Answer.{errorWords}
 use Rattle.builder.specs.Listing.{listed}
 use Rattle.builder.specs.Allocating.{listedAt}
 use Rattle.builder.specs.Root.{part}

@@ -18,10 +18,10 @@ use Rattle.ast.specs.Numbers.{numberOf, domainValue}
 use Rattle.ast.specs.declared.numbers.Bounds as declared
 use Rattle.ast.specs.declared.sections.Sections.{Sections}
 use Rattle.ast.specs.Opens.{Open, contentsIn, fileIn}
-use Rattle.builder.specs.Names.{isTime, isNonNegative}
-use Rattle.builder.specs.Variables.{Bounds, infinity, minusInfinity, fromZero, unbounded, domainBounds, lastBounds}
-use Rattle.builder.specs.Flatten.{modelAt}
-use Rattle.builder.specs.Answer.{boundsWords}
+use Rattle.definitions.specs.Names.{isTime, isNonNegative}
+use Rattle.definitions.specs.Variables.{Bounds, infinity, minusInfinity, fromZero, unbounded, domainBounds, lastBounds}
+use Rattle.definitions.specs.Flatten.{modelAt}
+use Rattle.definitions.specs.Answer.{boundsWords}
 use Rattle.builder.specs.Bounding.{boundsFrom, floats, bitsOf, caseBounds, unknownBounds, declaredBounds, LastDeclared}
 use Rattle.builder.proofs.Open.{modelRecord, unknownRecord}
 use Rattle.builder.proofs.OpenRecords.{unknown-is, model-is}

@@ -10,17 +10,17 @@ use lib.Dec.{eqb}
 use Rattle.functions.specs.Lists.{plusOne, toList, place}
 use Rattle.ast.specs.Tree.{Stmt, own, submodel, File}
 use Rattle.ast.specs.Nodes.{kindAt}
-use Rattle.builder.specs.Flatten.{modelNamed, modelAt, stmtModels, submodels}
+use Rattle.definitions.specs.Flatten.{modelNamed, modelAt, stmtModels, submodels}
 use Rattle.builder.specs.Tables.{calleeOf, Callees}
 use Rattle.ast.specs.Records.{kindOfStmt, rightTop, stmtOf}
 use Rattle.ast.specs.Opens.{Open, contentsIn, fileIn}
 use Rattle.ast.specs.declared.sections.Sections.{Sections}
 use Rattle.ast.specs.WellFormed.{Each}
 use Rattle.ast.proofs.FromBytes.{every-each}
-use Rattle.builder.proofs.Everywhere.{all-every}
+use Rattle.definitions.proofs.Everywhere.{all-every}
 use Rattle.builder.proofs.OpenRecords.{long, stmt-is}
-use Rattle.builder.proofs.ListLaws.{place-small, place-below}
-use Rattle.builder.proofs.StmtKinds.{stmt-equation, stmt-rate, by-stmt-kind}
+use Rattle.definitions.proofs.ListLaws.{place-small, place-below}
+use Rattle.definitions.proofs.StmtKinds.{stmt-equation, stmt-rate, by-stmt-kind}
 
 -- ---- the model that a statement stmtModels is one of the models
 

@@ -22,10 +22,10 @@ use Rattle.ast.specs.declared.sections.Sections.{Sections}
 use Rattle.ast.proofs.Fields.{length-section}
 use Rattle.ast.proofs.Trees.{tree-name}
 use Rattle.ast.proofs.Sizes.{count-before}
-use Rattle.builder.specs.Names.{textOf, isBuiltIn, allowsCount}
-use Rattle.builder.specs.Variables.{error, at}
-use Rattle.builder.specs.Check.{Scope, lookup, countFits, keywordErrors, dependentErrors, variableErrors, callErrors, exprErrors}
-use Rattle.builder.specs.Flatten.{scopeOf}
+use Rattle.definitions.specs.Names.{textOf, isBuiltIn, allowsCount}
+use Rattle.definitions.specs.Variables.{error, at}
+use Rattle.definitions.specs.Check.{Scope, lookup, countFits, keywordErrors, dependentErrors, variableErrors, callErrors, exprErrors}
+use Rattle.definitions.specs.Flatten.{scopeOf}
 use Rattle.builder.specs.Tables.{classOf, ruleNumber, numbered, entryOf}
 use Rattle.builder.specs.Checking.{nodesOf, scopeIn, treeIn, argsIn, argsOf, keptNames, NodeIn, ExprIn, CallIn, ArgsIn, Scoped, Against}
 use Rattle.builder.proofs.Listings.{Joins}

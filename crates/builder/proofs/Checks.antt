@@ -15,8 +15,8 @@ use Rattle.ast.specs.declared.sections.Sections.{Sections}
 use Rattle.ast.proofs.Files.{parts}
 use Rattle.ast.proofs.Fitting.{NodeOk, LastArg, node-ok, last-arg}
 use Rattle.ast.proofs.Trees.{args-more, args-none}
-use Rattle.builder.specs.Variables.{Error, error}
-use Rattle.builder.specs.Check.{Scope, hasKeyword, keywordErrors, dependentErrors, exprErrors, argsErrors}
+use Rattle.definitions.specs.Variables.{Error, error}
+use Rattle.definitions.specs.Check.{Scope, hasKeyword, keywordErrors, dependentErrors, exprErrors, argsErrors}
 use Rattle.builder.proofs.Listings.{Joins}
 use Rattle.builder.specs.Checking.{nodesOf, treeIn, argsIn, NodeIn, ExprIn, ArgsIn}
 

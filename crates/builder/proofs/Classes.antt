@@ -10,7 +10,7 @@ use lib.ListN.{length, take, drop, getD}
 use Rattle.functions.specs.Lists.{text, sameText, oneOf, all}
 use Rattle.functions.proofs.Lists.{clash, and-both, drop-here, drop-past, every, every-from}
 use Rattle.functions.proofs.Texts.{same-text-equal, equal-same-text}
-use Rattle.builder.specs.Names.{textOf, spells, reserved, builtIns, isTime, isReserved, isBuiltIn, isNonNegative, isReal}
+use Rattle.definitions.specs.Names.{textOf, spells, reserved, builtIns, isTime, isReserved, isBuiltIn, isNonNegative, isReal}
 use Rattle.builder.specs.Tables.{deciding, classFrom, classOf}
 use Rattle.builder.specs.Stored.{storedTexts, storedPlaces}
 

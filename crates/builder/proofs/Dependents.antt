@@ -12,11 +12,11 @@ use Rattle.functions.specs.Lists.{any, place, each, isSome, toList, member}
 use Rattle.functions.proofs.Lists.{clash}
 use Rattle.functions.proofs.Places.{place-at}
 use Rattle.ast.specs.Tree.{Unknown, Model, File}
-use Rattle.builder.specs.Variables.{Variable, variable, variablesOf, variableNames, numberOf, keptDeps, noVariable, at}
-use Rattle.builder.specs.Check.{lookup, depNames}
-use Rattle.builder.specs.Flatten.{scopeOf}
+use Rattle.definitions.specs.Variables.{Variable, variable, variablesOf, variableNames, numberOf, keptDeps, noVariable, at}
+use Rattle.definitions.specs.Check.{lookup, depNames}
+use Rattle.definitions.specs.Flatten.{scopeOf}
 use Rattle.builder.specs.Checking.{keptNames}
-use Rattle.builder.proofs.ListLaws.{any-append, place-map}
+use Rattle.definitions.proofs.ListLaws.{any-append, place-map}
 
 -- ---- lists
 

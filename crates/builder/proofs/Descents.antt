@@ -25,16 +25,16 @@ use Rattle.ast.specs.Opens.{Open, contentsIn, fileIn}
 use Rattle.ast.specs.declared.sections.Sections.{Sections}
 use Rattle.ast.proofs.Filling.{levels-same}
 use Rattle.ast.proofs.Opened.{ranges}
-use Rattle.builder.specs.Flatten.{replacements, modelNamed, modelAt, subFlats, stmtFlats, flatten}
+use Rattle.definitions.specs.Flatten.{replacements, modelNamed, modelAt, subFlats, stmtFlats, flatten}
 use Rattle.builder.specs.Tables.{Callees}
 use Rattle.builder.specs.Descent.{flatAt, broughtAt, RowsIn, RowsKept}
 use Rattle.builder.proofs.Flattening.{map-each, flats-found}
 use Rattle.builder.proofs.OpenStmts.{nodes-from, nodes-few, names-few, called-none, called-some}
-use Rattle.builder.proofs.ListLaws.{sum-append}
+use Rattle.definitions.proofs.ListLaws.{sum-append}
 use Rattle.builder.proofs.OpenRecords.{passes, model-is}
 use Rattle.builder.proofs.Amounts.{at-most-add}
-use Rattle.builder.proofs.Counts.{or-false}
-use Rattle.builder.proofs.StmtKinds.{stmt-equation, stmt-rate, stmt-submodel}
+use Rattle.definitions.proofs.Counts.{or-false}
+use Rattle.definitions.proofs.StmtKinds.{stmt-equation, stmt-rate, stmt-submodel}
 
 -- ---- two tests at once
 

@@ -9,16 +9,16 @@ use Rattle.functions.specs.Lists.{each}
 use Rattle.ast.specs.Tree.{File, Flat}
 use Rattle.ast.specs.Opens.{Open, fileIn}
 use Rattle.ast.specs.declared.sections.Sections.{Sections}
-use Rattle.builder.specs.Variables.{Error}
-use Rattle.builder.specs.Flatten.{modelAt, errorsOf}
-use Rattle.builder.specs.Allocate.{countErrors}
+use Rattle.definitions.specs.Variables.{Error}
+use Rattle.definitions.specs.Flatten.{modelAt, errorsOf}
+use Rattle.definitions.specs.Allocate.{countErrors}
 use Rattle.builder.specs.Places.{errorsAt}
 use Rattle.builder.specs.Listing.{Lists, Room}
 use Rattle.builder.specs.Allocating.{nodesIn, stmtsIn, flatsIn, Flattened, ListsAt, roleErrorsBy}
 use Rattle.builder.specs.Starting.{Righted, startingIn}
 use Rattle.builder.specs.Root.{errorsBy}
 use Rattle.builder.specs.declared.places.Sizes.{Sizes}
-use Rattle.builder.proofs.ErrorCount.{length-counts}
+use Rattle.definitions.proofs.ErrorCount.{length-counts}
 use Rattle.builder.proofs.Flats.{flats-count}
 use Rattle.builder.proofs.ListedAt.{Kept, kept-listed, kept-flats, kept-flattened, lists-length, then-at, lent-listed}
 use Rattle.builder.proofs.OpenRecords.{long}

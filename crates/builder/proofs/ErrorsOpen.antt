@@ -10,10 +10,10 @@ use Rattle.ast.specs.Write.{stmtSize}
 use Rattle.ast.specs.Opens.{Open, contentsIn, fileIn}
 use Rattle.ast.specs.declared.sections.Sections.{Sections}
 use Rattle.ast.proofs.Files.{parts}
-use Rattle.builder.specs.Flatten.{modelAt, errorsOf, instances}
-use Rattle.builder.proofs.Opened.{few-unknowns}
+use Rattle.definitions.specs.Flatten.{modelAt, errorsOf, instances}
+use Rattle.definitions.proofs.Opened.{few-unknowns}
 use Rattle.builder.proofs.Open.{unknown-records}
-use Rattle.builder.proofs.ErrorCount.{length-errors, stmts-total, few-nodes}
+use Rattle.definitions.proofs.ErrorCount.{length-errors, stmts-total, few-nodes}
 
 module _ (f : List ℕ) (s : Sections) (o : Open f s) where
   open-nodes : (m : ℕ) → sumOf stmtSize (modelAt (fileIn f s) m .stmts) ≤ 1024

@@ -7,7 +7,7 @@ use Rattle.ast.specs.Nodes.{kindAt, nameAt, opAt, sizeAt, spanAt}
 use Rattle.ast.specs.declared.sections.Sections.{Sections}
 use Rattle.ast.proofs.Fitting.{expr-kind, two-below}
 use Rattle.ast.proofs.Trees.{tree-number, tree-binary, tree-unary, tree-call}
-use Rattle.builder.specs.Check.{Scope, callErrors, exprErrors, argsErrors}
+use Rattle.definitions.specs.Check.{Scope, callErrors, exprErrors, argsErrors}
 use Rattle.builder.specs.Checking.{nodesOf, treeIn, argsIn, argsOf, ExprIn, CallIn}
 use Rattle.builder.proofs.Listings.{Joins}
 use Rattle.builder.proofs.Checks.{nodes-fit, node-here}

@@ -12,10 +12,10 @@ use Rattle.functions.specs.Lists.{any, keep, place, placeFrom, member, times, f
 use Rattle.functions.proofs.Lists.{clash}
 use Rattle.ast.specs.Tree.{Flat, equation, rate, flatSize}
 use Rattle.ast.specs.Words.{wordOf}
-use Rattle.builder.specs.Variables.{Variable, at, isState}
-use Rattle.builder.specs.Roles.{Role, starts, rates, free}
-use Rattle.builder.specs.Allocate.{Fate, initial, held, replaced, leftOver, isRateOf, isFree, rateFate, fatesOf, numbersFrom, lacking, leftCount, pairedStates, isHeldBy, isInitialOf, heldBy, conditions}
-use Rattle.builder.specs.Answer.{fateNumber, fateVariable, flatWords, flatRecords}
+use Rattle.definitions.specs.Variables.{Variable, at, isState}
+use Rattle.definitions.specs.Roles.{Role, starts, rates, free}
+use Rattle.definitions.specs.Allocate.{Fate, initial, held, replaced, leftOver, isRateOf, isFree, rateFate, fatesOf, numbersFrom, lacking, leftCount, pairedStates, isHeldBy, isInitialOf, heldBy, conditions}
+use Rattle.definitions.specs.Answer.{fateNumber, fateVariable, flatWords, flatRecords}
 use Rattle.builder.specs.Tables.{roleNumber, lacksIn, lackingIn}
 use Rattle.builder.specs.Fating.{leftIn, fateIn, queueIn, fatesIn, withFate, fated, isFated}
 

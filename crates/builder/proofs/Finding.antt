@@ -17,14 +17,14 @@ use Rattle.ast.specs.Nodes.{nameAt}
 use Rattle.ast.specs.Records.{kindOfStmt, stmtOf}
 use Rattle.ast.specs.declared.sections.Sections.{Sections}
 use Rattle.ast.specs.Opens.{Open, contentsIn, fileIn}
-use Rattle.builder.specs.Names.{textOf, spells}
-use Rattle.builder.specs.Flatten.{noModel, modelAt, modelNamed}
-use Rattle.builder.specs.Build.{rootOf}
+use Rattle.definitions.specs.Names.{textOf, spells}
+use Rattle.definitions.specs.Flatten.{noModel, modelAt, modelNamed}
+use Rattle.definitions.specs.Build.{rootOf}
 use Rattle.builder.specs.Tables.{calleeOf}
 use Rattle.builder.proofs.Open.{modelRecord, stmtRecord, models-long, model-name-is}
 use Rattle.builder.proofs.OpenRecords.{stmt-is}
-use Rattle.builder.proofs.ListLaws.{place-small}
-use Rattle.builder.proofs.StmtKinds.{stmt-submodel}
+use Rattle.definitions.proofs.ListLaws.{place-small}
+use Rattle.definitions.proofs.StmtKinds.{stmt-submodel}
 
 -- ---- the first model that passes, plus 1
 

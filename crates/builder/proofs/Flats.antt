@@ -15,7 +15,7 @@ use Rattle.ast.specs.Words.{wordOf, spanFrom}
 use Rattle.ast.specs.Nodes.{nameAt, bitsAt, treeAt}
 use Rattle.ast.specs.Numbers.{numberOf, sameNumber}
 use Rattle.ast.proofs.Fields.{length-section}
-use Rattle.builder.specs.Roles.{sameFloat}
+use Rattle.definitions.specs.Roles.{sameFloat}
 use Rattle.builder.specs.Places.{stmtsAt}
 use Rattle.builder.specs.declared.places.Sizes.{Sizes}
 use Rattle.builder.specs.declared.allocate.Start.{Start}

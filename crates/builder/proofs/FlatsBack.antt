@@ -19,16 +19,16 @@ use Rattle.ast.proofs.Formed.{WellFormed}
 use Rattle.ast.proofs.FromBytes.{joined, bytes-joined, section-joined, Wide}
 use Rattle.ast.proofs.Roundtrip.{Holds, holds-left, holds-right, stands, tree-back}
 use Rattle.ast.proofs.StmtsBack.{size-pos}
-use Rattle.builder.specs.Roles.{roleOf}
-use Rattle.builder.specs.Allocate.{Fate}
-use Rattle.builder.specs.Answer.{fateNumber, fateVariable, flatWords, flatRecords}
+use Rattle.definitions.specs.Roles.{roleOf}
+use Rattle.definitions.specs.Allocate.{Fate}
+use Rattle.definitions.specs.Answer.{fateNumber, fateVariable, flatWords, flatRecords}
 use Rattle.builder.specs.Unfated.{unfatedWords, unfated}
 use Rattle.builder.specs.Places.{Small, stmtsAt, varsAt, depsAt, errorsAt}
 use Rattle.builder.specs.Allocating.{flatAt, nodesIn, stmtsIn, flatsIn, Flattened}
 use Rattle.builder.specs.Starting.{Righted}
 use Rattle.builder.specs.Root.{flatsOf, scopeAt, timeAt, rolesAt, fatesAt, SizesOf, part, Laid, Unfated, Fated}
 use Rattle.builder.specs.declared.places.Sizes.{Sizes}
-use Rattle.builder.proofs.Lengths.{length-flat-nodes, nodes-wide, count-nodes, length-fates}
+use Rattle.definitions.proofs.Lengths.{length-flat-nodes, nodes-wide, count-nodes, length-fates}
 use Rattle.builder.proofs.Allocations.{FlatFormed}
 use Rattle.builder.proofs.FlatsFormed.{formed}
 

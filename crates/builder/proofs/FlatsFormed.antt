@@ -19,11 +19,11 @@ use Rattle.ast.proofs.Fitting.{node-ok}
 use Rattle.ast.proofs.Formed.{WellFormed, WellFormedArgs, FormedIf, tree-formed, args-formed, subst-formed}
 use Rattle.ast.proofs.Files.{Parts, parts, top-is, equation-tops, rate-top, submodel-top}
 use Rattle.ast.proofs.ToBytes.{every-take, every-drop}
-use Rattle.builder.specs.Flatten.{noModel, modelAt, flatten}
-use Rattle.builder.proofs.Everywhere.{all-getD}
+use Rattle.definitions.specs.Flatten.{noModel, modelAt, flatten}
+use Rattle.definitions.proofs.Everywhere.{all-getD}
 use Rattle.builder.proofs.Allocations.{FlatFormed}
-use Rattle.builder.proofs.StmtKinds.{stmt-cases}
-use Rattle.builder.proofs.FlattenKeeps.{flatten-keeps}
+use Rattle.definitions.proofs.StmtKinds.{stmt-cases}
+use Rattle.definitions.proofs.FlattenKeeps.{flatten-keeps}
 
 abbrev StmtFormed : ℕ → Stmt → Type 0
 StmtFormed names (own q) = FlatFormed names q

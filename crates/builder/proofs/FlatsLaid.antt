@@ -17,9 +17,9 @@ use Rattle.ast.specs.declared.sections.Sections.{Sections}
 use Rattle.ast.proofs.Encodes.{encode-one}
 use Rattle.ast.proofs.Fronts.{lent-put, put-zero}
 use Rattle.ast.proofs.UnknownsBack.{float-back}
-use Rattle.builder.specs.Variables.{Bounds, fromZero, lastBounds}
-use Rattle.builder.specs.Flatten.{modelAt, flatten}
-use Rattle.builder.specs.Answer.{boundsWords}
+use Rattle.definitions.specs.Variables.{Bounds, fromZero, lastBounds}
+use Rattle.definitions.specs.Flatten.{modelAt, flatten}
+use Rattle.definitions.specs.Answer.{boundsWords}
 use Rattle.builder.specs.Descent.{flatAt, RowsIn, RowsKept}
 use Rattle.builder.specs.Unfated.{unfated, RecordsFit, Recorded}
 use Rattle.builder.specs.Bounding.{boundsFrom}
@@ -28,7 +28,7 @@ use Rattle.builder.proofs.Flattening.{map-none}
 use Rattle.builder.proofs.Open.{models-long}
 use Rattle.builder.proofs.Putting.{length-flats}
 use Rattle.builder.proofs.Recording.{fits-same}
-use Rattle.builder.proofs.Sections.{section-back}
+use Rattle.definitions.proofs.Sections.{section-back}
 use Rattle.builder.proofs.Puts.{length-put}
 
 -- ---- a lent rest

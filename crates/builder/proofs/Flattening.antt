@@ -8,7 +8,7 @@ use Rattle.ast.specs.Tree.{Span, Args, Flat, submodel, File}
 use Rattle.ast.specs.Subst.{Replacements, substFlat}
 use Rattle.ast.specs.Levels.{throughFlat}
 use Rattle.ast.proofs.OneWalk.{flat-subst, flat-none}
-use Rattle.builder.specs.Flatten.{replacements, modelNamed, modelAt, stmtFlats, subFlats}
+use Rattle.definitions.specs.Flatten.{replacements, modelNamed, modelAt, stmtFlats, subFlats}
 
 -- statement by statement
 pub map-each : {A B C : Type 0} (g : B → C) (h : A → List B) (xs : List A) → map g (each h xs) ≡ each (λ x. map g (h x)) xs

@@ -19,11 +19,11 @@ use Rattle.ast.proofs.Files.{all-at}
 use Rattle.ast.specs.Opens.{Open, fileIn}
 use Rattle.ast.specs.declared.sections.Sections.{Sections}
 use Rattle.ast.proofs.FromBytes.{words-bytes}
-use Rattle.builder.specs.Variables.{Variable, numberOf, keptDeps, variableNames, variable, variablesOf, noVariable, at}
+use Rattle.definitions.specs.Variables.{Variable, numberOf, keptDeps, variableNames, variable, variablesOf, noVariable, at}
 use Rattle.builder.specs.VariableTables.{wordsFrom, nextIn, DepsIn, TimeReached, unknownsIn, rosterIn, StartsOf}
 use Rattle.builder.proofs.Timing.{any-alike}
 use Rattle.builder.proofs.PutWords.{each-take, each-fits, kept-few}
-use Rattle.builder.proofs.ListLaws.{getD-map}
+use Rattle.definitions.proofs.ListLaws.{getD-map}
 
 -- ---- a kept dependent is a variable
 

@@ -17,7 +17,7 @@ use Rattle.ast.specs.Nodes.{kindAt, nameAt, opAt, sizeAt, spanAt, bitsAt, treeA
 use Rattle.ast.proofs.Fitting.{expr-kind, node-ok, last-arg}
 use Rattle.ast.proofs.Trees.{by-kind, tree-name, tree-number, tree-binary, tree-unary, tree-call, args-more}
 use Rattle.ast.proofs.Sizes.{count-before}
-use Rattle.builder.specs.Roles.{argAt, numberIn}
+use Rattle.definitions.specs.Roles.{argAt, numberIn}
 use Rattle.builder.specs.declared.places.Sizes.{Sizes}
 use Rattle.builder.specs.declared.allocate.Start.{Start}
 use Rattle.builder.specs.declared.allocate.Start.the-variants.{Nothing, Short, Number}

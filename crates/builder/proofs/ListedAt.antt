@@ -9,7 +9,7 @@ use lib.ListN.{length, take, drop, length-append, length-drop, take-append-drop}
 use lib.Seq.{length-take-le, take-take, take-at, drop-at, take-all, take-nil}
 use Rattle.functions.specs.Lists.{unless}
 use Rattle.ast.specs.Words.{words, records, section}
-use Rattle.builder.specs.Variables.{Error}
+use Rattle.definitions.specs.Variables.{Error}
 use Rattle.builder.specs.Listing.{listed}
 use Rattle.builder.specs.Places.{stmtsAt, varsAt, depsAt, errorsAt}
 use Rattle.builder.specs.declared.places.Sizes.{Sizes}

@@ -14,8 +14,8 @@ use Rattle.ast.specs.Bytes.{front, put}
 use Rattle.ast.specs.Encode.{encode}
 use Rattle.ast.proofs.Fronts.{put-behind, front-none}
 use Rattle.ast.proofs.Encodes.{each-append, length-bytes}
-use Rattle.builder.specs.Variables.{Error, error}
-use Rattle.builder.specs.Answer.{errorWords}
+use Rattle.definitions.specs.Variables.{Error, error}
+use Rattle.definitions.specs.Answer.{errorWords}
 use Rattle.builder.specs.Listing.{spanned, putError, listed, Lists, Room}
 use Rattle.builder.proofs.Puts.{length-put}
 

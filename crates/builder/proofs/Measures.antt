@@ -11,9 +11,9 @@ use Rattle.functions.specs.Lists.{sumOf}
 use Rattle.ast.specs.Tree.{File, Flat, flatSize}
 use Rattle.ast.specs.Levels.{throughFlat}
 use Rattle.ast.specs.Rows.{levelsOf, atMost}
-use Rattle.builder.specs.Numbers.{modelCycle, selfListedUnknown, argumentBeyond, overMost}
-use Rattle.builder.specs.Flatten.{flatten, instances, cyclic, selfListed, overfull}
-use Rattle.builder.specs.Build.{tooBig}
+use Rattle.definitions.specs.Numbers.{modelCycle, selfListedUnknown, argumentBeyond, overMost}
+use Rattle.definitions.specs.Flatten.{flatten, instances, cyclic, selfListed, overfull}
+use Rattle.definitions.specs.Build.{tooBig}
 use Rattle.builder.specs.Root.{forbiddenOf, sizeOf, measureOf}
 use Rattle.builder.specs.declared.measure.Measured.{Measured}
 use Rattle.builder.specs.declared.measure.Measured.the-variants.{Refused, Sized}

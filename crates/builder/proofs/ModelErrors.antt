@@ -19,10 +19,10 @@ use Rattle.ast.specs.Records.{domainKind, domainName, domainFits, domainOf, unk
 use Rattle.ast.specs.Opens.{Open, contentsIn, fileIn}
 use Rattle.ast.specs.declared.sections.Sections.{Sections}
 use Rattle.ast.proofs.Encodes.{each-append}
-use Rattle.builder.specs.Names.{textOf, isNonNegative, isReal}
-use Rattle.builder.specs.Variables.{Error, error, domainErrors, unknownErrors}
-use Rattle.builder.specs.Check.{Scope, hasKeyword, exprErrors, flatErrors}
-use Rattle.builder.specs.Flatten.{modelNamed, modelAt, scopeOf, orderErrors, subErrors, stmtErrors, errorsOf}
+use Rattle.definitions.specs.Names.{textOf, isNonNegative, isReal}
+use Rattle.definitions.specs.Variables.{Error, error, domainErrors, unknownErrors}
+use Rattle.definitions.specs.Check.{Scope, hasKeyword, exprErrors, flatErrors}
+use Rattle.definitions.specs.Flatten.{modelNamed, modelAt, scopeOf, orderErrors, subErrors, stmtErrors, errorsOf}
 use Rattle.builder.specs.Tables.{classOf, calleeOf, VarsOf}
 use Rattle.builder.specs.Listing.{Lists, Room}
 use Rattle.builder.specs.Checking.{nodesOf, scopeIn, treeIn, argsIn, argsOf, unknownIn, stmtIn, UnknownIn, ExprIn, CallIn, ArgsIn, Against, Tabled}
@@ -30,7 +30,7 @@ use Rattle.builder.proofs.Classes.{class-time, class-reserved, class-no
 use Rattle.builder.proofs.OpenRecords.{long, model-is, unknown-is, stmt-is}
 use Rattle.builder.proofs.Listings.{Joins, lists-none, lists-then, room-first, room-then}
 use Rattle.builder.proofs.Checks.{args-are}
-use Rattle.builder.proofs.StmtKinds.{stmt-equation, stmt-rate, stmt-submodel}
+use Rattle.definitions.proofs.StmtKinds.{stmt-equation, stmt-rate, stmt-submodel}
 
 -- ---- a domain, by its kind k
 

@@ -14,8 +14,8 @@ use Rattle.ast.proofs.Fields.{length-section}
 use Rattle.ast.proofs.Files.{parts, model-at}
 use Rattle.ast.proofs.Opened.{ranges}
 use Rattle.ast.proofs.Texts.{name-in, part-name}
-use Rattle.builder.specs.Names.{textOf}
-use Rattle.builder.specs.Flatten.{noModel, modelAt}
+use Rattle.definitions.specs.Names.{textOf}
+use Rattle.definitions.specs.Flatten.{noModel, modelAt}
 
 -- ---- how many records each section has
 

@@ -19,11 +19,11 @@ use Rattle.ast.specs.declared.sections.Sections.{Sections}
 use Rattle.ast.proofs.Fields.{length-section, length-deps}
 use Rattle.ast.proofs.Opened.{ranges}
 use Rattle.ast.proofs.Files.{all-at, unknown-fits, stmt-fits, model-fits, unknown-run, model-runs, top-is, equation-tops, rate-top, submodel-top, unknown-at, stmt-at, unknown-count, stmt-count, dep-of, dep-count, parts}
-use Rattle.builder.specs.Flatten.{modelAt}
+use Rattle.definitions.specs.Flatten.{modelAt}
 use Rattle.ast.proofs.Fitting.{LastArg, node-ok, last-arg}
 use Rattle.builder.specs.Checking.{stmtIn}
 use Rattle.builder.proofs.Open.{modelRecord, unknownRecord, stmtRecord, name-records, unknown-records, stmt-records, model-records, names-long, models-long, model-by-record, model-name-is}
-use Rattle.builder.proofs.StmtKinds.{stmt-equation, stmt-rate, stmt-kinds, by-stmt-kind}
+use Rattle.definitions.proofs.StmtKinds.{stmt-equation, stmt-rate, stmt-kinds, by-stmt-kind}
 
 -- ---- how many records
 

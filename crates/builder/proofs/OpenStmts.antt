@@ -15,12 +15,12 @@ use Rattle.ast.specs.File.{contentsOf}
 use Rattle.ast.specs.Opens.{Open, contentsIn, fileIn}
 use Rattle.ast.specs.declared.sections.Sections.{Sections}
 use Rattle.ast.proofs.Opened.{ranges}
-use Rattle.builder.specs.Flatten.{modelNamed}
+use Rattle.definitions.specs.Flatten.{modelNamed}
 use Rattle.builder.specs.Tables.{calleeOf, Callees}
-use Rattle.builder.proofs.ListLaws.{place-below}
+use Rattle.definitions.proofs.ListLaws.{place-below}
 use Rattle.builder.proofs.OpenRecords.{stmt-is}
 use Rattle.builder.proofs.Open.{stmtRecord, models-long}
-use Rattle.builder.proofs.StmtKinds.{stmt-submodel, by-stmt-kind}
+use Rattle.definitions.proofs.StmtKinds.{stmt-submodel, by-stmt-kind}
 
 -- ---- a place, plus 1
 

@@ -18,11 +18,11 @@ use Rattle.ast.specs.Opens.{Open, contentsIn, fileIn}
 use Rattle.ast.specs.declared.sections.Sections.{Sections}
 use Rattle.ast.specs.Bytes.{put}
 use Rattle.ast.proofs.Encodes.{each-append, length-bytes}
-use Rattle.builder.specs.Variables.{numberOf, keptDeps, variableNames, variable, variablesOf}
+use Rattle.definitions.specs.Variables.{numberOf, keptDeps, variableNames, variable, variablesOf}
 use Rattle.builder.specs.VariableTables.{Numbers, oneBelow, keptBy, unknownsIn, rosterIn}
-use Rattle.builder.specs.Flatten.{modelAt}
-use Rattle.builder.proofs.Counts.{length-kept}
-use Rattle.builder.proofs.Opened.{contents-listed}
+use Rattle.definitions.specs.Flatten.{modelAt}
+use Rattle.definitions.proofs.Counts.{length-kept}
+use Rattle.definitions.proofs.Opened.{contents-listed}
 use Rattle.builder.proofs.Puts.{words-none, length-put, put-more}
 
 -- ---- one run for each element of a list

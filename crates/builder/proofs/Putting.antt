@@ -19,16 +19,16 @@ use Rattle.ast.specs.declared.sections.Sections.{Sections}
 use Rattle.ast.proofs.Encodes.{each-append, encode-append, length-tree}
 use Rattle.ast.proofs.Fronts.{lent-put}
 use Rattle.ast.proofs.Seen.{size-respan, read-own}
-use Rattle.builder.specs.Flatten.{modelAt, stmtFlats, flatten}
+use Rattle.definitions.specs.Flatten.{modelAt, stmtFlats, flatten}
 use Rattle.builder.specs.Descent.{flatAt, broughtAt, RowsIn, RowsKept}
 use Rattle.builder.proofs.OpenStmts.{nodes-from}
 use Rattle.builder.proofs.Descents.{levels-kept, rest, rest-step, rest-end, rest-all, own-rate, own-equation}
-use Rattle.builder.proofs.ListLaws.{sum-append}
+use Rattle.definitions.proofs.ListLaws.{sum-append}
 use Rattle.builder.proofs.Puts.{length-put, put-none, put-again}
 use Rattle.builder.proofs.OpenRecords.{passes, model-is}
-use Rattle.builder.proofs.StmtKinds.{stmt-equation, stmt-rate}
-use Rattle.builder.proofs.Sections.{length-wide}
-use Rattle.builder.proofs.Lengths.{nodes-wide, count-nodes}
+use Rattle.definitions.proofs.StmtKinds.{stmt-equation, stmt-rate}
+use Rattle.definitions.proofs.Sections.{length-wide}
+use Rattle.definitions.proofs.Lengths.{nodes-wide, count-nodes}
 
 -- ---- nodes of statements
 

@@ -16,15 +16,15 @@ use Rattle.ast.specs.Opens.{Open, contentsIn, fileIn}
 use Rattle.ast.specs.declared.sections.Sections.{Sections}
 use Rattle.ast.proofs.Encodes.{Eights, length-encode, encode-one, encode-append}
 use Rattle.ast.proofs.StmtsBack.{size-pos}
-use Rattle.builder.specs.Flatten.{modelAt, stmtFlats, flatten}
+use Rattle.definitions.specs.Flatten.{modelAt, stmtFlats, flatten}
 use Rattle.builder.specs.Descent.{flatAt, broughtAt, RowsIn, RowsKept}
 use Rattle.builder.specs.Unfated.{unfatedWords, unfated, RecordsFit, Recorded}
 use Rattle.builder.proofs.OpenStmts.{nodes-from}
 use Rattle.builder.proofs.Descents.{levels-kept, rest, rest-step, rest-end, rest-all}
-use Rattle.builder.proofs.ListLaws.{sum-append}
+use Rattle.definitions.proofs.ListLaws.{sum-append}
 use Rattle.builder.proofs.Puts.{length-put, put-none, put-again}
 use Rattle.builder.proofs.OpenRecords.{model-is}
-use Rattle.builder.proofs.StmtKinds.{stmt-equation, stmt-rate}
+use Rattle.definitions.proofs.StmtKinds.{stmt-equation, stmt-rate}
 
 -- ---- records
 

@@ -15,7 +15,7 @@ use Rattle.ast.specs.Nodes.{nameAt, opAt, sizeAt, argsFit, nodesFit, argsBefore
 use Rattle.ast.proofs.Fitting.{last-arg}
 use Rattle.ast.proofs.Trees.{args-more, args-none}
 use Rattle.ast.proofs.Sizes.{count-before}
-use Rattle.builder.specs.Flatten.{argsBeyond, modelNamed, modelAt, submodels, reached, anyReached, listsItself, stmtBeyond, subBeyond}
+use Rattle.definitions.specs.Flatten.{argsBeyond, modelNamed, modelAt, submodels, reached, anyReached, listsItself, stmtBeyond, subBeyond}
 use Rattle.builder.specs.Tables.{Classes, calleeOf, Callees, Reaching}
 use Rattle.ast.specs.Words.{wordOf}
 use Rattle.ast.specs.Records.{unknownOf, rightTop, stmtOf}
@@ -25,7 +25,7 @@ use Rattle.builder.proofs.Classes.{class-time, class-reserved}
 use Rattle.builder.proofs.OpenRecords.{long, passes, model-is, unknown-is}
 use Rattle.builder.proofs.Calling.{call-is, entry-below}
 use Rattle.builder.proofs.Rounds.{reaching-flag}
-use Rattle.builder.proofs.StmtKinds.{stmt-submodel}
+use Rattle.definitions.proofs.StmtKinds.{stmt-submodel}
 
 -- ---- the models reached, from the last down
 

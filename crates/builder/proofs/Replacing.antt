@@ -24,7 +24,7 @@ use Rattle.ast.proofs.Trees.{args-more, args-none}
 use Rattle.ast.proofs.Sizes.{count-before}
 use Rattle.ast.proofs.Filling.{rows-fit-set}
 use Rattle.ast.proofs.Fronts.{length-front}
-use Rattle.builder.specs.Flatten.{unknownName, replacedName, replacements, modelAt}
+use Rattle.definitions.specs.Flatten.{unknownName, replacedName, replacements, modelAt}
 use Rattle.builder.specs.Descent.{replacedBy, RowsIn, RowsKept}
 use Rattle.builder.specs.Overlay.{over, replacing}
 use Rattle.builder.proofs.Outputs.{take-step, written-whole}

@@ -13,17 +13,17 @@ use Rattle.ast.specs.Tree.{Span, Flat, equation, rate}
 use Rattle.ast.specs.Words.{wordOf, spanFrom}
 use Rattle.ast.specs.Nodes.{nameAt, bitsAt, spanAt}
 use Rattle.ast.proofs.Encodes.{each-append}
-use Rattle.builder.specs.Numbers.{nameNotFound, wrongStart, rateInvalid}
-use Rattle.builder.specs.Variables.{Error, error}
-use Rattle.builder.specs.Roles as roles
-use Rattle.builder.specs.Roles.{sameFloat}
+use Rattle.definitions.specs.Numbers.{nameNotFound, wrongStart, rateInvalid}
+use Rattle.definitions.specs.Variables.{Error, error}
+use Rattle.definitions.specs.Roles as roles
+use Rattle.definitions.specs.Roles.{sameFloat}
 use Rattle.builder.specs.declared.places.Sizes.{Sizes}
 use Rattle.builder.specs.declared.allocate.Start.{Start}
 use Rattle.builder.specs.declared.allocate.Start.the-variants.{Nothing, Short, Number}
 use Rattle.builder.specs.Allocating.{flatAt, nodesIn, stmtIn, flatIn, flatsIn, Flattened, entryBy, startBy, startErrorsBy, rateErrorsBy, roleErrorsBy, foundStart, startAt, CallFits}
 use Rattle.builder.proofs.LeftSides.{entry-none, entry-some, found-start}
 use Rattle.builder.proofs.Flats.{flats-count, flat-at, flat-equation, flat-rate}
-use Rattle.builder.proofs.ErrorCount.{length-unless}
+use Rattle.definitions.proofs.ErrorCount.{length-unless}
 
 -- ---- by the answer for a left side
 

@@ -11,11 +11,11 @@ use Rattle.ast.specs.Bytes.{put}
 use Rattle.ast.specs.Encode.{encode}
 use Rattle.ast.specs.Opens.{Open, fileIn}
 use Rattle.ast.specs.declared.sections.Sections.{Sections}
-use Rattle.builder.specs.Variables.{fromZero, lastBounds}
-use Rattle.builder.specs.Flatten.{modelAt, instances, errorsOf}
-use Rattle.builder.specs.Allocate.{lacking, leftCount}
-use Rattle.builder.specs.Answer.{answerBytes, nodeCount, depsOf}
-use Rattle.builder.specs.Build.{answerFrom}
+use Rattle.definitions.specs.Variables.{fromZero, lastBounds}
+use Rattle.definitions.specs.Flatten.{modelAt, instances, errorsOf}
+use Rattle.definitions.specs.Allocate.{lacking, leftCount}
+use Rattle.definitions.specs.Answer.{answerBytes, nodeCount, depsOf}
+use Rattle.definitions.specs.Build.{answerFrom}
 use Rattle.builder.specs.Tables.{Classes}
 use Rattle.builder.specs.Places.{Small, stmtsAt, varsAt, depsAt, errorsAt}
 use Rattle.builder.specs.Checking as checking
@@ -31,7 +31,7 @@ use Rattle.builder.proofs.ErrorsOpen.{errors-few}
 use Rattle.builder.proofs.RootShort.{tabled, first-bounds}
 use Rattle.builder.proofs.RootTies.{next-start, left-tie, states-tie, fated-tie, vars-tie, errors-tie}
 use Rattle.builder.proofs.RootWritten.{fates-written, vars-written, answer-written, room}
-use Rattle.builder.proofs.ErrorCount.{length-roles, length-counts, length-starting}
+use Rattle.definitions.proofs.ErrorCount.{length-roles, length-counts, length-starting}
 
 module _ (f : List ℕ) (s : Sections) (m : ℕ) (classes names numbers starts indexes reach rates : List ℕ) (z : Sizes) (k : Known f s m classes names numbers starts indexes reach rates z) where
   -- ---- allocating

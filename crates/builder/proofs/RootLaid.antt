@@ -14,8 +14,8 @@ use Rattle.ast.specs.Encode.{flatNodes, encode}
 use Rattle.ast.specs.Opens.{Open, fileIn}
 use Rattle.ast.specs.declared.sections.Sections.{Sections}
 use Rattle.ast.proofs.Encodes.{length-bytes}
-use Rattle.builder.specs.Variables.{Variable}
-use Rattle.builder.specs.Build.{tooBig}
+use Rattle.definitions.specs.Variables.{Variable}
+use Rattle.definitions.specs.Build.{tooBig}
 use Rattle.builder.specs.Checking as checking
 use Rattle.builder.specs.VariableTables.{rosterIn, Roster, Listing}
 use Rattle.builder.specs.Unfated.{unfated}
@@ -26,7 +26,7 @@ use Rattle.builder.proofs.PutWords.{kept-few}
 use Rattle.builder.proofs.Putting.{length-flats}
 use Rattle.builder.proofs.AreaParts.{part-put, part-before}
 use Rattle.builder.proofs.RootTables.{model-written, vars-count}
-use Rattle.builder.proofs.Mosts.{few-flats}
+use Rattle.definitions.proofs.Mosts.{few-flats}
 use Rattle.builder.proofs.Puts.{length-put}
 use Rattle.builder.proofs.Recording.{length-unfated}
 

@@ -9,10 +9,10 @@ use lib.ListN.{length, getD}
 use Rattle.functions.specs.Lists.{place, plusOne}
 use Rattle.ast.specs.Opens.{fileIn}
 use Rattle.ast.specs.declared.sections.Sections.{Sections}
-use Rattle.builder.specs.Names.{timeName}
-use Rattle.builder.specs.Variables.{fromZero, lastBounds, variableNames, numberOf, variable, variablesOf}
-use Rattle.builder.specs.Check.{lookup}
-use Rattle.builder.specs.Flatten.{modelAt, scopeOf}
+use Rattle.definitions.specs.Names.{timeName}
+use Rattle.definitions.specs.Variables.{fromZero, lastBounds, variableNames, numberOf, variable, variablesOf}
+use Rattle.definitions.specs.Check.{lookup}
+use Rattle.definitions.specs.Flatten.{modelAt, scopeOf}
 use Rattle.builder.specs.VariableTables.{unknownsIn, rosterIn}
 use Rattle.builder.specs.Allocating.{Tabled, Agree}
 use Rattle.builder.specs.Root.{scopeAt, timeAt, Known}
@@ -20,7 +20,7 @@ use Rattle.builder.specs.declared.places.Sizes.{Sizes}
 use Rattle.builder.proofs.Open.{names-long}
 use Rattle.builder.proofs.Rosters.{listing-name}
 use Rattle.builder.proofs.VarAnswers.{names-first, time-last}
-use Rattle.builder.proofs.ListLaws.{place-map, place-small}
+use Rattle.definitions.proofs.ListLaws.{place-map, place-small}
 
 -- ---- places
 

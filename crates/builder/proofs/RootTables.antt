@@ -12,15 +12,15 @@ use Rattle.ast.specs.Bytes.{front}
 use Rattle.ast.specs.Words.{bytesOf}
 use Rattle.ast.specs.Opens.{Open, fileIn}
 use Rattle.ast.specs.declared.sections.Sections.{Sections}
-use Rattle.builder.specs.Variables.{Variable, lastTime, timeIndex, isState, timeDependent, keptDeps, variableNames, variable, variablesOf, at}
-use Rattle.builder.specs.Roles.{takesRate}
-use Rattle.builder.specs.Flatten.{modelAt, scopeOf}
+use Rattle.definitions.specs.Variables.{Variable, lastTime, timeIndex, isState, timeDependent, keptDeps, variableNames, variable, variablesOf, at}
+use Rattle.definitions.specs.Roles.{takesRate}
+use Rattle.definitions.specs.Flatten.{modelAt, scopeOf}
 use Rattle.builder.specs.VariableTables.{wordsFrom, nextIn, DepsIn, TimeReached, unknownsIn, rosterIn, StartsOf}
 use Rattle.builder.specs.Root.{scopeAt, tabled, TablesOf}
 use Rattle.builder.proofs.Timing.{length-from}
 use Rattle.builder.proofs.PutWords.{each-take, each-fits, kept-few}
 use Rattle.builder.proofs.KeptDependents.{model-deps-in, model-next, model-reached, count-variables, variable-deps}
-use Rattle.builder.proofs.ListLaws.{run-some, flag-one}
+use Rattle.definitions.proofs.ListLaws.{run-some, flag-one}
 
 -- ---- a time index is a word
 

@@ -11,12 +11,12 @@ use Rattle.functions.specs.Lists.{each, times}
 use Rattle.ast.specs.Tree.{Flat, equation, rate, flatSize}
 use Rattle.ast.specs.Opens.{fileIn}
 use Rattle.ast.specs.declared.sections.Sections.{Sections}
-use Rattle.builder.specs.Variables.{Variable, at, noVariable, variableNames, variable, variablesOf}
-use Rattle.builder.specs.Flatten.{modelAt, scopeOf}
-use Rattle.builder.specs.Roles.{roleOf, roleErrors}
-use Rattle.builder.specs.Allocate.{Fate, pairedStates, lacking, leftCount, startingErrors}
-use Rattle.builder.specs.Answer.{flatWords, flatRecords, variableRecords}
-use Rattle.builder.specs.Build.{answerFrom}
+use Rattle.definitions.specs.Variables.{Variable, at, noVariable, variableNames, variable, variablesOf}
+use Rattle.definitions.specs.Flatten.{modelAt, scopeOf}
+use Rattle.definitions.specs.Roles.{roleOf, roleErrors}
+use Rattle.definitions.specs.Allocate.{Fate, pairedStates, lacking, leftCount, startingErrors}
+use Rattle.definitions.specs.Answer.{flatWords, flatRecords, variableRecords}
+use Rattle.definitions.specs.Build.{answerFrom}
 use Rattle.builder.specs.Tables.{roleNumber, lackingIn}
 use Rattle.builder.specs.VariableTables.{rosterIn, unknownsIn}
 use Rattle.builder.specs.Unfated.{unfatedWords, unfated}

@@ -8,13 +8,13 @@ use Rattle.ast.specs.Tree.{File}
 use Rattle.ast.specs.Words.{bytesOf, wordOf}
 use Rattle.ast.specs.Bytes.{put}
 use Rattle.ast.specs.Encode.{encode}
-use Rattle.builder.specs.Answer.{flatRecords, variableRecords, errorWords, header, depsOf, areaOf, areaBytes, answerBytes}
-use Rattle.builder.specs.Build.{answerFrom}
+use Rattle.definitions.specs.Answer.{flatRecords, variableRecords, errorWords, header, depsOf, areaOf, areaBytes, answerBytes}
+use Rattle.definitions.specs.Build.{answerFrom}
 use Rattle.builder.specs.Places.{stmtsAt, varsAt, depsAt, errorsAt}
 use Rattle.builder.specs.Allocating.{ListsAt}
 use Rattle.builder.specs.declared.places.Sizes.{Sizes}
 use Rattle.builder.specs.Root.{flatsOf, scopeAt, fatesAt, answerAt, SizesOf, part, Unfated, Fated, Varied}
-use Rattle.builder.proofs.Lengths.{Bytes, bytes}
+use Rattle.definitions.proofs.Lengths.{Bytes, bytes}
 use Rattle.builder.proofs.AreaParts.{part-put, part-before, part-behind, part-listed, part-errors, six-parts}
 use Rattle.builder.proofs.FlatsBack.{fates-count}
 use Rattle.builder.proofs.Puts.{length-put}

@@ -15,13 +15,13 @@ use Rattle.functions.proofs.Lists.{drop-here, drop-past}
 use Rattle.ast.specs.Tree.{Unknown}
 use Rattle.ast.specs.Opens.{Open, fileIn}
 use Rattle.ast.specs.declared.sections.Sections.{Sections}
-use Rattle.builder.specs.Names.{textOf, spells, isTime, isReserved, timeName}
-use Rattle.builder.specs.Variables as vars
-use Rattle.builder.specs.Variables.{numberOf, variableNames}
+use Rattle.definitions.specs.Names.{textOf, spells, isTime, isReserved, timeName}
+use Rattle.definitions.specs.Variables as vars
+use Rattle.definitions.specs.Variables.{numberOf, variableNames}
 use Rattle.builder.specs.Tables.{Classes}
 use Rattle.builder.specs.VariableTables.{firstZero, Roster, listed, declareOne, Listing, unknownsIn, rosterIn}
 use Rattle.builder.proofs.Classes.{class-time, class-reserved}
-use Rattle.builder.proofs.Counts.{or-false}
+use Rattle.definitions.proofs.Counts.{or-false}
 use Rattle.builder.proofs.OpenUnknowns.{noUnknown}
 use Rattle.builder.proofs.Open.{names-long}
 

@@ -14,7 +14,7 @@ use lib.Seq.{take-suc, take-all, getD-set-same, getD-set-other}
 use borrow.Author.Tests.{eq-eqb, ne-eqb}
 use Rattle.functions.specs.Lists.{any, each, reaches, flag}
 use Rattle.ast.specs.Tree.{Stmt, File}
-use Rattle.builder.specs.Flatten.{modelAt, stmtModels, submodels}
+use Rattle.definitions.specs.Flatten.{modelAt, stmtModels, submodels}
 use Rattle.builder.specs.Tables.{calleeOf, Callees, Reaching}
 use Rattle.builder.specs.Rounds.{onward, stepsOn, Added, Stepped}
 use Rattle.ast.specs.Words.{wordOf}
@@ -24,7 +24,7 @@ use Rattle.ast.specs.declared.sections.Sections.{Sections}
 use Rattle.ast.specs.WellFormed.{Each}
 use Rattle.builder.proofs.OpenRecords.{model-is}
 use Rattle.builder.proofs.Calling.{callees-all, calls-none, calls-one}
-use Rattle.builder.proofs.ListLaws.{any-append, flag-one}
+use Rattle.definitions.proofs.ListLaws.{any-append, flag-one}
 
 -- of lists in a row, list by list
 any-each : {A B : Type 0} (p : B → Bool) (g : A → List B) (xs : List A) → any p (each g xs) ≡ any (λ x. any p (g x)) xs

@@ -12,7 +12,7 @@ use Rattle.functions.specs.Lists.{any}
 use Rattle.functions.proofs.Lists.{drop-past}
 use Rattle.functions.proofs.Loops.{any-step}
 use Rattle.ast.specs.Tree.{count, Stmt, Unknown}
-use Rattle.builder.specs.Flatten.{modelAt}
+use Rattle.definitions.specs.Flatten.{modelAt}
 use Rattle.ast.specs.Words.{wordOf}
 use Rattle.ast.specs.Records.{unknownOf, stmtOf}
 use Rattle.ast.specs.Opens.{Open, contentsIn, fileIn}

@@ -19,15 +19,15 @@ use Rattle.ast.specs.Records.{unknownOf}
 use Rattle.ast.specs.Opens.{contentsIn, fileIn}
 use Rattle.ast.specs.declared.sections.Sections.{Sections}
 use Rattle.ast.proofs.Encodes.{each-append}
-use Rattle.builder.specs.Names.{textOf, spells, isTime, isReserved, timeName}
-use Rattle.builder.specs.Variables.{Variable, declare, variableNames, numberOf, keptDeps, variable, variablesOf, noVariable, at}
-use Rattle.builder.specs.Check.{Scope, lookup}
-use Rattle.builder.specs.Flatten.{modelAt, scopeOf}
+use Rattle.definitions.specs.Names.{textOf, spells, isTime, isReserved, timeName}
+use Rattle.definitions.specs.Variables.{Variable, declare, variableNames, numberOf, keptDeps, variable, variablesOf, noVariable, at}
+use Rattle.definitions.specs.Check.{Scope, lookup}
+use Rattle.definitions.specs.Flatten.{modelAt, scopeOf}
 use Rattle.builder.specs.Tables.{classOf, Classes, Marks, keptIn, entryOf, VarsOf}
 use Rattle.builder.specs.Checking.{scopeIn, unknownIn}
 use Rattle.builder.proofs.Classes.{class-time, class-reserved}
 use Rattle.builder.proofs.Amounts.{sum-next}
-use Rattle.builder.proofs.ListLaws.{any-append, place-below}
+use Rattle.definitions.proofs.ListLaws.{any-append, place-below}
 
 -- ---- the first name that is t
 

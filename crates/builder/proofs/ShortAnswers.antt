@@ -12,12 +12,12 @@ use Rattle.ast.specs.Bytes.{put}
 use Rattle.ast.specs.Opens.{fileIn}
 use Rattle.ast.specs.declared.sections.Sections.{Sections}
 use Rattle.ast.proofs.Encodes.{length-bytes}
-use Rattle.builder.specs.Numbers.{shortLeftSide}
-use Rattle.builder.specs.Variables.{Bounds, fromZero, lastBounds}
-use Rattle.builder.specs.Flatten.{modelAt}
-use Rattle.builder.specs.Answer.{Answer, boundsWords, answerBytes}
-use Rattle.builder.specs.Roles.{tooShort}
-use Rattle.builder.specs.Build.{Result, refusal, accepted, anyShort}
+use Rattle.definitions.specs.Numbers.{shortLeftSide}
+use Rattle.definitions.specs.Variables.{Bounds, fromZero, lastBounds}
+use Rattle.definitions.specs.Flatten.{modelAt}
+use Rattle.definitions.specs.Answer.{Answer, boundsWords, answerBytes}
+use Rattle.definitions.specs.Roles.{tooShort}
+use Rattle.definitions.specs.Build.{Result, refusal, accepted, anyShort}
 use Rattle.builder.specs.Places.{stmtsAt, varsAt, depsAt}
 use Rattle.builder.specs.Allocating.{flatsIn, Flattened, Tabled, shortBy}
 use Rattle.builder.specs.Root.{flatsOf, scopeAt, timeAt, answerAt, Known, Laid, Unfated, given, usedIn, bytesIn}

@@ -15,10 +15,10 @@ use Rattle.ast.specs.Records.{modelOf}
 use Rattle.ast.specs.Opens.{Open, contentsIn, fileIn}
 use Rattle.ast.specs.declared.sections.Sections.{Sections}
 use Rattle.ast.proofs.Files.{model-at}
-use Rattle.builder.specs.Numbers.{underdetermined, overdetermined, noInitialCondition, algebraicInitialCondition}
-use Rattle.builder.specs.Variables.{Error, error}
-use Rattle.builder.specs.Flatten.{noModel, modelAt}
-use Rattle.builder.specs.Allocate.{countErrors}
+use Rattle.definitions.specs.Numbers.{underdetermined, overdetermined, noInitialCondition, algebraicInitialCondition}
+use Rattle.definitions.specs.Variables.{Error, error}
+use Rattle.definitions.specs.Flatten.{noModel, modelAt}
+use Rattle.definitions.specs.Allocate.{countErrors}
 use Rattle.builder.specs.Places.{errorsAt}
 use Rattle.builder.specs.Allocating.{nodesIn, stmtsIn, ListsAt}
 use Rattle.builder.specs.Fating.{isFated}

@@ -16,12 +16,12 @@ use Rattle.ast.specs.Words.{wordOf, spanFrom}
 use Rattle.ast.specs.Nodes.{spanAt}
 use Rattle.ast.specs.Encode.{node, nodes, argNodes, flatNodes}
 use Rattle.ast.proofs.Encodes.{length-nodes, length-args}
-use Rattle.builder.specs.Variables.{Error, Variable, at}
-use Rattle.builder.specs.Allocate.{Fate, numbersFrom, isHeldBy, isInitialOf, conditions, exprSpan, rightSpan, noFlat, rightSpanAt, heldErrors, stateErrors, startingErrors}
-use Rattle.builder.specs.Answer.{flatWords, flatRecords}
+use Rattle.definitions.specs.Variables.{Error, Variable, at}
+use Rattle.definitions.specs.Allocate.{Fate, numbersFrom, isHeldBy, isInitialOf, conditions, exprSpan, rightSpan, noFlat, rightSpanAt, heldErrors, stateErrors, startingErrors}
+use Rattle.definitions.specs.Answer.{flatWords, flatRecords}
 use Rattle.builder.specs.Starting.{rightSpanIn, heldErrorsIn, stateErrorsIn, startingIn}
 use Rattle.builder.proofs.FateLaws.{fatePair, recordPair, held-place-in, initial-in}
-use Rattle.builder.proofs.Lengths.{length-flat-nodes}
+use Rattle.definitions.proofs.Lengths.{length-flat-nodes}
 
 -- ---- the span of a tree's top node
 

@@ -18,11 +18,11 @@ use Rattle.ast.specs.Words.{words}
 use Rattle.ast.specs.Bytes.{wordAt}
 use Rattle.ast.proofs.Fields.{dep-at, length-deps}
 use Rattle.ast.proofs.Files.{all-at}
-use Rattle.builder.specs.Variables.{lastTime}
+use Rattle.definitions.specs.Variables.{lastTime}
 use Rattle.builder.specs.VariableTables.{wordsFrom, nextIn, DepsIn, leads, Round, TimeReached}
 use Rattle.builder.proofs.Filled.{Filled, filled-none, filled-more}
-use Rattle.builder.proofs.Counts.{or-false}
-use Rattle.builder.proofs.ListLaws.{flag-one}
+use Rattle.definitions.proofs.Counts.{or-false}
+use Rattle.definitions.proofs.ListLaws.{flag-one}
 
 -- ---- words from `first` up to `end`
 

@@ -15,8 +15,8 @@ use Rattle.ast.specs.Records.{firstDep, depCount, unknownOf, nameOfUnknown, fir
 use Rattle.ast.specs.Opens.{Open, contentsIn, fileIn}
 use Rattle.ast.specs.declared.sections.Sections.{Sections}
 use Rattle.ast.proofs.Files.{dep-of}
-use Rattle.builder.specs.Flatten.{modelAt}
-use Rattle.builder.specs.Check.{lookup}
+use Rattle.definitions.specs.Flatten.{modelAt}
+use Rattle.definitions.specs.Check.{lookup}
 use Rattle.builder.specs.Checking.{scopeIn, keptNames, Scoped, unknownIn}
 use Rattle.builder.proofs.Dependents.{listsAs, kept-member}
 use Rattle.builder.proofs.Calls.{entry-is, has-entry, some-entry}

@@ -13,12 +13,12 @@ use Rattle.functions.specs.Lists.{plusOne, any, member, isEmpty}
 use Rattle.functions.proofs.Lists.{clash}
 use Rattle.ast.specs.Tree.{Unknown}
 use Rattle.builder.specs.declared.places.Sizes.{Sizes}
-use Rattle.builder.specs.Names.{isReserved, timeName}
-use Rattle.builder.specs.Variables.{Bounds, Variable, fromZero, unbounded, lastBounds, timeBounds, boundsOf, declare, variableNames, variable, variablesOf, at, noVariable, isState, timeIndex, timeDependent}
-use Rattle.builder.specs.Answer.{Answer, variableWords, variableRecords, nodeCount, depsOf, header}
+use Rattle.definitions.specs.Names.{isReserved, timeName}
+use Rattle.definitions.specs.Variables.{Bounds, Variable, fromZero, unbounded, lastBounds, timeBounds, boundsOf, declare, variableNames, variable, variablesOf, at, noVariable, isState, timeIndex, timeDependent}
+use Rattle.definitions.specs.Answer.{Answer, variableWords, variableRecords, nodeCount, depsOf, header}
 use Rattle.builder.specs.VarRecords.{leadWords, varBounds, varWords, varRecords, headWords}
 use Rattle.builder.proofs.FateLaws.{recordPair, fatePair, held-in, conditions-in, Beginning}
-use Rattle.builder.proofs.ListLaws.{getD-map, run-some}
+use Rattle.definitions.proofs.ListLaws.{getD-map, run-some}
 
 -- ---- the header
 

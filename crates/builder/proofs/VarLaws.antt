@@ -14,8 +14,8 @@ use Rattle.ast.specs.Words.{section, bytesOf}
 use Rattle.ast.specs.Bytes.{put}
 use Rattle.ast.specs.Encode.{encode}
 use Rattle.ast.proofs.Encodes.{length-bytes, encode-append, encode-one}
-use Rattle.builder.specs.Variables.{Bounds, lastBounds}
-use Rattle.builder.specs.Answer.{boundsWords}
+use Rattle.definitions.specs.Variables.{Bounds, lastBounds}
+use Rattle.definitions.specs.Answer.{boundsWords}
 use Rattle.builder.specs.Bounding.{boundsFrom}
 use Rattle.builder.specs.VarRecords.{leadWords, varBounds, varWords, varRecords}
 use Rattle.builder.proofs.Puts.{put-more, put-again}

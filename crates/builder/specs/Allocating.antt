@@ -11,10 +11,10 @@ use Rattle.functions.specs.Lists.{unless, plusOne, flag, _>>=_}
 use Rattle.ast.specs.Tree.{Span, Expr, name, number, binary, unary, call, Args, Flat, equation, rate, count}
 use Rattle.ast.specs.Words.{section, wordOf, spanFrom}
 use Rattle.ast.specs.Nodes.{kindAt, nameAt, opAt, sizeAt, spanAt, bitsAt, treeAt, isExpr, nodesFit}
-use Rattle.builder.specs.Numbers.{nameNotFound, wrongStart, rateInvalid}
-use Rattle.builder.specs.Variables.{Error, error, Bounds, at, timeIndex}
-use Rattle.builder.specs.Check.{Scope, lookup}
-use Rattle.builder.specs.Roles.{Start, argAt, numberIn, sameFloat, takesRate}
+use Rattle.definitions.specs.Numbers.{nameNotFound, wrongStart, rateInvalid}
+use Rattle.definitions.specs.Variables.{Error, error, Bounds, at, timeIndex}
+use Rattle.definitions.specs.Check.{Scope, lookup}
+use Rattle.definitions.specs.Roles.{Start, argAt, numberIn, sameFloat, takesRate}
 use Rattle.builder.specs.Listing.{listed}
 use Rattle.builder.specs.Places.{Small, stmtsAt}
 use Rattle.builder.specs.declared.places.Sizes.{Sizes}

@@ -13,8 +13,8 @@ use Rattle.ast.specs.declared.numbers.Bounds as declared
 use Rattle.ast.specs.declared.numbers.Domain.{Domain}
 use Rattle.ast.specs.declared.numbers.Domain.the-variants.{None, Span, Named}
 use Rattle.ast.specs.declared.sections.Sections.{Sections}
-use Rattle.builder.specs.Variables.{Bounds, fromZero, unbounded, domainBounds, lastBounds}
-use Rattle.builder.specs.Flatten.{modelAt}
+use Rattle.definitions.specs.Variables.{Bounds, fromZero, unbounded, domainBounds, lastBounds}
+use Rattle.definitions.specs.Flatten.{modelAt}
 
 -- from 0 to infinity, or unbounded
 unfoldable pub boundsFrom : Bool → Bounds

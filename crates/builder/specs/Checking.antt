@@ -10,8 +10,8 @@ use Rattle.ast.specs.Nodes.{kindAt, opAt, sizeAt, isExpr, argsFit, treeAt, args
 use Rattle.ast.specs.Records.{unknownOf, stmtOf}
 use Rattle.ast.specs.Opens.{Open, contentsIn, fileIn}
 use Rattle.ast.specs.declared.sections.Sections.{Sections}
-use Rattle.builder.specs.Check.{Scope, depNames}
-use Rattle.builder.specs.Flatten.{modelAt, scopeOf}
+use Rattle.definitions.specs.Check.{Scope, depNames}
+use Rattle.definitions.specs.Flatten.{modelAt, scopeOf}
 use Rattle.builder.specs.Tables.{Classes, RuleNumbers, Callees, VarsOf}
 
 module _ (f : List ℕ) (s : Sections) where

@@ -11,7 +11,7 @@ use Rattle.ast.specs.Levels.{throughFlat}
 use Rattle.ast.specs.Rows.{levelsOf, RowsFit}
 use Rattle.ast.specs.Opens.{contentsIn, fileIn}
 use Rattle.ast.specs.declared.sections.Sections.{Sections}
-use Rattle.builder.specs.Flatten.{replacements, modelAt, stmtFlats, flatten}
+use Rattle.definitions.specs.Flatten.{replacements, modelAt, stmtFlats, flatten}
 
 module _ (f : List ℕ) (s : Sections) where
   -- The flattened statements of model m to a depth of k models, their names replaced by the rows below a level.

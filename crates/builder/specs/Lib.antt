@@ -1,16 +1,3 @@
-pub mod Numbers
-pub mod Names
-pub mod Variables
-pub mod Check
-pub mod Flatten
-pub mod Roles
-pub mod Allocate
-pub mod Answer
-pub mod Area
-pub mod Build
-pub mod Read
-pub mod Promise
-pub mod Models
 pub mod Tables
 pub mod Stored
 pub mod VariableTables
@@ -27,6 +14,3 @@ pub mod Fating
 pub mod VarRecords
 pub mod Starting
 pub mod Root
-pub mod Computes
-pub mod Examples
-pub mod OwnExamples

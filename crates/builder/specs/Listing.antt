@@ -8,9 +8,9 @@ use lib.ListN.{length}
 use Rattle.ast.specs.Tree.{Span}
 use Rattle.ast.specs.Words.{bytesOf}
 use Rattle.ast.specs.Bytes.{put}
-use Rattle.builder.specs.Numbers.{mostListed}
-use Rattle.builder.specs.Variables.{Error}
-use Rattle.builder.specs.Answer.{errorWords}
+use Rattle.definitions.specs.Numbers.{mostListed}
+use Rattle.definitions.specs.Variables.{Error}
+use Rattle.definitions.specs.Answer.{errorWords}
 
 abbrev pub spanned : ℕ → ℕ → Span
 spanned a b = record { from = a; to = b }

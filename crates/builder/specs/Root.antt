@@ -11,14 +11,14 @@ use Rattle.ast.specs.Words.{bytesOf}
 use Rattle.ast.specs.Encode.{flatNodes, encode}
 use Rattle.ast.specs.Opens.{Open, fileIn}
 use Rattle.ast.specs.declared.sections.Sections.{Sections}
-use Rattle.builder.specs.Numbers.{modelCycle, selfListedUnknown, argumentBeyond, overMost}
-use Rattle.builder.specs.Variables.{Error, Bounds, at, timeIndex, timeDependent, timeBounds}
-use Rattle.builder.specs.Check.{Scope}
-use Rattle.builder.specs.Flatten.{modelAt, scopeOf, flatten, errorsOf, instances, cyclic, selfListed, overfull}
-use Rattle.builder.specs.Roles.{Role, roleOf, takesRate}
-use Rattle.builder.specs.Allocate.{Fate, fatesOf, pairedStates, countErrors}
-use Rattle.builder.specs.Answer.{Answer, answerBytes, flatRecords, variableRecords}
-use Rattle.builder.specs.Build.{Result, refusal, accepted, answerFrom, tooBig, fitted}
+use Rattle.definitions.specs.Numbers.{modelCycle, selfListedUnknown, argumentBeyond, overMost}
+use Rattle.definitions.specs.Variables.{Error, Bounds, at, timeIndex, timeDependent, timeBounds}
+use Rattle.definitions.specs.Check.{Scope}
+use Rattle.definitions.specs.Flatten.{modelAt, scopeOf, flatten, errorsOf, instances, cyclic, selfListed, overfull}
+use Rattle.definitions.specs.Roles.{Role, roleOf, takesRate}
+use Rattle.definitions.specs.Allocate.{Fate, fatesOf, pairedStates, countErrors}
+use Rattle.definitions.specs.Answer.{Answer, answerBytes, flatRecords, variableRecords}
+use Rattle.definitions.specs.Build.{Result, refusal, accepted, answerFrom, tooBig, fitted}
 use Rattle.builder.specs.Tables.{Classes, lackingIn}
 use Rattle.builder.specs.VariableTables.{rosterIn, rostered, Listing}
 use Rattle.builder.specs.Unfated.{unfated}

@@ -7,7 +7,7 @@ use lib.Dec.{eqb}
 use lib.ListN.{length, getD}
 use Rattle.functions.specs.Lists.{any, flag}
 use Rattle.ast.specs.Tree.{File}
-use Rattle.builder.specs.Flatten.{submodels}
+use Rattle.definitions.specs.Flatten.{submodels}
 
 -- Whether model m is b, or b is reached from it by the table.
 unfoldable pub onward : List ℕ → ℕ → ℕ → Bool

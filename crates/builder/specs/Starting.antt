@@ -8,8 +8,8 @@ use Rattle.functions.specs.Lists.{place, plusOne}
 use Rattle.ast.specs.Tree.{Span}
 use Rattle.ast.specs.Words.{wordOf}
 use Rattle.ast.specs.Nodes.{spanAt}
-use Rattle.builder.specs.Numbers.{noInitialCondition, algebraicInitialCondition}
-use Rattle.builder.specs.Variables.{Error, error}
+use Rattle.definitions.specs.Numbers.{noInitialCondition, algebraicInitialCondition}
+use Rattle.definitions.specs.Variables.{Error, error}
 use Rattle.builder.specs.Places.{Small, errorsAt}
 use Rattle.builder.specs.Allocating.{stmtIn}
 use Rattle.builder.specs.Fating.{isFated}

@@ -14,11 +14,11 @@ use Rattle.ast.specs.Tree.{Stmt, own, submodel, File}
 use Rattle.ast.specs.Records.{stmtOf}
 use Rattle.ast.specs.Opens.{contentsIn, fileIn}
 use Rattle.ast.specs.declared.sections.Sections.{Sections}
-use Rattle.builder.specs.Names.{textOf}
-use Rattle.builder.specs.Variables.{at}
-use Rattle.builder.specs.Check.{Scope, lookup}
-use Rattle.builder.specs.Flatten.{modelNamed, submodels}
-use Rattle.builder.specs.Roles.{Role, starts, rates, free}
+use Rattle.definitions.specs.Names.{textOf}
+use Rattle.definitions.specs.Variables.{at}
+use Rattle.definitions.specs.Check.{Scope, lookup}
+use Rattle.definitions.specs.Flatten.{modelNamed, submodels}
+use Rattle.definitions.specs.Roles.{Role, starts, rates, free}
 
 -- ---- classes of names: the place of a text among those that decide something, or 18
 

@@ -7,8 +7,8 @@ use lib.ListN.{length, getD}
 use Rattle.functions.specs.Lists.{flag, plusOne, place, times}
 use Rattle.ast.specs.Tree.{Unknown}
 use Rattle.builder.specs.declared.places.Sizes.{Sizes}
-use Rattle.builder.specs.Variables.{Bounds, fromZero, unbounded, lastBounds}
-use Rattle.builder.specs.Answer.{boundsWords}
+use Rattle.definitions.specs.Variables.{Bounds, fromZero, unbounded, lastBounds}
+use Rattle.definitions.specs.Answer.{boundsWords}
 use Rattle.builder.specs.Fating.{isFated}
 
 -- Of each variable its name plus 1, where its dependents begin and the next one's do, its time index plus 1, and 1 where it reaches t.

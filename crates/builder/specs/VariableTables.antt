@@ -12,9 +12,9 @@ use Rattle.ast.specs.Numbers.{numberOf}
 use Rattle.ast.specs.Records.{unknownOf}
 use Rattle.ast.specs.Opens.{contentsIn, fileIn}
 use Rattle.ast.specs.declared.sections.Sections.{Sections}
-use Rattle.builder.specs.Variables as vars
-use Rattle.builder.specs.Variables.{variableNames, keptDeps}
-use Rattle.builder.specs.Flatten.{modelAt}
+use Rattle.definitions.specs.Variables as vars
+use Rattle.definitions.specs.Variables.{variableNames, keptDeps}
+use Rattle.definitions.specs.Flatten.{modelAt}
 
 -- ---- dependents, as words of bytes: those of variable v go from starts v up to starts (v + 1)
 

@@ -2,7 +2,7 @@
 ghost use Prim.Native.Nat.{ℕ, _+_, _^_, _≤_, _<_};
 ghost use lib.ListN.{length};
 ghost use Rattle.ast.specs.Opens.{fileIn};
-ghost use Rattle.builder.specs.Flatten.{errorsOf};
+ghost use Rattle.definitions.specs.Flatten.{errorsOf};
 ghost use Rattle.builder.specs.Places.{Small, errorsAt};
 ghost use Rattle.builder.specs.Checking as checking;
 ghost use Rattle.builder.specs.Allocating.{Flattened, Tabled, ListsAt};

@@ -5,7 +5,7 @@ ghost use Prim.Native.Nat.{_+_, _^_, _≤_, _<_};
 ghost use lib.ListN.{length};
 ghost use Rattle.ast.specs.Words.{bytesOf};
 ghost use Rattle.ast.specs.Bytes.{put};
-ghost use Rattle.builder.specs.Variables.{error};
+ghost use Rattle.definitions.specs.Variables.{error};
 ghost use Rattle.builder.specs.Listing.{spanned, Lists};
 use ast::words::put_word;
 

@@ -15,7 +15,7 @@ ghost use Rattle.ast.specs.Nodes.{kindAt, nameAt, isExpr, treeAt};
 ghost use Rattle.ast.specs.Levels.{byTable};
 ghost use Rattle.ast.specs.Rows.{read, atMost};
 ghost use Rattle.ast.specs.Opens.{Open, contentsIn, fileIn};
-ghost use Rattle.builder.specs.Flatten.{replacedName, modelAt, flatten};
+ghost use Rattle.definitions.specs.Flatten.{replacedName, modelAt, flatten};
 ghost use Rattle.builder.specs.Tables.{Callees};
 ghost use Rattle.builder.specs.Descent.{flatAt, broughtAt, replacedBy, RowsIn, RowsKept};
 ghost use Rattle.builder.specs.Overlay.{over, replacing};

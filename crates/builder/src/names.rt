@@ -7,7 +7,7 @@ ghost use lib.Dec.{eqb, leb, ltb};
 ghost use lib.ListN.{length, take, drop, getD};
 ghost use Rattle.functions.specs.Lists.{sameText};
 ghost use Rattle.ast.specs.Opens.{Open, fileIn};
-ghost use Rattle.builder.specs.Names.{textOf};
+ghost use Rattle.definitions.specs.Names.{textOf};
 ghost use Rattle.builder.specs.Tables.{deciding, classOf, Classes, ruleNumber, numbered, RuleNumbers};
 ghost use Rattle.builder.specs.Stored.{storedTexts, storedPlaces};
 use ast::records::name;

@@ -4,7 +4,7 @@ ghost use mathlib.Core.List.{_++_};
 ghost use Prim.Native.Nat.{_-_, _^_, _≤_, _<_};
 ghost use lib.ListN.{length, take, replicate};
 ghost use Rattle.ast.specs.Bytes.{front};
-ghost use Rattle.builder.specs.Build.{refusal, fitted, told, resultArea};
+ghost use Rattle.definitions.specs.Build.{refusal, fitted, told, resultArea};
 
 // Zeros from a place to the end.
 pub fn clear(area: &mut [u8], from: usize)

@@ -9,7 +9,7 @@ ghost use Rattle.functions.specs.Lists.{any, member};
 ghost use Rattle.ast.specs.Nodes.{kindAt, opAt, sizeAt, argsBefore};
 ghost use Rattle.ast.specs.Records.{unknownOf, stmtOf};
 ghost use Rattle.ast.specs.Opens.{Open, contentsIn, fileIn};
-ghost use Rattle.builder.specs.Flatten as flatten;
+ghost use Rattle.definitions.specs.Flatten as flatten;
 ghost use Rattle.builder.specs.Tables.{Classes, Callees, Reaching};
 ghost use Rattle.builder.specs.Rounds.{onward, Added, Stepped};
 use super::names::is_reserved;

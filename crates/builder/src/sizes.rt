@@ -7,7 +7,7 @@ ghost use Rattle.functions.specs.Lists.{sumOf};
 ghost use Rattle.ast.specs.Records.{stmtOf};
 ghost use Rattle.ast.specs.Opens.{Open, contentsIn, fileIn};
 ghost use Rattle.ast.specs.Rows.{atMost};
-ghost use Rattle.builder.specs.Flatten as Flatten;
+ghost use Rattle.definitions.specs.Flatten as Flatten;
 ghost use Rattle.builder.specs.Tables.{Callees};
 use ast::records::model;
 use ast::records::stmt;

@@ -7,7 +7,7 @@ ghost use Rattle.ast.specs.Tree.{Flat};
 ghost use Rattle.ast.specs.Words.{wordOf, bytesOf};
 ghost use Rattle.ast.specs.Bytes.{front, put};
 ghost use Rattle.ast.specs.Opens.{Open, contentsIn, fileIn};
-ghost use Rattle.builder.specs.Flatten.{flatten};
+ghost use Rattle.definitions.specs.Flatten.{flatten};
 ghost use Rattle.builder.specs.Tables.{Callees};
 ghost use Rattle.builder.specs.Descent.{flatAt, broughtAt, RowsIn, RowsKept};
 ghost use Rattle.builder.specs.Unfated.{RecordsFit, Recorded};

@@ -10,7 +10,7 @@ ghost use Rattle.functions.specs.Lists.{each, flag, plusOne};
 ghost use Rattle.ast.specs.Bytes.{front};
 ghost use Rattle.ast.specs.Words.{bytesOf};
 ghost use Rattle.ast.specs.Opens.{Open, fileIn};
-ghost use Rattle.builder.specs.Variables.{lastTime};
+ghost use Rattle.definitions.specs.Variables.{lastTime};
 ghost use Rattle.builder.specs.VariableTables.{nextIn, DepsIn, rosterIn, rostered, Listing};
 ghost use Rattle.builder.specs.Root.{scopeAt, NoTables, tabled, TablesOf};
 use super::variables::reach_time;

@@ -10,7 +10,7 @@ ghost use Rattle.functions.specs.Lists.{any, all, each, plusOne, flag};
 ghost use Rattle.ast.specs.Bytes.{front, put};
 ghost use Rattle.ast.specs.Words.{bytesOf};
 ghost use Rattle.ast.specs.Opens.{Open, fileIn};
-ghost use Rattle.builder.specs.Variables.{keptDeps, lastTime};
+ghost use Rattle.definitions.specs.Variables.{keptDeps, lastTime};
 ghost use Rattle.builder.specs.Tables.{Classes};
 ghost use Rattle.builder.specs.VariableTables.{wordsFrom, DepsIn, leads, Round, TimeReached, firstZero, rostered, listed, declareOne, Numbers, Listing, unknownsIn, rosterIn, unknownIn, oneBelow, keptBy, StartsOf};
 use super::names::is_reserved;

@@ -1,6 +1,6 @@
 use mathlib.Core.Path.{refl}
 use Rattle.builder.specs.Bounding.{floats, boundsFrom}
-use Rattle.builder.specs.Variables.{fromZero, unbounded, infinity, minusInfinity}
+use Rattle.definitions.specs.Variables.{fromZero, unbounded, infinity, minusInfinity}
 use borrow.Author.Needs.{needs}
 use Rattle.builder.proofs.bounds.bounds_from.Statement.{statement}
 use Rattle.builder.proofs.bounds.bounds_from.Tie as tie

@@ -4,8 +4,8 @@ use Prim.Native.Nat.{_≤_}
 use lib.ListN.{take}
 use Rattle.ast.specs.Words.{wordOf}
 use Rattle.ast.specs.Opens.{fileIn}
-use Rattle.builder.specs.Variables.{Bounds, lastBounds}
-use Rattle.builder.specs.Flatten.{modelAt}
+use Rattle.definitions.specs.Variables.{Bounds, lastBounds}
+use Rattle.definitions.specs.Flatten.{modelAt}
 use Rattle.builder.proofs.Open.{modelRecord}
 use Rattle.builder.proofs.BoundLaws.{decided-all, decided-none, decided-found, decided-next}
 use Rattle.builder.proofs.OpenRecords.{model-is}

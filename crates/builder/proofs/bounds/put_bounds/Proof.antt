@@ -3,7 +3,7 @@ use mathlib.Core.Path.{refl, _∙_}
 use mathlib.Core.List.{[], _∷_}
 use lib.Ieee.{binary64, toBits}
 use Rattle.ast.specs.Words.{low, high}
-use Rattle.builder.specs.Answer.{boundsWords}
+use Rattle.definitions.specs.Answer.{boundsWords}
 use Rattle.builder.specs.Bounding.{bitsOf}
 use borrow.Author.Needs.{needs}
 use Rattle.builder.proofs.Puts.{put-more}

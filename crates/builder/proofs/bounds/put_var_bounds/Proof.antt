@@ -2,7 +2,7 @@ use native.Mathlib.Omega.{arith}
 use mathlib.Core.Path.{refl, _∙_}
 use mathlib.Core.Bool.{true}
 use Rattle.ast.specs.Opens.{fileIn}
-use Rattle.builder.specs.Flatten.{modelAt}
+use Rattle.definitions.specs.Flatten.{modelAt}
 use Rattle.builder.proofs.BoundLaws.{from-numbers, from-bits}
 use Rattle.builder.proofs.VarLaws.{bounds-of-time, bounds-of-other}
 use borrow.Author.Needs.{needs}

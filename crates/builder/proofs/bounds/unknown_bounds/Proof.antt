@@ -8,7 +8,7 @@ use Rattle.ast.specs.Numbers.{domainValue}
 use Rattle.ast.specs.File.{contentsOf}
 use Rattle.ast.specs.Opens as Opens
 use Rattle.ast.proofs.Opened.{ranges}
-use Rattle.builder.specs.Names.{isTime}
+use Rattle.definitions.specs.Names.{isTime}
 use Rattle.builder.proofs.Open.{unknownRecord, names-long}
 use Rattle.builder.proofs.Classes.{class-time}
 use Rattle.builder.proofs.BoundLaws.{unknown-floats}

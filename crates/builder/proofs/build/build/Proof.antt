@@ -1,6 +1,6 @@
 use mathlib.Core.Path.{sym, ap, _∙_}
 use lib.ListN.{length}
-use Rattle.builder.specs.Build.{told, resultArea}
+use Rattle.definitions.specs.Build.{told, resultArea}
 use Rattle.ast.proofs.Passed.{is-opened}
 use Rattle.builder.proofs.Answers.{built-refused}
 use borrow.Author.Needs.{needs}

@@ -1,6 +1,6 @@
 use mathlib.Core.Path.{ap, _∙_}
 use lib.ListN.{length}
-use Rattle.builder.specs.Build.{told, resultArea}
+use Rattle.definitions.specs.Build.{told, resultArea}
 use Rattle.builder.specs.Root.{fittedIn}
 use borrow.Author.Needs.{needs}
 use Rattle.builder.proofs.build.build_apart.Statement.{statement}

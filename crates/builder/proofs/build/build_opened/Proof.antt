@@ -1,7 +1,7 @@
 use mathlib.Core.Path.{sym, ap, _∙_}
 use native.Mathlib.Omega.{arith}
 use lib.ListN.{length}
-use Rattle.builder.specs.Build.{told, resultArea}
+use Rattle.definitions.specs.Build.{told, resultArea}
 use Rattle.builder.proofs.Finding.{root-below}
 use Rattle.builder.proofs.Answers.{place-of, place-none, built-none, built-at}
 use borrow.Author.Needs.{needs}

@@ -1,7 +1,7 @@
 use mathlib.Core.Path.{sym, ap, _∙_}
 use native.Mathlib.Omega.{arith}
 use lib.ListN.{length}
-use Rattle.builder.specs.Build.{told, resultArea}
+use Rattle.definitions.specs.Build.{told, resultArea}
 use Rattle.builder.proofs.Outputs.{kept}
 use Rattle.builder.proofs.Answers.{hands-refused, hands-used, used-is}
 use borrow.Author.Needs.{needs}

@@ -5,7 +5,7 @@ use native.Mathlib.Omega.{arith}
 use lib.ListN.{length, take}
 use Rattle.functions.specs.Lists.{each}
 use Rattle.ast.specs.Opens.{fileIn}
-use Rattle.builder.specs.Flatten.{modelAt, stmtErrors, errorsOf}
+use Rattle.definitions.specs.Flatten.{modelAt, stmtErrors, errorsOf}
 use Rattle.builder.specs.Listing.{Lists}
 use Rattle.builder.specs.Checking.{scopeIn, stmtIn}
 use Rattle.builder.proofs.Listings.{lists-none, lists-then, room-first, room-then, length-listed}

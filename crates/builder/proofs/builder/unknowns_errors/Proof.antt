@@ -4,8 +4,8 @@ use native.Mathlib.Omega.{arith}
 use lib.ListN.{length, take}
 use Rattle.functions.specs.Lists.{each}
 use Rattle.ast.specs.Opens.{fileIn}
-use Rattle.builder.specs.Variables.{unknownErrors}
-use Rattle.builder.specs.Flatten.{modelAt}
+use Rattle.definitions.specs.Variables.{unknownErrors}
+use Rattle.definitions.specs.Flatten.{modelAt}
 use Rattle.builder.specs.Listing.{Lists}
 use Rattle.builder.specs.Checking.{unknownIn}
 use Rattle.builder.proofs.Listings.{length-listed}

@@ -1,6 +1,6 @@
 -- `builder::check::arg_errors` meets its contract: the earlier arguments' errors, then the last one's: positional or named. The measure is the count of the arguments. Assumes nothing.
 use native.Mathlib.Omega.{arith}
-use Rattle.builder.specs.Check.{dependentErrors}
+use Rattle.definitions.specs.Check.{dependentErrors}
 use Rattle.builder.proofs.Checks.{args-end, arg-last, arg-node, arg-keyword, args-rest, dependents-more, positional-more, named-more}
 use Rattle.builder.proofs.Listings.{lists-none, lists-then, room-first, room-then}
 use Prim.Native.Nat.{ℕ, _<_}

@@ -3,7 +3,7 @@ use mathlib.Core.Path.{refl, sym, _∙_}
 use Prim.Native.Nat.{_+_, _*_}
 use native.Mathlib.Omega.{arith}
 use Rattle.ast.specs.Nodes.{sizeAt}
-use Rattle.builder.specs.Check.{argsErrors}
+use Rattle.definitions.specs.Check.{argsErrors}
 use Rattle.builder.specs.Checking.{nodesOf}
 use Rattle.builder.proofs.Checks.{args-end, arg-last, arg-node, arg-child, args-rest, args-more-errors}
 use Rattle.builder.proofs.Calls.{call-args}

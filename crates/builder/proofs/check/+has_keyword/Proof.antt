@@ -1,7 +1,7 @@
 -- `builder::check::has_keyword` meets its contract: the last argument bears one, or one before it does. The measure is the count of the arguments. Assumes nothing.
 use mathlib.Core.Path.{sym, ap, _∙_}
 use native.Mathlib.Omega.{arith}
-use Rattle.builder.specs.Check.{hasKeyword}
+use Rattle.definitions.specs.Check.{hasKeyword}
 use Rattle.builder.proofs.Checks.{args-end, arg-last, arg-node, args-rest, has-keyword-here, has-keyword-before}
 use Prim.Native.Nat.{ℕ, _<_}
 use borrow.Fn.Kinds.{In}

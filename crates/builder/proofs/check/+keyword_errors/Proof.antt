@@ -1,7 +1,7 @@
 -- `builder::check::keyword_errors` meets its contract: the earlier arguments' errors, then the last one's. The measure is the count of the arguments. Assumes nothing.
 use mathlib.Core.Path.{refl}
 use native.Mathlib.Omega.{arith}
-use Rattle.builder.specs.Check.{keywordErrors}
+use Rattle.definitions.specs.Check.{keywordErrors}
 use Rattle.builder.proofs.Checks.{args-end, arg-last, arg-node, args-rest, built-in-more}
 use Rattle.builder.proofs.Listings.{lists-none, lists-then, room-first, room-then}
 use Prim.Native.Nat.{ℕ, _<_}

@@ -2,7 +2,7 @@ use mathlib.Core.Path.{sym, _∙_}
 use native.Mathlib.Omega.{arith}
 use Rattle.ast.specs.Opens.{fileIn}
 use Rattle.builder.specs.Root.{flatsOf}
-use Rattle.builder.proofs.Mosts.{few-flats}
+use Rattle.definitions.proofs.Mosts.{few-flats}
 use Rattle.builder.proofs.RootLaid.{deps-room, sizes-known, model-known, laid-out}
 use borrow.Author.Needs.{needs}
 use Rattle.builder.proofs.filling.fill_by.Statement.{statement}

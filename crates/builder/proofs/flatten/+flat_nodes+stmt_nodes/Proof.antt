@@ -9,7 +9,7 @@ use Rattle.ast.specs.Tree.{Flat, flatSize}
 use Rattle.ast.specs.Rows.{levelsOf, atMost}
 use Rattle.ast.specs.Opens.{contentsIn, fileIn}
 use Rattle.ast.proofs.Capped.{at-most-le}
-use Rattle.builder.specs.Flatten.{flatten}
+use Rattle.definitions.specs.Flatten.{flatten}
 use Rattle.builder.proofs.OpenStmts.{submodel-call, called-some, called-within}
 use Rattle.builder.proofs.Descents.{either-zero, neither-zero, kept-less, flat-zero, brought-none, deeper, Counting, counting-start, counting-step, counting-end, nothing-counted}
 use Prim.Native.Nat.{ℕ, _<_}

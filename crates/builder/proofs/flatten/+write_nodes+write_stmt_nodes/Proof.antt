@@ -10,7 +10,7 @@ use Rattle.ast.specs.Bytes.{put}
 use Rattle.ast.specs.Encode.{flatNodes, encode}
 use Rattle.ast.specs.Rows.{levelsOf}
 use Rattle.ast.specs.Opens.{contentsIn, fileIn}
-use Rattle.builder.specs.Flatten.{flatten}
+use Rattle.definitions.specs.Flatten.{flatten}
 use Rattle.builder.proofs.OpenStmts.{submodel-call, called-some, called-within}
 use Rattle.builder.proofs.Descents.{either-zero, neither-zero, kept-less, flat-zero, brought-none, deeper}
 use Rattle.builder.proofs.Putting.{Putting, putting-start, putting-room, putting-step, putting-end, nothing-put}

@@ -5,7 +5,7 @@ use Rattle.functions.specs.Lists.{plusOne}
 use Rattle.ast.specs.Words.{wordOf}
 use Rattle.ast.specs.Nodes.{nameAt}
 use Rattle.ast.specs.Opens.{contentsIn, fileIn}
-use Rattle.builder.specs.Flatten.{modelNamed}
+use Rattle.definitions.specs.Flatten.{modelNamed}
 use Rattle.builder.proofs.Open.{stmtRecord}
 use Rattle.builder.proofs.Finding.{named-below, callee-none, callee-some}
 use borrow.Author.Needs.{needs}

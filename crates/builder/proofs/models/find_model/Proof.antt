@@ -6,7 +6,7 @@ use lib.Dec.{eqb}
 use lib.ListN.{drop}
 use Rattle.functions.specs.Lists.{place, placeFrom, plusOne}
 use Rattle.ast.specs.Opens.{fileIn}
-use Rattle.builder.specs.Flatten.{modelNamed}
+use Rattle.definitions.specs.Flatten.{modelNamed}
 use Rattle.builder.proofs.Finding.{find-yes, find-no, find-end, isNamed, named-test}
 use Rattle.builder.proofs.models.find_model.Statement.{statement}
 use Rattle.builder.proofs.models.find_model.Tie as tie

@@ -5,8 +5,8 @@ use borrow.Author.Needs.{needs}
 use lib.ListN.{drop}
 use Rattle.functions.specs.Lists.{sameText, place, placeFrom, plusOne}
 use Rattle.ast.specs.Opens.{fileIn}
-use Rattle.builder.specs.Names.{textOf}
-use Rattle.builder.specs.Build.{rootOf}
+use Rattle.definitions.specs.Names.{textOf}
+use Rattle.definitions.specs.Build.{rootOf}
 use Rattle.builder.proofs.Finding.{find-yes, find-no, find-end, isRoot, root-test}
 use Rattle.builder.proofs.OpenRecords.{model-is}
 use Rattle.builder.proofs.models.find_root.Statement.{statement}

@@ -3,7 +3,7 @@ use Prim.Native.Nat.{_-_, _≤_}
 use native.Mathlib.Omega.{arith}
 use borrow.Author.Needs.{needs}
 use Rattle.ast.specs.Opens.{fileIn}
-use Rattle.builder.specs.Names.{textOf}
+use Rattle.definitions.specs.Names.{textOf}
 use Rattle.builder.proofs.Filled.{Filled, filled-none, filled-more}
 use Rattle.builder.proofs.Open.{names-long}
 use Rattle.builder.specs.Tables.{classOf}

@@ -1,6 +1,6 @@
 use mathlib.Core.Path.{sym, ap, _∙_}
 use lib.ListN.{length}
-use Rattle.builder.specs.Build.{told, resultArea}
+use Rattle.definitions.specs.Build.{told, resultArea}
 use Rattle.builder.proofs.Outputs.{handed, not-handed}
 use borrow.Author.Needs.{needs}
 use Rattle.builder.proofs.output.hand_out.Statement.{statement}

@@ -4,7 +4,7 @@ use native.Mathlib.Omega.{arith}
 use mathlib.Core.Bool.{true, or-true, or-false}
 use Rattle.ast.specs.Nodes.{opAt, sizeAt, argsFit, argsBefore}
 use Rattle.ast.specs.Opens.{contentsIn}
-use Rattle.builder.specs.Flatten as flatten
+use Rattle.definitions.specs.Flatten as flatten
 use Rattle.builder.proofs.OpenRecords.{call-args, arg-here}
 use Rattle.builder.proofs.Refusals.{beyond-here, beyond-done}
 use Rattle.builder.proofs.reached.beyond.Statement.{statement}

@@ -2,7 +2,7 @@ use mathlib.Core.Path.{_≡_, sym, ap, _∙_}
 use Prim.Native.Nat.{_-_, _≤_}
 use native.Mathlib.Omega.{arith}
 use Rattle.ast.specs.Opens.{fileIn}
-use Rattle.builder.specs.Flatten as flatten
+use Rattle.definitions.specs.Flatten as flatten
 use Rattle.builder.proofs.OpenRecords.{long}
 use Rattle.builder.proofs.Refusals.{reached-by, reached-done, itself-flag}
 use Rattle.builder.proofs.reached.cyclic.Statement.{statement}

@@ -4,7 +4,7 @@ use native.Mathlib.Omega.{arith}
 use lib.ListN.{drop}
 use Rattle.functions.specs.Lists.{any}
 use Rattle.ast.specs.Opens.{fileIn}
-use Rattle.builder.specs.Flatten as flatten
+use Rattle.definitions.specs.Flatten as flatten
 use Rattle.builder.proofs.Runs.{unknowns-below, unknowns-turn, unknowns-done}
 use Rattle.builder.proofs.reached.model_lists_itself.Statement.{statement}
 use Rattle.builder.proofs.reached.model_lists_itself.Tie as tie

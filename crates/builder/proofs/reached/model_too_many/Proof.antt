@@ -4,7 +4,7 @@ use native.Mathlib.Omega.{arith}
 use lib.ListN.{drop}
 use Rattle.functions.specs.Lists.{any}
 use Rattle.ast.specs.Opens.{fileIn}
-use Rattle.builder.specs.Flatten as flatten
+use Rattle.definitions.specs.Flatten as flatten
 use Rattle.builder.proofs.Runs.{stmts-below, stmts-turn, stmts-done}
 use Rattle.builder.proofs.reached.model_too_many.Statement.{statement}
 use Rattle.builder.proofs.reached.model_too_many.Tie as tie

@@ -10,9 +10,9 @@ use Prim.Native.Nat.{_+_, _-_, _≤_}
 use native.Mathlib.Omega.{arith}
 use lib.ListN.{take}
 use Rattle.ast.specs.Opens.{fileIn}
-use Rattle.builder.specs.Names.{timeName}
-use Rattle.builder.specs.Variables.{declare}
-use Rattle.builder.specs.Flatten.{modelAt}
+use Rattle.definitions.specs.Names.{timeName}
+use Rattle.definitions.specs.Variables.{declare}
+use Rattle.definitions.specs.Flatten.{modelAt}
 use Rattle.builder.specs.Tables.{Marks}
 use Rattle.builder.proofs.scope.declared.Statement.{statement}
 use Rattle.builder.proofs.scope.declared.Tie as tie

@@ -5,7 +5,7 @@ use native.Mathlib.Omega.{arith}
 use lib.ListN.{length, drop}
 use Rattle.functions.specs.Lists.{any}
 use Rattle.ast.specs.Opens.{fileIn}
-use Rattle.builder.specs.Flatten.{modelAt}
+use Rattle.definitions.specs.Flatten.{modelAt}
 use Rattle.builder.proofs.Dependents.{listsAs}
 use Rattle.builder.proofs.Unknowns.{any-here, any-next, any-done, lists-at, kept-none, kept-listed}
 use Rattle.builder.proofs.OpenUnknowns.{noUnknown}

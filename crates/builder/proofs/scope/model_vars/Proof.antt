@@ -3,8 +3,8 @@ use Prim.Native.Nat.{_+_, _-_, _≤_, _<_}
 use native.Mathlib.Omega.{arith}
 use lib.ListN.{take}
 use Rattle.ast.specs.Opens.{fileIn}
-use Rattle.builder.specs.Variables.{variableNames}
-use Rattle.builder.specs.Flatten.{modelAt}
+use Rattle.definitions.specs.Variables.{variableNames}
+use Rattle.definitions.specs.Flatten.{modelAt}
 use Rattle.builder.specs.Checking.{unknownIn}
 use Rattle.builder.proofs.Open.{names-long}
 use Rattle.builder.proofs.OpenRecords.{unknown-is, listed-below}

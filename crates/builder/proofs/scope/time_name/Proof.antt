@@ -6,7 +6,7 @@ use native.Mathlib.Omega.{arith}
 use lib.ListN.{drop}
 use Rattle.functions.specs.Lists.{text, sameText, place, placeFrom, plusOne}
 use Rattle.ast.specs.Opens.{fileIn}
-use Rattle.builder.specs.Names.{timeName}
+use Rattle.definitions.specs.Names.{timeName}
 use Rattle.builder.proofs.scope.time_name.Statement.{statement}
 use Rattle.builder.proofs.scope.time_name.Tie as tie
 

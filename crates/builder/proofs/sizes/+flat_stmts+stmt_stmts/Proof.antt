@@ -11,13 +11,13 @@ use Rattle.ast.specs.Rows.{atMost}
 use Rattle.ast.proofs.Capped.{at-most-le, at-most-zero, at-most-none, at-most-one}
 use Rattle.ast.proofs.records.model.Reads as model-reads
 use Rattle.ast.proofs.records.stmt.Reads as stmt-reads
-use Rattle.builder.specs.Flatten.{modelAt}
+use Rattle.definitions.specs.Flatten.{modelAt}
 use Rattle.builder.specs.Checking.{stmtIn}
 use Rattle.builder.proofs.Amounts.{broughtIn, at-most-add, sum-none, brought-own, brought-none, brought-called, flatten-zero, flatten-more, run-next, run-end}
 use Rattle.builder.proofs.Calling.{callee-below}
 use Rattle.builder.proofs.OpenRecords.{own-stmt, model-is}
 use Rattle.builder.proofs.Open.{models-long}
-use Rattle.builder.proofs.StmtKinds.{stmt-submodel}
+use Rattle.definitions.proofs.StmtKinds.{stmt-submodel}
 use Rattle.builder.proofs.sizes.+flat_stmts+stmt_stmts.{statement}
 use Rattle.builder.proofs.sizes.+flat_stmts+stmt_stmts.Tie.{close}
 use Rattle.builder.proofs.sizes.flat_stmts.Reads as flat-stmts

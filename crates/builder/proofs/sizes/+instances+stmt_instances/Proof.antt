@@ -10,7 +10,7 @@ use Rattle.ast.specs.Opens.{fileIn}
 use Rattle.ast.specs.Rows.{atMost}
 use Rattle.ast.proofs.Capped.{at-most-le, at-most-zero, at-most-none, at-most-one}
 use Rattle.ast.proofs.records.model.Reads as model-reads
-use Rattle.builder.specs.Flatten.{modelAt}
+use Rattle.definitions.specs.Flatten.{modelAt}
 use Rattle.builder.specs.Checking.{stmtIn}
 use Rattle.builder.proofs.Amounts.{calledInstances, at-most-add, sum-none, called-none, called-one, instances-zero, instances-more, run-next, run-end}
 use Rattle.builder.proofs.Calling.{callee-below}

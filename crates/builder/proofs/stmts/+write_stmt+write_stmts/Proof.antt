@@ -4,7 +4,7 @@ use native.Mathlib.Omega.{arith}
 use lib.ListN.{getD}
 use Rattle.ast.specs.Rows.{levelsOf}
 use Rattle.ast.specs.Opens.{contentsIn, fileIn}
-use Rattle.builder.specs.Flatten.{flatten}
+use Rattle.definitions.specs.Flatten.{flatten}
 use Rattle.builder.proofs.OpenStmts.{submodel-call, called-some, called-within}
 use Rattle.builder.proofs.Descents.{either-zero, neither-zero, kept-less, flat-zero, brought-none, deeper}
 use Rattle.builder.proofs.Recording.{Recording, recording-start, recording-room, recording-step, recording-end, nothing-recorded, fits-same, recorded-same}

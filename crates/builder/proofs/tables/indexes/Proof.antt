@@ -2,7 +2,7 @@ use Prim.Native.Nat.{ℕ, _-_, _≤_, _<_}
 use mathlib.Core.Option.{none}
 use native.Mathlib.Omega.{arith}
 use Rattle.functions.specs.Lists.{plusOne}
-use Rattle.builder.specs.Variables.{lastTime}
+use Rattle.definitions.specs.Variables.{lastTime}
 use Rattle.builder.specs.VariableTables.{nextIn}
 use Rattle.builder.proofs.Filled.{Filled, filled-none, filled-more}
 use Rattle.builder.proofs.RootTables.{index-word}

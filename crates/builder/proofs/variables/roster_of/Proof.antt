@@ -5,7 +5,7 @@ use native.Mathlib.Omega.{arith}
 use mathlib.Core.Logic.{⊎-elim}
 use lib.ListN.{length, drop}
 use Rattle.ast.specs.Opens.{fileIn}
-use Rattle.builder.specs.Variables.{declare}
+use Rattle.definitions.specs.Variables.{declare}
 use Rattle.builder.specs.VariableTables.{rostered, listed, Listing, unknownsIn, rosterIn}
 use Rattle.builder.proofs.OpenUnknowns.{run-within, run-count, run-name}
 use Rattle.builder.proofs.Rosters.{time-in, reserved-in, roster-first, roster-next, roster-pass, roster-last}

@@ -2,7 +2,7 @@ use mathlib.Core.Path.{sym}
 use Prim.Native.Nat.{_+_, _-_, _≤_, _<_}
 use native.Mathlib.Omega.{arith}
 use lib.ListN.{length}
-use Rattle.builder.specs.Variables.{keptDeps}
+use Rattle.definitions.specs.Variables.{keptDeps}
 use Rattle.builder.specs.VariableTables.{unknownsIn, unknownIn, rosterIn}
 use Rattle.builder.proofs.OpenUnknowns.{noUnknown, unknown-deps-below, run-within, run-count, run-unknown}
 use Rattle.builder.proofs.PutWords.{ofNamed, named-kept, Runs, runs-first, runs-length, runs-room, runs-next, runs-last}

@@ -4,7 +4,7 @@ use native.Mathlib.Omega.{arith}
 use mathlib.Core.Option.{none}
 use lib.ListN.{take}
 use Rattle.functions.specs.Lists.{plusOne}
-use Rattle.builder.specs.Variables.{lastTime}
+use Rattle.definitions.specs.Variables.{lastTime}
 use Rattle.builder.specs.VariableTables.{wordsFrom}
 use Rattle.builder.proofs.Timing.{time-all, time-found, time-passed, time-none}
 use Rattle.builder.proofs.variables.time_index.Statement.{statement}

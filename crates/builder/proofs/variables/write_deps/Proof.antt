@@ -5,7 +5,7 @@ use lib.ListN.{length, take, getD, length-set}
 use Rattle.functions.specs.Lists.{each}
 use Rattle.ast.specs.Words.{bytesOf}
 use Rattle.ast.proofs.Fronts.{put-zero}
-use Rattle.builder.specs.Variables.{keptDeps}
+use Rattle.definitions.specs.Variables.{keptDeps}
 use Rattle.builder.specs.VariableTables.{rostered, unknownsIn, rosterIn}
 use Rattle.builder.proofs.Rosters.{listing-name}
 use Rattle.builder.proofs.PutWords.{Runs, runs-first, runs-length, runs-few, runs-room, runs-next, runs-last, starts-first, starts-next, kept-few}

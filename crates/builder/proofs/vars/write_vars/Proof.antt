@@ -7,7 +7,7 @@ use Rattle.ast.specs.Words.{section}
 use Rattle.ast.specs.Bytes.{put}
 use Rattle.ast.specs.Encode.{encode}
 use Rattle.ast.specs.Opens.{fileIn}
-use Rattle.builder.specs.Flatten.{modelAt}
+use Rattle.definitions.specs.Flatten.{modelAt}
 use Rattle.builder.specs.Places.{stmtsAt, varsAt, depsAt}
 use Rattle.builder.specs.VarRecords.{varRecords}
 use Rattle.builder.proofs.FateTables.{fates-none}

@@ -1,0 +1,16 @@
+pub mod Numbers
+pub mod Names
+pub mod Variables
+pub mod Check
+pub mod Flatten
+pub mod Roles
+pub mod Allocate
+pub mod Answer
+pub mod Area
+pub mod Build
+pub mod Read
+pub mod Promise
+pub mod Models
+pub mod Computes
+pub mod Examples
+pub mod OwnExamples
