@@ -143,7 +143,7 @@ fn the_tree_file() {
 
 /// `name = number` lines of the definitions.
 fn definitions() -> BTreeMap<String, u64> {
-    let text = text("crates/builder/specs/Numbers.antt");
+    let text = text("crates/definitions/specs/Numbers.antt");
     let numbers = text.lines().filter_map(|line| {
         let (name, number) = line.split_once(" = ")?;
         Some((name.to_string(), number.parse().ok()?))
