@@ -14,31 +14,7 @@ ghost use Rattle.ast.specs.Encode.{nodes, argNodes, encode};
 ghost use Rattle.ast.specs.Rows.{read, readArgs, spanning, bearing, copied, atMost, Ready};
 use super::sections::node_word;
 use super::sections::record_word;
-use super::words::put_word;
-
-fn put_node(
-    out: &mut [u8],
-    kind: u32,
-    name: u32,
-    op: u32,
-    size: u32,
-    from: u32,
-    to: u32,
-    low: u32,
-    high: u32,
-)
-    requires { ⌜ 32 ≤ length (now out) ⌝ }
-    ensures { λ _. ⌜ now (out .exit) ≡ front (now (out .entry)) (bytesOf (kind ∷ name ∷ op ∷ size ∷ from ∷ to ∷ low ∷ high ∷ [])) ⌝ }
-{
-    put_word(out, 0, kind);
-    put_word(out, 4, name);
-    put_word(out, 8, op);
-    put_word(out, 12, size);
-    put_word(out, 16, from);
-    put_word(out, 20, to);
-    put_word(out, 24, low);
-    put_word(out, 28, high);
-}
+use super::words::put_record;
 
 // Writes node i with another size and span.
 fn copy_node(f: &[u8], at: usize, n: usize, i: usize, size: u32, from: u32, to: u32, out: &mut [u8])
@@ -50,7 +26,7 @@ fn copy_node(f: &[u8], at: usize, n: usize, i: usize, size: u32, from: u32, to: 
     let op = record_word(f, at, 8, n, i, 2);
     let low = record_word(f, at, 8, n, i, 6);
     let high = record_word(f, at, 8, n, i, 7);
-    put_node(out, kind, name, op, size, from, to, low, high);
+    put_record(out, kind, name, op, size, from, to, low, high);
 }
 
 // Writes node i, of another size and span, behind the nodes written, and gives their new number.
@@ -119,17 +95,8 @@ fn write_expr(
         return copy_behind(f, at, n, i, 1 + a, from, to, out, a);
     }
     let total = node_word(f, at, n, i, 3) - 1;
-    let a = write_args(
-        f,
-        at,
-        n,
-        rows,
-        level,
-        i,
-        node_word(f, at, n, i, 2),
-        total,
-        out,
-    );
+    let args = node_word(f, at, n, i, 2);
+    let a = write_args(f, at, n, rows, level, i, args, total, out);
     copy_behind(f, at, n, i, 1 + a, from, to, out, a)
 }
 

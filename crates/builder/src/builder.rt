@@ -185,21 +185,21 @@ fn add_submodel(
     s: Sections,
     classes: &[u8; 256],
     rules: &[u8; 256],
-    callees: &[u8; 256],
+    calls: &[u8; 256],
     k: usize,
     q: usize,
     out: &mut [u8],
     count: usize,
 ) -> usize
-    requires { ⌜ Tabled (now f) s (now classes) (now rules) (now callees) × (q < s .counts .stmts) × (kindOfStmt (getD (contentsIn (now f) s .stmts) q []) ≡ 3) × (k ≤ 32) × ((c : Scope) → Room (now out) count (stmtErrors (fileIn (now f) s) (λ j. errorsOf (fileIn (now f) s) k j) c (stmtIn (now f) s q))) ⌝ }
+    requires { ⌜ Tabled (now f) s (now classes) (now rules) (now calls) × (q < s .counts .stmts) × (kindOfStmt (getD (contentsIn (now f) s .stmts) q []) ≡ 3) × (k ≤ 32) × ((c : Scope) → Room (now out) count (stmtErrors (fileIn (now f) s) (λ j. errorsOf (fileIn (now f) s) k j) c (stmtIn (now f) s q))) ⌝ }
     ensures { λ r. ⌜ ((c : Scope) → Lists (now (out .entry)) count (stmtErrors (fileIn (now (f .entry)) s) (λ j. errorsOf (fileIn (now (f .entry)) s) k j) c (stmtIn (now (f .entry)) s q)) r (now (out .exit))) ⌝ }
 {
     let call = stmt(f, s, q, 3);
-    let c = callees[q] as usize;
+    let c = calls[q] as usize;
     if c == 0 {
         return missing_error(f, s, q, node(f, s, call, 1), out, count);
     }
-    let listed = builder(f, s, classes, rules, callees, k, c - 1, out, count);
+    let listed = builder(f, s, classes, rules, calls, k, c - 1, out, count);
     let args = node(f, s, call, 2);
     let total = node(f, s, call, 3) - 1;
     order_errors(f, s, call, args, total, out, listed)
@@ -211,7 +211,7 @@ fn stmt_errors(
     s: Sections,
     classes: &[u8; 256],
     rules: &[u8; 256],
-    callees: &[u8; 256],
+    calls: &[u8; 256],
     vars: &[u32; 256],
     k: usize,
     m: usize,
@@ -219,13 +219,13 @@ fn stmt_errors(
     out: &mut [u8],
     count: usize,
 ) -> usize
-    requires { ⌜ Tabled (now f) s (now classes) (now rules) (now callees) × Against (now f) s m (now classes) (now rules) (now vars) × (q < s .counts .stmts) × (k ≤ 32) × Room (now out) count (stmtErrors (fileIn (now f) s) (λ j. errorsOf (fileIn (now f) s) k j) (scopeIn (now f) s m) (stmtIn (now f) s q)) ⌝ }
+    requires { ⌜ Tabled (now f) s (now classes) (now rules) (now calls) × Against (now f) s m (now classes) (now rules) (now vars) × (q < s .counts .stmts) × (k ≤ 32) × Room (now out) count (stmtErrors (fileIn (now f) s) (λ j. errorsOf (fileIn (now f) s) k j) (scopeIn (now f) s m) (stmtIn (now f) s q)) ⌝ }
     ensures { λ r. ⌜ Lists (now (out .entry)) count (stmtErrors (fileIn (now (f .entry)) s) (λ j. errorsOf (fileIn (now (f .entry)) s) k j) (scopeIn (now (f .entry)) s m) (stmtIn (now (f .entry)) s q)) r (now (out .exit)) ⌝ }
 {
     if stmt(f, s, q, 0) != 3 {
         return own_errors(f, s, classes, rules, vars, m, q, out, count);
     }
-    add_submodel(f, s, classes, rules, callees, k, q, out, count)
+    add_submodel(f, s, classes, rules, calls, k, q, out, count)
 }
 
 // The errors of model m, to a depth of k models.
@@ -234,13 +234,13 @@ pub fn builder(
     s: Sections,
     classes: &[u8; 256],
     rules: &[u8; 256],
-    callees: &[u8; 256],
+    calls: &[u8; 256],
     k: usize,
     m: usize,
     out: &mut [u8],
     count: usize,
 ) -> usize
-    requires { ⌜ Tabled (now f) s (now classes) (now rules) (now callees) × (m < s .counts .models) × (k ≤ 32) × Room (now out) count (errorsOf (fileIn (now f) s) k m) ⌝ }
+    requires { ⌜ Tabled (now f) s (now classes) (now rules) (now calls) × (m < s .counts .models) × (k ≤ 32) × Room (now out) count (errorsOf (fileIn (now f) s) k m) ⌝ }
     ensures { λ r. ⌜ Lists (now (out .entry)) count (errorsOf (fileIn (now (f .entry)) s) k m) r (now (out .exit)) ⌝ }
 {
     if k == 0 {
@@ -253,19 +253,8 @@ pub fn builder(
     let mut listed = unknowns_errors(f, s, classes, m, out, count);
     let mut i = 0;
     while i < stmts {
-        listed = stmt_errors(
-            f,
-            s,
-            classes,
-            rules,
-            callees,
-            &vars,
-            k - 1,
-            m,
-            first + i,
-            out,
-            listed,
-        );
+        let q = first + i;
+        listed = stmt_errors(f, s, classes, rules, calls, &vars, k - 1, m, q, out, listed);
         i += 1;
     }
     listed

@@ -18,6 +18,7 @@ pub mod output;
 pub mod pairing;
 pub mod places;
 pub mod reached;
+pub mod replacements;
 pub mod scope;
 pub mod sizes;
 pub mod starting;

@@ -6,18 +6,17 @@ ghost use Rattle.ast.specs.Opens.{Open, fileIn};
 ghost use Rattle.builder.specs.Tables.{Classes, Callees};
 ghost use Rattle.builder.specs.Descent.{RowsIn};
 ghost use Rattle.builder.specs.Root.{forbiddenOf, sizeOf, measureOf};
-use super::flatten::flat_nodes;
 use super::reached::cyclic;
 use super::reached::overfull;
 use super::reached::reach;
 use super::reached::self_listed;
 use super::sizes::MOST_INSTANCES;
+use super::sizes::MOST_NODES;
 use super::sizes::MOST_STMTS;
+use super::sizes::flat_nodes;
 use super::sizes::flat_stmts;
 use super::sizes::instances;
 use ast::sections::Sections;
-
-const MOST_NODES: usize = 1024;
 
 // A refusal's number, or the numbers of instances, flattened statements and flattened nodes.
 pub enum Measured {

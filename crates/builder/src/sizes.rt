@@ -1,21 +1,28 @@
-// How big a build is: instances and flattened statements, each counted as the descent goes and at most to a limit.
+// How big a build is: instances, flattened statements and flattened nodes, each counted as the descent goes and at most to a limit.
 ghost use mathlib.Core.Path.{_≡_};
-ghost use mathlib.Core.List.{[]};
-ghost use Prim.Native.Nat.{_≤_, _<_};
+ghost use mathlib.Core.List.{List, []};
+ghost use Prim.Native.Nat.{ℕ, _+_, _*_, _≤_, _<_};
 ghost use lib.ListN.{length, getD};
 ghost use Rattle.functions.specs.Lists.{sumOf};
+ghost use Rattle.ast.specs.Tree.{Flat, flatSize};
+ghost use Rattle.ast.specs.Words.{wordOf};
 ghost use Rattle.ast.specs.Records.{stmtOf};
 ghost use Rattle.ast.specs.Opens.{Open, contentsIn, fileIn};
 ghost use Rattle.ast.specs.Rows.{atMost};
 ghost use Rattle.definitions.specs.Flatten as Flatten;
 ghost use Rattle.builder.specs.Tables.{Callees};
+ghost use Rattle.builder.specs.Descent.{flatAt, broughtAt, RowsIn, RowsKept};
+use super::replacements::find_replacements;
 use ast::records::model;
 use ast::records::stmt;
 use ast::sections::Sections;
+use ast::subst::measure_expr;
 
 pub const MOST_INSTANCES: usize = 1024;
 
 pub const MOST_STMTS: usize = 256;
+
+pub const MOST_NODES: usize = 1024;
 
 // The instances of model m, to a depth of k models, at most `most`: 1 for itself plus those of each submodel statement.
 pub fn instances(f: &[u8], s: Sections, calls: &[u8; 256], k: usize, m: usize, most: usize) -> usize
@@ -100,4 +107,72 @@ fn stmt_stmts(f: &[u8], s: Sections, calls: &[u8; 256], k: usize, q: usize, most
         return 0;
     }
     flat_stmts(f, s, calls, k, c - 1, most)
+}
+
+// The nodes of statement q's own trees, read at a level, at most `most`.
+fn own_nodes(f: &[u8], s: Sections, rows: &[u32], level: usize, q: usize, most: usize) -> usize
+    requires { ⌜ Open (now f) s × ((q < s .counts .stmts) × (wordOf (getD (contentsIn (now f) s .stmts) q []) 0 ≡ 3 → ⊥)) × ((level ≤ 32) × (256 * level ≤ length (now rows)) × RowsIn (now f) s (now rows)) ⌝ }
+    ensures { λ r. ⌜ ((sub : ℕ → List Flat) → r ≡ atMost most (sumOf flatSize (broughtAt (now (f .entry)) s (now (rows .entry)) level sub q))) ⌝ }
+{
+    let at = s.starts.nodes;
+    let n = s.counts.nodes;
+    let right = stmt(f, s, q, 3);
+    if stmt(f, s, q, 0) == 2 {
+        return measure_expr(f, at, n, rows, level, right, most);
+    }
+    let a = measure_expr(f, at, n, rows, level, stmt(f, s, q, 2), most);
+    a + measure_expr(f, at, n, rows, level, right, most - a)
+}
+
+// The flattened nodes of model m, whose statements are read at a level, at most `most`.
+pub fn flat_nodes(
+    f: &[u8],
+    s: Sections,
+    calls: &[u8; 256],
+    rows: &mut [u32],
+    k: usize,
+    m: usize,
+    level: usize,
+    most: usize,
+) -> usize
+    requires { ⌜ Open (now f) s × Callees (now f) s (now calls) × (m < s .counts .models) × ((level + k ≤ 32) × (256 * (level + k) ≤ length (now rows)) × RowsIn (now f) s (now rows)) ⌝ }
+    ensures { λ r. ⌜ (r ≡ atMost most (sumOf flatSize (flatAt (now (f .entry)) s (now (rows .entry)) level k m))) × RowsKept (now (f .entry)) s level (now (rows .entry)) (now (rows .exit)) ⌝ }
+{
+    if k == 0 {
+        return 0;
+    }
+    let first = model(f, s, m, 3);
+    let count = model(f, s, m, 4);
+    let mut total = 0;
+    let mut i = 0;
+    while i < count {
+        total += stmt_nodes(f, s, calls, rows, k - 1, first + i, level, most - total);
+        i += 1;
+    }
+    total
+}
+
+// The nodes of what statement q brings in.
+fn stmt_nodes(
+    f: &[u8],
+    s: Sections,
+    calls: &[u8; 256],
+    rows: &mut [u32],
+    k: usize,
+    q: usize,
+    level: usize,
+    most: usize,
+) -> usize
+    requires { ⌜ Open (now f) s × Callees (now f) s (now calls) × (q < s .counts .stmts) × ((level + k < 32) × (256 * (level + k + 1) ≤ length (now rows)) × RowsIn (now f) s (now rows)) ⌝ }
+    ensures { λ r. ⌜ (r ≡ atMost most (sumOf flatSize (broughtAt (now (f .entry)) s (now (rows .entry)) level (λ j. Flatten.flatten (fileIn (now (f .entry)) s) k j) q))) × RowsKept (now (f .entry)) s level (now (rows .entry)) (now (rows .exit)) ⌝ }
+{
+    if stmt(f, s, q, 0) != 3 {
+        return own_nodes(f, s, rows, level, q, most);
+    }
+    let c = calls[q] as usize;
+    if (c == 0) | (k == 0) {
+        return 0;
+    }
+    find_replacements(f, s, c - 1, stmt(f, s, q, 3), rows, level);
+    flat_nodes(f, s, calls, rows, k, c - 1, level + 1, most)
 }

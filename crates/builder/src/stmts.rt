@@ -5,18 +5,18 @@ ghost use Prim.Native.Nat.{ℕ, _+_, _*_, _≤_, _<_};
 ghost use lib.ListN.{length, getD};
 ghost use Rattle.ast.specs.Tree.{Flat};
 ghost use Rattle.ast.specs.Words.{wordOf, bytesOf};
-ghost use Rattle.ast.specs.Bytes.{front, put};
+ghost use Rattle.ast.specs.Bytes.{put};
 ghost use Rattle.ast.specs.Opens.{Open, contentsIn, fileIn};
 ghost use Rattle.definitions.specs.Flatten.{flatten};
 ghost use Rattle.builder.specs.Tables.{Callees};
 ghost use Rattle.builder.specs.Descent.{flatAt, broughtAt, RowsIn, RowsKept};
 ghost use Rattle.builder.specs.Unfated.{RecordsFit, Recorded};
-use super::flatten::find_replacements;
+use super::replacements::find_replacements;
 use ast::records::model;
 use ast::records::stmt;
 use ast::sections::Sections;
 use ast::subst::measure_expr;
-use ast::words::put_word;
+use ast::words::put_record;
 
 // How many statements are written, and how many nodes their trees have.
 pub struct Done {
@@ -24,22 +24,7 @@ pub struct Done {
     pub nodes: usize,
 }
 
-// Writes a statement's record, without its fate.
-fn put_record(out: &mut [u8], kind: u32, name: u32, left: u32, right: u32, from: u32, to: u32)
-    requires { ⌜ 32 ≤ length (now out) ⌝ }
-    ensures { λ _. ⌜ now (out .exit) ≡ front (now (out .entry)) (bytesOf (kind ∷ name ∷ left ∷ right ∷ from ∷ to ∷ 0 ∷ 0 ∷ [])) ⌝ }
-{
-    put_word(out, 0, kind);
-    put_word(out, 4, name);
-    put_word(out, 8, left);
-    put_word(out, 12, right);
-    put_word(out, 16, from);
-    put_word(out, 20, to);
-    put_word(out, 24, 0);
-    put_word(out, 28, 0);
-}
-
-// The same behind `count` records.
+// Writes a statement's record, without its fate, behind `count` records.
 fn record_behind(
     out: &mut [u8],
     count: usize,
@@ -54,7 +39,7 @@ fn record_behind(
     ensures { λ _. ⌜ now (out .exit) ≡ put (now (out .entry)) (32 * count) (bytesOf (kind ∷ name ∷ left ∷ right ∷ from ∷ to ∷ 0 ∷ 0 ∷ [])) ⌝ }
 {
     let start = 32 * count;
-    put_record(&mut out[start..], kind, name, left, right, from, to);
+    put_record(&mut out[start..], kind, name, left, right, from, to, 0, 0);
 }
 
 // Writes the record of statement q, its trees behind `done.nodes` nodes.
@@ -89,16 +74,9 @@ fn write_record(
     let j = stmt(f, s, q, 2);
     let left = nodes + measure_expr(f, at, n, rows, level, j, 1024);
     let right = left + measure_expr(f, at, n, rows, level, i, 1024);
-    record_behind(
-        out,
-        stmts,
-        1,
-        0,
-        (left - 1) as u32,
-        (right - 1) as u32,
-        from,
-        to,
-    );
+    let l = (left - 1) as u32;
+    let r = (right - 1) as u32;
+    record_behind(out, stmts, 1, 0, l, r, from, to);
     Done {
         stmts: stmts + 1,
         nodes: right,

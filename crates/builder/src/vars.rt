@@ -21,6 +21,7 @@ use super::fated::note_fates;
 use super::places::Sizes;
 use super::places::vars_at;
 use ast::sections::Sections;
+use ast::words::put_record;
 use ast::words::put_word;
 
 // 1 for true.
@@ -45,14 +46,20 @@ fn put_lead(
     requires { ⌜ (at + 32 ≤ length (now area)) × (first ≤ end) ⌝ }
     ensures { λ _. ⌜ now (area .exit) ≡ put (now (area .entry)) at (bytesOf (leadWords name first end index held initial time)) ⌝ }
 {
-    put_word(area, at, name);
-    put_word(area, at + 4, flag_of(first < end));
-    put_word(area, at + 8, index);
-    put_word(area, at + 12, first);
-    put_word(area, at + 16, end - first);
-    put_word(area, at + 20, held);
-    put_word(area, at + 24, initial);
-    put_word(area, at + 28, flag_of(time));
+    let state = flag_of(first < end);
+    let count = end - first;
+    let timed = flag_of(time);
+    put_record(
+        &mut area[at..],
+        name,
+        state,
+        index,
+        first,
+        count,
+        held,
+        initial,
+        timed,
+    );
 }
 
 // Writes the record of variable v: `held` is the statement that it holds plus 1 or 0, `initial` how many initial conditions it has.

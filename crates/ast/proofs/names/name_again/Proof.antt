@@ -23,10 +23,14 @@ loop-holds : tie.Need-loop-holds Inv-loop μ-loop
 loop-holds c = (omega arith, omega arith, refl)
 
 same-name-requires : tie.Need-same-name-requires Inv-loop μ-loop
-same-name-requires c κs = (c .before .before .before .pre .0, c .before .before .before .pre .1, c .before .before .before .pre .2, c .before .before .before .pre .3, c .loop-test .taken)
+same-name-requires c κs =
+    let p = c .before .before .before .pre in
+    (p .0, p .1, p .2, p .3, c .loop-test .taken)
 
 returns : tie.Need-returns Inv-loop μ-loop
-returns c = sym (c .before .before .before .loop .inv .2 ∙ again-turn (c .before .before .before .before .before .args .n) (c .before .before .before .before .before .args .at) (c .before .before .before .before .before .args .f .now) (textOfName (take (c .before .before .before .before .before .args .size) (c .before .before .before .before .before .args .f .now))) (c .before .before .before .loop .j) (textOfName (take (c .before .before .before .before .before .args .size) (c .before .before .before .before .before .args .f .now)) (getD (section 2 (c .before .before .before .before .before .args .n) (c .before .before .before .before .before .args .at) (c .before .before .before .before .before .args .f .now)) (c .before .before .before .before .before .args .i) [])) (c .before .before .loop-test .taken) ∙ rw (sym (c .before .same-name .ensures) ∙ c .if1 .taken))
+returns c =
+    let a = c .before .before .before .before .before .args in
+    sym (c .before .before .before .loop .inv .2 ∙ again-turn (a .n) (a .at) (a .f .now) (textOfName (take (a .size) (a .f .now))) (c .before .before .before .loop .j) (textOfName (take (a .size) (a .f .now)) (getD (section 2 (a .n) (a .at) (a .f .now)) (a .i) [])) (c .before .before .loop-test .taken) ∙ rw (sym (c .before .same-name .ensures) ∙ c .if1 .taken))
 
 add-j-2 : tie.Need-add-j-2 Inv-loop μ-loop
 add-j-2 c = omega arith
@@ -35,10 +39,14 @@ loop-less : tie.Need-loop-less Inv-loop μ-loop
 loop-less c = omega arith
 
 loop-again : tie.Need-loop-again Inv-loop μ-loop
-loop-again c = (omega arith, omega arith, c .before .before .before .loop .inv .2 ∙ again-turn (c .before .before .before .before .before .args .n) (c .before .before .before .before .before .args .at) (c .before .before .before .before .before .args .f .now) (textOfName (take (c .before .before .before .before .before .args .size) (c .before .before .before .before .before .args .f .now))) (c .before .before .before .loop .j) (textOfName (take (c .before .before .before .before .before .args .size) (c .before .before .before .before .before .args .f .now)) (getD (section 2 (c .before .before .before .before .before .args .n) (c .before .before .before .before .before .args .at) (c .before .before .before .before .before .args .f .now)) (c .before .before .before .before .before .args .i) [])) (c .before .before .loop-test .taken) ∙ rw (sym (c .before .same-name .ensures) ∙ c .if1 .left))
+loop-again c =
+    let a = c .before .before .before .before .before .args in
+    (omega arith, omega arith, c .before .before .before .loop .inv .2 ∙ again-turn (a .n) (a .at) (a .f .now) (textOfName (take (a .size) (a .f .now))) (c .before .before .before .loop .j) (textOfName (take (a .size) (a .f .now)) (getD (section 2 (a .n) (a .at) (a .f .now)) (a .i) [])) (c .before .before .loop-test .taken) ∙ rw (sym (c .before .same-name .ensures) ∙ c .if1 .left))
 
 returns-2 : tie.Need-returns-2 Inv-loop μ-loop
-returns-2 c = sym (c .before .loop .inv .2 ∙ again-done (c .before .before .before .args .n) (c .before .before .before .args .at) (c .before .before .before .args .f .now) (textOfName (take (c .before .before .before .args .size) (c .before .before .before .args .f .now))) (c .before .loop .j) (textOfName (take (c .before .before .before .args .size) (c .before .before .before .args .f .now)) (getD (section 2 (c .before .before .before .args .n) (c .before .before .before .args .at) (c .before .before .before .args .f .now)) (c .before .before .before .args .i) [])) (c .loop-test .left))
+returns-2 c =
+    let a = c .before .before .before .args in
+    sym (c .before .loop .inv .2 ∙ again-done (a .n) (a .at) (a .f .now) (textOfName (take (a .size) (a .f .now))) (c .before .loop .j) (textOfName (take (a .size) (a .f .now)) (getD (section 2 (a .n) (a .at) (a .f .now)) (a .i) [])) (c .loop-test .left))
 
 pub name-again-spec : {M : Type 1} → statement M
 name-again-spec =

@@ -29,7 +29,9 @@ kind-fits-requires c κs = search needs
 
 returns-2 : tie.Need-returns-2
 unfolding nodeFits inOrder spanFrom
-returns-2 c = let z : 1 ≤ c .before .before .before .before .node-word .result = omega arith in rw (c .before .before .node-word2 .ensures .0, c .before .node-word3 .ensures .0, c .kind-fits .ensures, ← c .before .before .before .before .node-word .ensures .0, le-leb _ _ z)
+returns-2 c =
+    let z : 1 ≤ c .before .before .before .before .node-word .result = omega arith in
+    rw (c .before .before .node-word2 .ensures .0, c .before .node-word3 .ensures .0, c .kind-fits .ensures, ← c .before .before .before .before .node-word .ensures .0, le-leb _ _ z)
 
 pub node-fits-spec : {M : Type 1} → statement M
 node-fits-spec =

@@ -21,28 +21,66 @@ starts-requires : tie.Need-starts-requires
 starts-requires c κs = is-within (c .before .before .before .args .c) (sym (c .before .within-mosts .ensures) ∙ not-false _ (c .if1 .left))
 
 mul-if2 : tie.Need-mul-if2
-mul-if2 c = let a = starting (c .before .starts .result) (c .before .before .before .before .before .args .c) (c .before .starts .ensures) in let l = laying (c .before .before .before .before .before .args .c) in let w = is-within (c .before .before .before .before .before .args .c) (sym (c .before .before .before .within-mosts .ensures) ∙ not-false _ (c .before .before .if1 .left)) in omega (arith, a .models, l .names, l .nodes, l .deps, l .unknowns, l .stmts, l .models, l .trailer, w .text, w .names, w .nodes, w .deps, w .unknowns, w .stmts, w .models)
+mul-if2 c =
+    let args = c .before .before .before .before .before .args in
+    let a = starting (c .before .starts .result) (args .c) (c .before .starts .ensures) in
+    let l = laying (args .c) in
+    let w = is-within (args .c) (sym (c .before .before .before .within-mosts .ensures) ∙ not-false _ (c .before .before .if1 .left)) in
+    omega (arith, a .models, l .names, l .nodes, l .deps, l .unknowns, l .stmts, l .models, l .trailer, w .text, w .names, w .nodes, w .deps, w .unknowns, w .stmts, w .models)
 
 add-if2 : tie.Need-add-if2
-add-if2 c = let a = starting (c .before .before .starts .result) (c .before .before .before .before .before .before .args .c) (c .before .before .starts .ensures) in let l = laying (c .before .before .before .before .before .before .args .c) in let w = is-within (c .before .before .before .before .before .before .args .c) (sym (c .before .before .before .before .within-mosts .ensures) ∙ not-false _ (c .before .before .before .if1 .left)) in omega (arith, a .models, l .names, l .nodes, l .deps, l .unknowns, l .stmts, l .models, l .trailer, w .text, w .names, w .nodes, w .deps, w .unknowns, w .stmts, w .models)
+add-if2 c =
+    let args = c .before .before .before .before .before .before .args in
+    let a = starting (c .before .before .starts .result) (args .c) (c .before .before .starts .ensures) in
+    let l = laying (args .c) in
+    let w = is-within (args .c) (sym (c .before .before .before .before .within-mosts .ensures) ∙ not-false _ (c .before .before .before .if1 .left)) in
+    omega (arith, a .models, l .names, l .nodes, l .deps, l .unknowns, l .stmts, l .models, l .trailer, w .text, w .names, w .nodes, w .deps, w .unknowns, w .stmts, w .models)
 
 add-if2-2 : tie.Need-add-if2-2
-add-if2-2 c = let a = starting (c .before .before .starts .result) (c .before .before .before .before .before .before .args .c) (c .before .before .starts .ensures) in let l = laying (c .before .before .before .before .before .before .args .c) in let w = is-within (c .before .before .before .before .before .before .args .c) (sym (c .before .before .before .before .within-mosts .ensures) ∙ not-false _ (c .before .before .before .if1 .left)) in omega (arith, a .models, l .names, l .nodes, l .deps, l .unknowns, l .stmts, l .models, l .trailer, w .text, w .names, w .nodes, w .deps, w .unknowns, w .stmts, w .models)
+add-if2-2 c =
+    let args = c .before .before .before .before .before .before .args in
+    let a = starting (c .before .before .starts .result) (args .c) (c .before .before .starts .ensures) in
+    let l = laying (args .c) in
+    let w = is-within (args .c) (sym (c .before .before .before .before .within-mosts .ensures) ∙ not-false _ (c .before .before .before .if1 .left)) in
+    omega (arith, a .models, l .names, l .nodes, l .deps, l .unknowns, l .stmts, l .models, l .trailer, w .text, w .names, w .nodes, w .deps, w .unknowns, w .stmts, w .models)
 
 returns-2 : tie.Need-returns-2
 unfolding openCounted outcome
-returns-2 c = let a = starting (c .before .before .before .starts .result) (c .before .before .before .before .before .before .before .args .c) (c .before .before .before .starts .ensures) in let l = laying (c .before .before .before .before .before .before .before .args .c) in let w = is-within (c .before .before .before .before .before .before .before .args .c) (sym (c .before .before .before .before .before .within-mosts .ensures) ∙ not-false _ (c .before .before .before .before .if1 .left)) in let n : length (c .before .before .before .before .before .before .before .args .f .now) ≡ trailerAt (c .before .before .before .before .before .before .before .args .c) + 32 → ⊥ = λ e. c .if2 .taken (omega (arith, e, a .models, l .names, l .nodes, l .deps, l .unknowns, l .stmts, l .models, l .trailer, w .text, w .names, w .nodes, w .deps, w .unknowns, w .stmts, w .models)) in rw (sym (c .before .before .before .before .before .within-mosts .ensures) ∙ not-false _ (c .before .before .before .before .if1 .left), ne-eqb _ _ n) refl
+returns-2 c =
+    let args = c .before .before .before .before .before .before .before .args in
+    let a = starting (c .before .before .before .starts .result) (args .c) (c .before .before .before .starts .ensures) in
+    let l = laying (args .c) in
+    let w = is-within (args .c) (sym (c .before .before .before .before .before .within-mosts .ensures) ∙ not-false _ (c .before .before .before .before .if1 .left)) in
+    let n : length (args .f .now) ≡ trailerAt (args .c) + 32 → ⊥ = λ e. c .if2 .taken (omega (arith, e, a .models, l .names, l .nodes, l .deps, l .unknowns, l .stmts, l .models, l .trailer, w .text, w .names, w .nodes, w .deps, w .unknowns, w .stmts, w .models)) in
+    rw (sym (c .before .before .before .before .before .within-mosts .ensures) ∙ not-false _ (c .before .before .before .before .if1 .left), ne-eqb _ _ n) refl
 
 all-fit-requires : tie.Need-all-fit-requires
-all-fit-requires c κs = let a = starting (c .before .before .before .starts .result) (c .before .before .before .before .before .before .before .args .c) (c .before .before .before .starts .ensures) in let l = laying (c .before .before .before .before .before .before .before .args .c) in let w = is-within (c .before .before .before .before .before .before .before .args .c) (sym (c .before .before .before .before .before .within-mosts .ensures) ∙ not-false _ (c .before .before .before .before .if1 .left)) in (record { within = w; long = omega (arith, c .if2 .left, a .models, l .names, l .nodes, l .deps, l .unknowns, l .stmts, l .models, l .trailer, w .text, w .names, w .nodes, w .deps, w .unknowns, w .stmts, w .models) }, c .before .before .before .starts .ensures)
+all-fit-requires c κs =
+    let args = c .before .before .before .before .before .before .before .args in
+    let a = starting (c .before .before .before .starts .result) (args .c) (c .before .before .before .starts .ensures) in
+    let l = laying (args .c) in
+    let w = is-within (args .c) (sym (c .before .before .before .before .before .within-mosts .ensures) ∙ not-false _ (c .before .before .before .before .if1 .left)) in
+    (record { within = w; long = omega (arith, c .if2 .left, a .models, l .names, l .nodes, l .deps, l .unknowns, l .stmts, l .models, l .trailer, w .text, w .names, w .nodes, w .deps, w .unknowns, w .stmts, w .models) }, c .before .before .before .starts .ensures)
 
 returns-3 : tie.Need-returns-3
 unfolding openCounted openContents outcome sectionsOf
-returns-3 c = let a = starting (c .before .before .before .before .before .starts .result) (c .before .before .before .before .before .before .before .before .before .args .c) (c .before .before .before .before .before .starts .ensures) in let l = laying (c .before .before .before .before .before .before .before .before .before .args .c) in let w = is-within (c .before .before .before .before .before .before .before .before .before .args .c) (sym (c .before .before .before .before .before .before .before .within-mosts .ensures) ∙ not-false _ (c .before .before .before .before .before .before .if1 .left)) in let n : length (c .before .before .before .before .before .before .before .before .before .args .f .now) ≡ trailerAt (c .before .before .before .before .before .before .before .before .before .args .c) + 32 = omega (arith, c .before .before .if2 .left, a .models, l .names, l .nodes, l .deps, l .unknowns, l .stmts, l .models, l .trailer, w .text, w .names, w .nodes, w .deps, w .unknowns, w .stmts, w .models) in rw (sym (c .before .before .before .before .before .before .before .within-mosts .ensures) ∙ not-false _ (c .before .before .before .before .before .before .if1 .left), eq-eqb _ _ n, sym (c .before .all-fit .ensures) ∙ c .if3 .taken, ← c .before .before .before .before .before .starts .ensures) refl
+returns-3 c =
+    let args = c .before .before .before .before .before .before .before .before .before .args in
+    let a = starting (c .before .before .before .before .before .starts .result) (args .c) (c .before .before .before .before .before .starts .ensures) in
+    let l = laying (args .c) in
+    let w = is-within (args .c) (sym (c .before .before .before .before .before .before .before .within-mosts .ensures) ∙ not-false _ (c .before .before .before .before .before .before .if1 .left)) in
+    let n : length (args .f .now) ≡ trailerAt (args .c) + 32 = omega (arith, c .before .before .if2 .left, a .models, l .names, l .nodes, l .deps, l .unknowns, l .stmts, l .models, l .trailer, w .text, w .names, w .nodes, w .deps, w .unknowns, w .stmts, w .models) in
+    rw (sym (c .before .before .before .before .before .before .before .within-mosts .ensures) ∙ not-false _ (c .before .before .before .before .before .before .if1 .left), eq-eqb _ _ n, sym (c .before .all-fit .ensures) ∙ c .if3 .taken, ← c .before .before .before .before .before .starts .ensures) refl
 
 returns-4 : tie.Need-returns-4
 unfolding openCounted openContents outcome
-returns-4 c = let a = starting (c .before .before .before .before .before .starts .result) (c .before .before .before .before .before .before .before .before .before .args .c) (c .before .before .before .before .before .starts .ensures) in let l = laying (c .before .before .before .before .before .before .before .before .before .args .c) in let w = is-within (c .before .before .before .before .before .before .before .before .before .args .c) (sym (c .before .before .before .before .before .before .before .within-mosts .ensures) ∙ not-false _ (c .before .before .before .before .before .before .if1 .left)) in let n : length (c .before .before .before .before .before .before .before .before .before .args .f .now) ≡ trailerAt (c .before .before .before .before .before .before .before .before .before .args .c) + 32 = omega (arith, c .before .before .if2 .left, a .models, l .names, l .nodes, l .deps, l .unknowns, l .stmts, l .models, l .trailer, w .text, w .names, w .nodes, w .deps, w .unknowns, w .stmts, w .models) in rw (sym (c .before .before .before .before .before .before .before .within-mosts .ensures) ∙ not-false _ (c .before .before .before .before .before .before .if1 .left), eq-eqb _ _ n, sym (c .before .all-fit .ensures) ∙ c .if3 .left) refl
+returns-4 c =
+    let args = c .before .before .before .before .before .before .before .before .before .args in
+    let a = starting (c .before .before .before .before .before .starts .result) (args .c) (c .before .before .before .before .before .starts .ensures) in
+    let l = laying (args .c) in
+    let w = is-within (args .c) (sym (c .before .before .before .before .before .before .before .within-mosts .ensures) ∙ not-false _ (c .before .before .before .before .before .before .if1 .left)) in
+    let n : length (args .f .now) ≡ trailerAt (args .c) + 32 = omega (arith, c .before .before .if2 .left, a .models, l .names, l .nodes, l .deps, l .unknowns, l .stmts, l .models, l .trailer, w .text, w .names, w .nodes, w .deps, w .unknowns, w .stmts, w .models) in
+    rw (sym (c .before .before .before .before .before .before .before .within-mosts .ensures) ∙ not-false _ (c .before .before .before .before .before .before .if1 .left), eq-eqb _ _ n, sym (c .before .all-fit .ensures) ∙ c .if3 .left) refl
 
 pub open-counted-spec : {M : Type 1} → statement M
 open-counted-spec =

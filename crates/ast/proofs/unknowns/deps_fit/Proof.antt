@@ -23,7 +23,9 @@ dep-word-requires : tie.Need-dep-word-requires Inv-loop μ-loop
 dep-word-requires c κs = omega arith
 
 returns : tie.Need-returns Inv-loop μ-loop
-returns c = sym (c .before .before .before .loop .inv .1 ∙ deps-turn (c .before .before .before .before .before .args .n) (c .before .before .before .before .before .args .at) (c .before .before .before .before .before .args .f .now) (c .before .before .before .before .before .pre) (c .before .before .before .loop .i) (λ d. ltb d (c .before .before .before .before .before .args .names)) (c .before .before .loop-test .taken) ∙ rw (← c .before .dep-word .ensures .0, le-ltb _ _ (c .if1 .taken)))
+returns c =
+    let a = c .before .before .before .before .before .args in
+    sym (c .before .before .before .loop .inv .1 ∙ deps-turn (a .n) (a .at) (a .f .now) (c .before .before .before .before .before .pre) (c .before .before .before .loop .i) (λ d. ltb d (a .names)) (c .before .before .loop-test .taken) ∙ rw (← c .before .dep-word .ensures .0, le-ltb _ _ (c .if1 .taken)))
 
 add-i : tie.Need-add-i Inv-loop μ-loop
 add-i c = omega arith
@@ -32,10 +34,14 @@ loop-less : tie.Need-loop-less Inv-loop μ-loop
 loop-less c = omega arith
 
 loop-again : tie.Need-loop-again Inv-loop μ-loop
-loop-again c = (omega arith, c .before .before .before .loop .inv .1 ∙ deps-turn (c .before .before .before .before .before .args .n) (c .before .before .before .before .before .args .at) (c .before .before .before .before .before .args .f .now) (c .before .before .before .before .before .pre) (c .before .before .before .loop .i) (λ d. ltb d (c .before .before .before .before .before .args .names)) (c .before .before .loop-test .taken) ∙ rw (← c .before .dep-word .ensures .0, lt-ltb _ _ (c .if1 .left)))
+loop-again c =
+    let a = c .before .before .before .before .before .args in
+    (omega arith, c .before .before .before .loop .inv .1 ∙ deps-turn (a .n) (a .at) (a .f .now) (c .before .before .before .before .before .pre) (c .before .before .before .loop .i) (λ d. ltb d (a .names)) (c .before .before .loop-test .taken) ∙ rw (← c .before .dep-word .ensures .0, lt-ltb _ _ (c .if1 .left)))
 
 returns-2 : tie.Need-returns-2 Inv-loop μ-loop
-returns-2 c = sym (c .before .loop .inv .1 ∙ deps-done (c .before .before .before .args .n) (c .before .before .before .args .at) (c .before .before .before .args .f .now) (c .before .before .before .pre) (c .before .loop .i) (λ d. ltb d (c .before .before .before .args .names)) (c .loop-test .left))
+returns-2 c =
+    let a = c .before .before .before .args in
+    sym (c .before .loop .inv .1 ∙ deps-done (a .n) (a .at) (a .f .now) (c .before .before .before .pre) (c .before .loop .i) (λ d. ltb d (a .names)) (c .loop-test .left))
 
 pub deps-fit-spec : {M : Type 1} → statement M
 deps-fit-spec =

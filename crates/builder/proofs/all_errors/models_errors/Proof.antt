@@ -17,13 +17,19 @@ part-builder-end : tie.Need-part-builder-end
 part-builder-end c = search needs
 
 builder-requires : tie.Need-builder-requires
-builder-requires c κs = (c .before .before .before .before .pre .0, c .before .before .before .before .pre .1, c .before .before .before .before .pre .0 .opened .laid .within .models, built-room _ _ (c .before .before .before .before .pre .0 .opened) (c .before .before .before .before .args .own .now) (c .before .errors-at .result) (c .before .before .before .before .args .m) (omega (arith, c .before .errors-at .ensures, c .before .before .before .before .pre .3)) (c .before .before .before .before .pre .4))
+builder-requires c κs =
+    let a = c .before .before .before .before .args in
+    let p = c .before .before .before .before .pre in
+    (p .0, p .1, p .0 .opened .laid .within .models, built-room _ _ (p .0 .opened) (a .own .now) (c .before .errors-at .result) (a .m) (omega (arith, c .before .errors-at .ensures, p .3)) (p .4))
 
 same-length : tie.Need-same-length
 same-length c = search needs
 
 returns : tie.Need-returns
-returns c = rw (← c .before .before .before .before .errors-at .ensures) (built-listed _ _ (c .before .before .before .before .before .before .before .pre .0 .opened) (c .before .before .before .before .before .before .before .args .own .now) _ (c .before .before .before .before .errors-at .result) (c .before .before .before .before .before .before .before .args .m) _ (omega (arith, c .before .before .before .before .errors-at .ensures, c .before .before .before .before .before .before .before .pre .3)) (c .before .before .builder .ensures))
+returns c =
+    let a = c .before .before .before .before .before .before .before .args in
+    let p = c .before .before .before .before .before .before .before .pre in
+    rw (← c .before .before .before .before .errors-at .ensures) (built-listed _ _ (p .0 .opened) (a .own .now) _ (c .before .before .before .before .errors-at .result) (a .m) _ (omega (arith, c .before .before .before .before .errors-at .ensures, p .3)) (c .before .before .builder .ensures))
 
 pub models-errors-spec : {M : Type 1} → statement M
 models-errors-spec =

@@ -18,10 +18,14 @@ loop-holds : tie.Need-loop-holds Inv-loop μ-loop
 loop-holds c = (omega arith, refl)
 
 is-short-requires : tie.Need-is-short-requires Inv-loop μ-loop
-is-short-requires c κs = (c .before .before .before .before .before .before .pre .0, c .before .before .before .before .before .before .pre .1, omega (arith, c .if1 .taken))
+is-short-requires c κs =
+    let p = c .before .before .before .before .before .before .pre in
+    (p .0, p .1, omega (arith, c .if1 .taken))
 
 returns : tie.Need-returns Inv-loop μ-loop
-returns c = sym (c .before .before .before .before .loop .inv .1 ∙ any-here (c .before .before .before .before .before .before .before .before .args .area .now) (c .before .before .before .before .before .before .before .before .args .z) (shortBy (c .before .before .before .before .before .before .before .before .args .numbers .now) (c .before .before .before .before .before .before .before .before .args .indexes .now)) (c .before .before .before .before .loop .i) (omega (arith, c .before .before .if1 .taken)) ∙ rw (← c .before .is-short .ensures, c .if2 .taken) refl)
+returns c =
+    let a = c .before .before .before .before .before .before .before .before .args in
+    sym (c .before .before .before .before .loop .inv .1 ∙ any-here (a .area .now) (a .z) (shortBy (a .numbers .now) (a .indexes .now)) (c .before .before .before .before .loop .i) (omega (arith, c .before .before .if1 .taken)) ∙ rw (← c .before .is-short .ensures, c .if2 .taken) refl)
 
 add-i : tie.Need-add-i Inv-loop μ-loop
 add-i c = omega (arith, c .before .before .before .before .before .before .before .before .pre .0 .1 .small .stmts, c .before .before .if1 .taken)
@@ -30,10 +34,14 @@ loop-less : tie.Need-loop-less Inv-loop μ-loop
 loop-less c = omega (arith, c .before .before .if1 .taken)
 
 loop-again : tie.Need-loop-again Inv-loop μ-loop
-loop-again c = (omega (arith, c .before .before .if1 .taken), c .before .before .before .before .loop .inv .1 ∙ any-here (c .before .before .before .before .before .before .before .before .args .area .now) (c .before .before .before .before .before .before .before .before .args .z) (shortBy (c .before .before .before .before .before .before .before .before .args .numbers .now) (c .before .before .before .before .before .before .before .before .args .indexes .now)) (c .before .before .before .before .loop .i) (omega (arith, c .before .before .if1 .taken)) ∙ rw (← c .before .is-short .ensures, c .if2 .left) refl)
+loop-again c =
+    let a = c .before .before .before .before .before .before .before .before .args in
+    (omega (arith, c .before .before .if1 .taken), c .before .before .before .before .loop .inv .1 ∙ any-here (a .area .now) (a .z) (shortBy (a .numbers .now) (a .indexes .now)) (c .before .before .before .before .loop .i) (omega (arith, c .before .before .if1 .taken)) ∙ rw (← c .before .is-short .ensures, c .if2 .left) refl)
 
 returns-2 : tie.Need-returns-2 Inv-loop μ-loop
-returns-2 c = sym (c .before .before .loop .inv .1 ∙ any-past (c .before .before .before .before .before .before .args .area .now) (c .before .before .before .before .before .before .args .z) (shortBy (c .before .before .before .before .before .before .args .numbers .now) (c .before .before .before .before .before .before .args .indexes .now)) (c .before .before .loop .i) (omega (arith, c .if1 .left)))
+returns-2 c =
+    let a = c .before .before .before .before .before .before .args in
+    sym (c .before .before .loop .inv .1 ∙ any-past (a .area .now) (a .z) (shortBy (a .numbers .now) (a .indexes .now)) (c .before .before .loop .i) (omega (arith, c .if1 .left)))
 
 pub any-short-spec : {M : Type 1} → statement M
 any-short-spec =

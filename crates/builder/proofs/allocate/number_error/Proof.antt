@@ -16,7 +16,9 @@ sub-record-bits c = search needs
 
 record-bits-requires : tie.Need-record-bits-requires
 unfolding stmtsAt varsAt depsAt errorsAt
-record-bits-requires c κs = (omega (arith, c .before .before .pre .1), omega (arith, c .before .before .pre .3, c .before .before .pre .4), omega arith)
+record-bits-requires c κs =
+    let p = c .before .before .pre in
+    (omega (arith, p .1), omega (arith, p .3, p .4), omega arith)
 
 same-number-requires : tie.Need-same-number-requires
 same-number-requires c κs = search needs
@@ -29,15 +31,21 @@ returns c = passed-at _ _ _ _ _ (sym (same-float _ _) ∙ (rw (← c .before .be
 
 record-word-requires : tie.Need-record-word-requires
 unfolding stmtsAt varsAt depsAt errorsAt
-record-word-requires c κs = (omega (arith, c .before .before .before .before .before .before .pre .1), c .before .before .before .before .before .before .pre .4, omega arith)
+record-word-requires c κs =
+    let p = c .before .before .before .before .before .before .pre in
+    (omega (arith, p .1), p .4, omega arith)
 
 record-word-requires-2 : tie.Need-record-word-requires-2
 unfolding stmtsAt varsAt depsAt errorsAt
-record-word-requires-2 c κs = (omega (arith, c .before .before .before .before .before .before .before .before .pre .1), c .before .before .before .before .before .before .before .before .pre .4, omega arith)
+record-word-requires-2 c κs =
+    let p = c .before .before .before .before .before .before .before .before .pre in
+    (omega (arith, p .1), p .4, omega arith)
 
 record-word-requires-3 : tie.Need-record-word-requires-3
 unfolding stmtsAt varsAt depsAt errorsAt
-record-word-requires-3 c κs = (omega (arith, c .before .before .before .before .before .before .before .before .before .before .pre .1), c .before .before .before .before .before .before .before .before .before .before .pre .5, omega arith)
+record-word-requires-3 c κs =
+    let p = c .before .before .before .before .before .before .before .before .before .before .pre in
+    (omega (arith, p .1), p .5, omega arith)
 
 add-list-error : tie.Need-add-list-error
 add-list-error c = omega (arith, c .before .record-word3 .ensures, c .before .before .before .before .before .before .before .before .before .before .before .before .pre .6)
@@ -50,7 +58,10 @@ same-length-2 c = search needs
 
 returns-2 : tie.Need-returns-2
 unfolding spanFrom
-returns-2 c = let s : 1 + c .before .before .before .before .record-word3 .result ≡ suc (nameAt (nodesIn (c .before .before .before .before .before .before .before .before .before .before .before .before .before .before .before .args .area .now) (c .before .before .before .before .before .before .before .before .before .before .before .before .before .before .before .args .z)) (c .before .before .before .before .before .before .before .before .before .before .before .before .before .before .before .args .call)) = omega (arith, c .before .before .before .before .record-word3 .ensures) in unless-at _ _ _ _ _ _ _ (sym (same-float _ _) ∙ (rw (← c .before .before .before .before .before .before .before .before .before .before .before .before .record-bits .ensures) (sym (c .before .before .before .before .before .before .before .before .before .before .before .same-number .ensures) ∙ c .before .before .before .before .before .before .before .before .before .before .if1 .left))) (rw (s, c .before .before .before .before .before .before .before .before .record-word .ensures, c .before .before .before .before .before .before .record-word2 .ensures) at (c .before .before .list-error .ensures))
+returns-2 c =
+    let a = c .before .before .before .before .before .before .before .before .before .before .before .before .before .before .before .args in
+    let s : 1 + c .before .before .before .before .record-word3 .result ≡ suc (nameAt (nodesIn (a .area .now) (a .z)) (a .call)) = omega (arith, c .before .before .before .before .record-word3 .ensures) in
+    unless-at _ _ _ _ _ _ _ (sym (same-float _ _) ∙ (rw (← c .before .before .before .before .before .before .before .before .before .before .before .before .record-bits .ensures) (sym (c .before .before .before .before .before .before .before .before .before .before .before .same-number .ensures) ∙ c .before .before .before .before .before .before .before .before .before .before .if1 .left))) (rw (s, c .before .before .before .before .before .before .before .before .record-word .ensures, c .before .before .before .before .before .before .record-word2 .ensures) at (c .before .before .list-error .ensures))
 
 pub number-error-spec : {M : Type 1} → statement M
 number-error-spec =

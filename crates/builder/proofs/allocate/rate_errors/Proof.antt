@@ -17,7 +17,9 @@ stmts-at-requires c κs = search needs
 
 record-word-requires : tie.Need-record-word-requires
 unfolding stmtsAt varsAt depsAt errorsAt
-record-word-requires c κs = (omega (arith, c .stmts-at .ensures, c .before .before .before .before .before .pre .1), c .before .before .before .before .before .pre .3, omega arith)
+record-word-requires c κs =
+    let p = c .before .before .before .before .before .pre in
+    (omega (arith, c .stmts-at .ensures, p .1), p .3, omega arith)
 
 cast-v : tie.Need-cast-v
 cast-v c = search needs
@@ -26,13 +28,20 @@ mul-v : tie.Need-mul-v
 mul-v c = search needs
 
 shared-slice-read-v : tie.Need-shared-slice-read-v
-shared-slice-read-v c = let n : c .before .record-word .result ≡ wordOf (stmtIn (c .before .before .before .before .before .before .before .args .area .now) (c .before .before .before .before .before .before .before .args .z) (c .before .before .before .before .before .before .before .args .i)) 1 = rw (c .before .before .stmts-at .ensures) at (c .before .record-word .ensures) in omega (arith, c .before .before .before .before .before .before .before .pre .4, c .before .before .before .before .before .before .before .pre .5)
+shared-slice-read-v c =
+    let a = c .before .before .before .before .before .before .before .args in
+    let p = c .before .before .before .before .before .before .before .pre in
+    let n : c .before .record-word .result ≡ wordOf (stmtIn (a .area .now) (a .z) (a .i)) 1 = rw (c .before .before .stmts-at .ensures) at (c .before .record-word .ensures) in
+    omega (arith, p .4, p .5)
 
 cast-v-2 : tie.Need-cast-v-2
 cast-v-2 c = omega (arith, c .shared-slice-known3 .given (c .before .record-word .result))
 
 add-stmt-error : tie.Need-add-stmt-error
-add-stmt-error c = let n : c .before .before .before .record-word .result ≡ wordOf (stmtIn (c .before .before .before .before .before .before .before .before .before .args .area .now) (c .before .before .before .before .before .before .before .before .before .args .z) (c .before .before .before .before .before .before .before .before .before .args .i)) 1 = rw (c .before .before .before .before .stmts-at .ensures) at (c .before .before .before .record-word .ensures) in omega (arith, c .before .before .before .before .before .before .before .before .before .pre .4)
+add-stmt-error c =
+    let a = c .before .before .before .before .before .before .before .before .before .args in
+    let n : c .before .before .before .record-word .result ≡ wordOf (stmtIn (a .area .now) (a .z) (a .i)) 1 = rw (c .before .before .before .before .stmts-at .ensures) at (c .before .before .before .record-word .ensures) in
+    omega (arith, c .before .before .before .before .before .before .before .before .before .pre .4)
 
 stmt-error-requires : tie.Need-stmt-error-requires
 stmt-error-requires c κs = search needs
@@ -41,22 +50,36 @@ same-length : tie.Need-same-length
 same-length c = search needs
 
 returns : tie.Need-returns
-returns c = let n : c .before .before .before .before .before .before .record-word .result ≡ wordOf (stmtIn (c .before .before .before .before .before .before .before .before .before .before .before .before .args .area .now) (c .before .before .before .before .before .before .before .before .before .before .before .before .args .z) (c .before .before .before .before .before .before .before .before .before .before .before .before .args .i)) 1 = rw (c .before .before .before .before .before .before .before .stmts-at .ensures) at (c .before .before .before .before .before .before .record-word .ensures) in let s : 1 + c .before .before .before .before .before .before .record-word .result ≡ suc (c .before .before .before .before .before .before .record-word .result) = omega arith in rw (← n, errors-unknown _ _ _ _ (c .before .before .before .before .if1 .taken)) (rw s at (c .before .before .stmt-error .ensures))
+returns c =
+    let a = c .before .before .before .before .before .before .before .before .before .before .before .before .args in
+    let n : c .before .before .before .before .before .before .record-word .result ≡ wordOf (stmtIn (a .area .now) (a .z) (a .i)) 1 = rw (c .before .before .before .before .before .before .before .stmts-at .ensures) at (c .before .before .before .before .before .before .record-word .ensures) in
+    let s : 1 + c .before .before .before .before .before .before .record-word .result ≡ suc (c .before .before .before .before .before .before .record-word .result) = omega arith in
+    rw (← n, errors-unknown _ _ _ _ (c .before .before .before .before .if1 .taken)) (rw s at (c .before .before .stmt-error .ensures))
 
 sub-if2 : tie.Need-sub-if2
 sub-if2 c = search needs
 
 shared-slice-read-if2 : tie.Need-shared-slice-read-if2
-shared-slice-read-if2 c = let n : c .before .before .before .record-word .result ≡ wordOf (stmtIn (c .before .before .before .before .before .before .before .before .before .args .area .now) (c .before .before .before .before .before .before .before .before .before .args .z) (c .before .before .before .before .before .before .before .before .before .args .i)) 1 = rw (c .before .before .before .before .stmts-at .ensures) at (c .before .before .before .record-word .ensures) in let m : getD (c .before .before .before .before .before .before .before .before .before .args .numbers .now) (c .before .before .before .record-word .result) 0 ≤ length (c .before .before .before .before .before .before .before .before .before .args .rates .now) = rw n (c .before .before .before .before .before .before .before .before .before .pre .6) in omega (arith, c .before .if1 .left)
+shared-slice-read-if2 c =
+    let a = c .before .before .before .before .before .before .before .before .before .args in
+    let n : c .before .before .before .record-word .result ≡ wordOf (stmtIn (a .area .now) (a .z) (a .i)) 1 = rw (c .before .before .before .before .stmts-at .ensures) at (c .before .before .before .record-word .ensures) in
+    let m : getD (a .numbers .now) (c .before .before .before .record-word .result) 0 ≤ length (a .rates .now) = rw n (c .before .before .before .before .before .before .before .before .before .pre .6) in
+    omega (arith, c .before .if1 .left)
 
 same-length-2 : tie.Need-same-length-2
 same-length-2 c = search needs
 
 returns-2 : tie.Need-returns-2
-returns-2 c = let n : c .before .before .before .before .record-word .result ≡ wordOf (stmtIn (c .before .before .before .before .before .before .before .before .before .before .args .area .now) (c .before .before .before .before .before .before .before .before .before .before .args .z) (c .before .before .before .before .before .before .before .before .before .before .args .i)) 1 = rw (c .before .before .before .before .before .stmts-at .ensures) at (c .before .before .before .before .record-word .ensures) in rw (← n, errors-known _ _ _ _ (c .before .before .if1 .left)) (passed-at _ _ _ _ _ (eq-eqb _ _ (c .if2 .taken)))
+returns-2 c =
+    let a = c .before .before .before .before .before .before .before .before .before .before .args in
+    let n : c .before .before .before .before .record-word .result ≡ wordOf (stmtIn (a .area .now) (a .z) (a .i)) 1 = rw (c .before .before .before .before .before .stmts-at .ensures) at (c .before .before .before .before .record-word .ensures) in
+    rw (← n, errors-known _ _ _ _ (c .before .before .if1 .left)) (passed-at _ _ _ _ _ (eq-eqb _ _ (c .if2 .taken)))
 
 add-stmt-error-2 : tie.Need-add-stmt-error-2
-add-stmt-error-2 c = let n : c .before .before .before .before .before .record-word .result ≡ wordOf (stmtIn (c .before .before .before .before .before .before .before .before .before .before .before .args .area .now) (c .before .before .before .before .before .before .before .before .before .before .before .args .z) (c .before .before .before .before .before .before .before .before .before .before .before .args .i)) 1 = rw (c .before .before .before .before .before .before .stmts-at .ensures) at (c .before .before .before .before .before .record-word .ensures) in omega (arith, c .before .before .before .before .before .before .before .before .before .before .before .pre .4)
+add-stmt-error-2 c =
+    let a = c .before .before .before .before .before .before .before .before .before .before .before .args in
+    let n : c .before .before .before .before .before .record-word .result ≡ wordOf (stmtIn (a .area .now) (a .z) (a .i)) 1 = rw (c .before .before .before .before .before .before .stmts-at .ensures) at (c .before .before .before .before .before .record-word .ensures) in
+    omega (arith, c .before .before .before .before .before .before .before .before .before .before .before .pre .4)
 
 stmt-error-requires-2 : tie.Need-stmt-error-requires-2
 stmt-error-requires-2 c κs = search needs
@@ -65,7 +88,11 @@ same-length-3 : tie.Need-same-length-3
 same-length-3 c = search needs
 
 returns-3 : tie.Need-returns-3
-returns-3 c = let n : c .before .before .before .before .before .before .before .before .record-word .result ≡ wordOf (stmtIn (c .before .before .before .before .before .before .before .before .before .before .before .before .before .before .args .area .now) (c .before .before .before .before .before .before .before .before .before .before .before .before .before .before .args .z) (c .before .before .before .before .before .before .before .before .before .before .before .before .before .before .args .i)) 1 = rw (c .before .before .before .before .before .before .before .before .before .stmts-at .ensures) at (c .before .before .before .before .before .before .before .before .record-word .ensures) in let s : 1 + c .before .before .before .before .before .before .before .before .record-word .result ≡ suc (c .before .before .before .before .before .before .before .before .record-word .result) = omega arith in rw (← n, errors-known _ _ _ _ (c .before .before .before .before .before .before .if1 .left)) (unless-at _ _ _ _ _ _ _ (ne-eqb _ _ (c .before .before .before .before .if2 .left)) (rw s at (c .before .before .stmt-error2 .ensures)))
+returns-3 c =
+    let a = c .before .before .before .before .before .before .before .before .before .before .before .before .before .before .args in
+    let n : c .before .before .before .before .before .before .before .before .record-word .result ≡ wordOf (stmtIn (a .area .now) (a .z) (a .i)) 1 = rw (c .before .before .before .before .before .before .before .before .before .stmts-at .ensures) at (c .before .before .before .before .before .before .before .before .record-word .ensures) in
+    let s : 1 + c .before .before .before .before .before .before .before .before .record-word .result ≡ suc (c .before .before .before .before .before .before .before .before .record-word .result) = omega arith in
+    rw (← n, errors-known _ _ _ _ (c .before .before .before .before .before .before .if1 .left)) (unless-at _ _ _ _ _ _ _ (ne-eqb _ _ (c .before .before .before .before .if2 .left)) (rw s at (c .before .before .stmt-error2 .ensures)))
 
 pub rate-errors-spec : {M : Type 1} → statement M
 rate-errors-spec =

@@ -20,25 +20,53 @@ unfolding stmtsAt varsAt
 stmt-of-requires-2 c κs = search needs
 
 start-of-requires : tie.Need-start-of-requires
-start-of-requires c κs = let F = c .before .before .before .before .before .before .before .before .before .before .pre .0 .1 in let e : wordOf (stmtIn (c .before .before .before .before .before .before .before .before .before .before .args .area .now) (c .before .before .before .before .before .before .before .before .before .before .args .z) (c .before .before .before .before .before .before .before .before .before .before .args .i)) 0 ≡ 1 = sym (c .before .before .before .before .stmt-of .ensures .0) ∙ c .before .before .before .if1 .taken in (c .before .before .before .before .before .before .before .before .before .before .pre .0, c .before .before .before .before .before .before .before .before .before .before .pre .1, rw (c .before .stmt-of2 .ensures .0) (F .left _ (c .before .before .before .before .before .before .before .before .before .before .pre .3) e .0))
+start-of-requires c κs =
+    let a = c .before .before .before .before .before .before .before .before .before .before .args in
+    let p = c .before .before .before .before .before .before .before .before .before .before .pre in
+    let F = p .0 .1 in
+    let e : wordOf (stmtIn (a .area .now) (a .z) (a .i)) 0 ≡ 1 = sym (c .before .before .before .before .stmt-of .ensures .0) ∙ c .before .before .before .if1 .taken in
+    (p .0, p .1, rw (c .before .stmt-of2 .ensures .0) (F .left _ (p .3) e .0))
 
 start-errors-requires : tie.Need-start-errors-requires
-start-errors-requires c κs = let F = c .before .before .before .before .before .before .before .before .before .before .before .before .pre .0 .1 in let e : wordOf (stmtIn (c .before .before .before .before .before .before .before .before .before .before .before .before .args .area .now) (c .before .before .before .before .before .before .before .before .before .before .before .before .args .z) (c .before .before .before .before .before .before .before .before .before .before .before .before .args .i)) 0 ≡ 1 = sym (c .before .before .before .before .before .before .stmt-of .ensures .0) ∙ c .before .before .before .before .before .if1 .taken in let l = F .left _ (c .before .before .before .before .before .before .before .before .before .before .before .before .pre .3) e .0 in rw (c .before .start-of .ensures, c .before .before .before .stmt-of2 .ensures .0) (F .small, c .before .before .before .before .before .before .before .before .before .before .before .before .pre .4, c .before .before .before .before .before .before .before .before .before .before .before .before .pre .5, l, start-fits _ _ _ (F .nodes) (F .few) _ _ (c .before .before .before .before .before .before .before .before .before .before .before .before .pre .1) _ l, start-calls _ _ _ (F .nodes) (F .few) _ _ _ l)
+start-errors-requires c κs =
+    let a = c .before .before .before .before .before .before .before .before .before .before .before .before .args in
+    let p = c .before .before .before .before .before .before .before .before .before .before .before .before .pre in
+    let F = p .0 .1 in
+    let e : wordOf (stmtIn (a .area .now) (a .z) (a .i)) 0 ≡ 1 = sym (c .before .before .before .before .before .before .stmt-of .ensures .0) ∙ c .before .before .before .before .before .if1 .taken in
+    let l = F .left _ (p .3) e .0 in
+    rw (c .before .start-of .ensures, c .before .before .before .stmt-of2 .ensures .0) (F .small, p .4, p .5, l, start-fits _ _ _ (F .nodes) (F .few) _ _ (p .1) _ l, start-calls _ _ _ (F .nodes) (F .few) _ _ _ l)
 
 same-length : tie.Need-same-length
 same-length c = search needs
 
 returns : tie.Need-returns
-returns c = let F = c .before .before .before .before .before .before .before .before .before .before .before .before .before .before .before .pre .0 .1 in let e : wordOf (stmtIn (c .before .before .before .before .before .before .before .before .before .before .before .before .before .before .before .args .area .now) (c .before .before .before .before .before .before .before .before .before .before .before .before .before .before .before .args .z) (c .before .before .before .before .before .before .before .before .before .before .before .before .before .before .before .args .i)) 0 ≡ 1 = sym (c .before .before .before .before .before .before .before .before .before .stmt-of .ensures .0) ∙ c .before .before .before .before .before .before .before .before .if1 .taken in rw (errors-equation _ _ _ F _ _ _ _ _ (c .before .before .before .before .before .before .before .before .before .before .before .before .before .before .before .pre .3) e) (rw (c .before .before .before .before .start-of .ensures, c .before .before .before .before .before .before .stmt-of2 .ensures .0) at (c .before .before .start-errors .ensures))
+returns c =
+    let a = c .before .before .before .before .before .before .before .before .before .before .before .before .before .before .before .args in
+    let p = c .before .before .before .before .before .before .before .before .before .before .before .before .before .before .before .pre in
+    let F = p .0 .1 in
+    let e : wordOf (stmtIn (a .area .now) (a .z) (a .i)) 0 ≡ 1 = sym (c .before .before .before .before .before .before .before .before .before .stmt-of .ensures .0) ∙ c .before .before .before .before .before .before .before .before .if1 .taken in
+    rw (errors-equation _ _ _ F _ _ _ _ _ (p .3) e) (rw (c .before .before .before .before .start-of .ensures, c .before .before .before .before .before .before .stmt-of2 .ensures .0) at (c .before .before .start-errors .ensures))
 
 rate-errors-requires : tie.Need-rate-errors-requires
-rate-errors-requires c κs = let F = c .before .before .before .before .before .before .before .before .pre .0 .1 in let n : (wordOf (stmtIn (c .before .before .before .before .before .before .before .before .args .area .now) (c .before .before .before .before .before .before .before .before .args .z) (c .before .before .before .before .before .before .before .before .args .i)) 0 ≡ 1) → ⊥ = λ e. c .before .if1 .left (c .before .before .stmt-of .ensures .0 ∙ e) in let m : wordOf (stmtIn (c .before .before .before .before .before .before .before .before .args .area .now) (c .before .before .before .before .before .before .before .before .args .z) (c .before .before .before .before .before .before .before .before .args .i)) 1 < c .before .before .before .before .before .before .before .before .pre .0 .0 = rate-name _ _ _ F (c .before .before .before .before .before .before .before .before .args .numbers .now) (c .before .before .before .before .before .before .before .before .args .indexes .now) (c .before .before .before .before .before .before .before .before .args .i) (c .before .before .before .before .before .before .before .before .pre .3) n in let q : wordOf (stmtIn (c .before .before .before .before .before .before .before .before .args .area .now) (c .before .before .before .before .before .before .before .before .args .z) (c .before .before .before .before .before .before .before .before .args .i)) 1 < 256 = omega (arith, F .few) in (F .small, c .before .before .before .before .before .before .before .before .pre .4, c .before .before .before .before .before .before .before .before .pre .5, c .before .before .before .before .before .before .before .before .pre .3, q, c .before .before .before .before .before .before .before .before .pre .1 .names, omega (arith, c .before .before .before .before .before .before .before .before .pre .1 .entries (wordOf (stmtIn (c .before .before .before .before .before .before .before .before .args .area .now) (c .before .before .before .before .before .before .before .before .args .z) (c .before .before .before .before .before .before .before .before .args .i)) 1) q, F .small .vars, c .before .before .before .before .before .before .before .before .pre .2))
+rate-errors-requires c κs =
+    let a = c .before .before .before .before .before .before .before .before .args in
+    let p = c .before .before .before .before .before .before .before .before .pre in
+    let F = p .0 .1 in
+    let n : (wordOf (stmtIn (a .area .now) (a .z) (a .i)) 0 ≡ 1) → ⊥ = λ e. c .before .if1 .left (c .before .before .stmt-of .ensures .0 ∙ e) in
+    let m : wordOf (stmtIn (a .area .now) (a .z) (a .i)) 1 < p .0 .0 = rate-name _ _ _ F (a .numbers .now) (a .indexes .now) (a .i) (p .3) n in
+    let q : wordOf (stmtIn (a .area .now) (a .z) (a .i)) 1 < 256 = omega (arith, F .few) in
+    (F .small, p .4, p .5, p .3, q, p .1 .names, omega (arith, p .1 .entries (wordOf (stmtIn (a .area .now) (a .z) (a .i)) 1) q, F .small .vars, p .2))
 
 same-length-2 : tie.Need-same-length-2
 same-length-2 c = search needs
 
 returns-2 : tie.Need-returns-2
-returns-2 c = let F = c .before .before .before .before .before .before .before .before .before .before .before .pre .0 .1 in let n : (wordOf (stmtIn (c .before .before .before .before .before .before .before .before .before .before .before .args .area .now) (c .before .before .before .before .before .before .before .before .before .before .before .args .z) (c .before .before .before .before .before .before .before .before .before .before .before .args .i)) 0 ≡ 1) → ⊥ = λ e. c .before .before .before .before .if1 .left (c .before .before .before .before .before .stmt-of .ensures .0 ∙ e) in rw (errors-rate _ _ _ F _ _ _ _ _ (c .before .before .before .before .before .before .before .before .before .before .before .pre .3) n) (c .before .before .rate-errors .ensures)
+returns-2 c =
+    let a = c .before .before .before .before .before .before .before .before .before .before .before .args in
+    let p = c .before .before .before .before .before .before .before .before .before .before .before .pre in
+    let F = p .0 .1 in
+    let n : (wordOf (stmtIn (a .area .now) (a .z) (a .i)) 0 ≡ 1) → ⊥ = λ e. c .before .before .before .before .if1 .left (c .before .before .before .before .before .stmt-of .ensures .0 ∙ e) in
+    rw (errors-rate _ _ _ F _ _ _ _ _ (p .3) n) (c .before .before .rate-errors .ensures)
 
 pub role-errors-spec : {M : Type 1} → statement M
 role-errors-spec =

@@ -17,7 +17,9 @@ loop-holds : tie.Need-loop-holds Inv-loop μ-loop
 loop-holds c = (omega arith, filled-none 256 _ _ refl)
 
 allocate-stmt-requires : tie.Need-allocate-stmt-requires Inv-loop μ-loop
-allocate-stmt-requires c κs = (c .before .before .before .before .before .before .before .pre .0, c .before .before .before .before .before .before .before .pre .1, c .before .before .before .before .before .before .before .pre .2, omega (arith, c .if1 .taken))
+allocate-stmt-requires c κs =
+    let p = c .before .before .before .before .before .before .before .pre in
+    (p .0, p .1, p .2, omega (arith, c .if1 .taken))
 
 mul-out : tie.Need-mul-out Inv-loop μ-loop
 mul-out c = omega (arith, c .before .before .before .before .before .before .before .before .pre .0 .1 .small .stmts, c .before .if1 .taken)
@@ -35,7 +37,9 @@ loop-again : tie.Need-loop-again Inv-loop μ-loop
 loop-again c = (omega (arith, c .before .if1 .taken), filled-more 256 _ (c .before .before .before .loop .i) _ _ (omega (arith, c .before .before .before .before .before .before .before .before .pre .0 .1 .small .stmts, c .before .if1 .taken)) (c .allocate-stmt .ensures) (c .before .before .before .loop .inv .1))
 
 returns : tie.Need-returns Inv-loop μ-loop
-returns c = map-filled (c .before .before .before .before .before .before .before .args .area .now) (c .before .before .before .before .before .before .before .args .z) _ (c .before .before .loop .i) _ (c .before .before .before .before .before .before .before .pre .0 .1 .small .stmts) (omega (arith, c .if1 .left)) (c .before .before .loop .inv .1)
+returns c =
+    let a = c .before .before .before .before .before .before .before .args in
+    map-filled (a .area .now) (a .z) _ (c .before .before .loop .i) _ (c .before .before .before .before .before .before .before .pre .0 .1 .small .stmts) (omega (arith, c .if1 .left)) (c .before .before .loop .inv .1)
 
 pub roles-spec : {M : Type 1} → statement M
 roles-spec =

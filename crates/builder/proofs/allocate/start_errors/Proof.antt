@@ -9,7 +9,10 @@ enum-known-start : tie.Need-enum-known-start
 enum-known-start c = search needs
 
 number-error-requires : tie.Need-number-error-requires
-number-error-requires c κs = let N = number-fits _ _ _ _ (c .before .before .start .given .1) (c .before .before .before .before .before .pre .4) in (c .before .before .before .before .before .pre .0, c .before .before .before .before .before .pre .1, c .before .before .before .before .before .pre .2, N .1, N .2, c .before .before .before .before .before .pre .3, number-calls _ _ _ _ _ (c .before .before .start .given .1) (c .before .before .before .before .before .pre .5))
+number-error-requires c κs =
+    let p = c .before .before .before .before .before .pre in
+    let N = number-fits _ _ _ _ (c .before .before .start .given .1) (p .4) in
+    (p .0, p .1, p .2, N .1, N .2, p .3, number-calls _ _ _ _ _ (c .before .before .start .given .1) (p .5))
 
 enum-told : tie.Need-enum-told
 enum-told c = search needs

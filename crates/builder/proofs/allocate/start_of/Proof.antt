@@ -24,13 +24,25 @@ mul-v : tie.Need-mul-v
 mul-v c = search needs
 
 shared-slice-read-v : tie.Need-shared-slice-read-v
-shared-slice-read-v c = let F = c .before .before .before .before .before .before .before .pre .0 .1 in let T = c .before .before .before .before .before .before .before .pre .1 in let k : kindAt (nodesIn (c .before .before .before .before .before .before .before .args .area .now) (c .before .before .before .before .before .before .before .args .z)) (c .before .before .before .before .before .before .before .args .i) ≡ 5 = sym (c .before .before .before .node-of .ensures .0) ∙ c .before .before .if1 .left in let O = node-ok _ _ _ (F .nodes) _ (c .before .before .before .before .before .before .before .pre .2) in let m : nameAt (nodesIn (c .before .before .before .before .before .before .before .args .area .now) (c .before .before .before .before .before .before .before .args .z)) (c .before .before .before .before .before .before .before .args .i) < c .before .before .before .before .before .before .before .pre .0 .0 = ltb-true _ _ (O .call-name k) in let q : c .before .node-of2 .result < 256 = omega (arith, c .before .node-of2 .ensures .0, F .few) in omega (arith, T .names)
+shared-slice-read-v c =
+    let a = c .before .before .before .before .before .before .before .args in
+    let p = c .before .before .before .before .before .before .before .pre in
+    let F = p .0 .1 in
+    let T = p .1 in
+    let k : kindAt (nodesIn (a .area .now) (a .z)) (a .i) ≡ 5 = sym (c .before .before .before .node-of .ensures .0) ∙ c .before .before .if1 .left in
+    let O = node-ok _ _ _ (F .nodes) _ (p .2) in
+    let m : nameAt (nodesIn (a .area .now) (a .z)) (a .i) < p .0 .0 = ltb-true _ _ (O .call-name k) in
+    let q : c .before .node-of2 .result < 256 = omega (arith, c .before .node-of2 .ensures .0, F .few) in
+    omega (arith, T .names)
 
 cast-v : tie.Need-cast-v
 cast-v c = omega (arith, c .shared-slice-known4 .given (c .before .node-of2 .result))
 
 returns-2 : tie.Need-returns-2
-returns-2 c = let k : kindAt (nodesIn (c .before .before .before .before .before .before .before .before .args .area .now) (c .before .before .before .before .before .before .before .before .args .z)) (c .before .before .before .before .before .before .before .before .args .i) ≡ 5 = sym (c .before .before .before .before .node-of .ensures .0) ∙ c .before .before .before .if1 .left in sym (start-unknown _ _ _ _ k _ (c .before .before .node-of2 .ensures .0) (c .if2 .taken))
+returns-2 c =
+    let a = c .before .before .before .before .before .before .before .before .args in
+    let k : kindAt (nodesIn (a .area .now) (a .z)) (a .i) ≡ 5 = sym (c .before .before .before .before .node-of .ensures .0) ∙ c .before .before .before .if1 .left in
+    sym (start-unknown _ _ _ _ k _ (c .before .before .node-of2 .ensures .0) (c .if2 .taken))
 
 sub-index : tie.Need-sub-index
 sub-index c = search needs
@@ -39,13 +51,25 @@ mul-index : tie.Need-mul-index
 mul-index c = omega (arith, c .before .shared-slice-known4 .given (c .before .before .node-of2 .result))
 
 shared-slice-read-index : tie.Need-shared-slice-read-index
-shared-slice-read-index c = let F = c .before .before .before .before .before .before .before .before .before .pre .0 .1 in let T = c .before .before .before .before .before .before .before .before .before .pre .1 in let k : kindAt (nodesIn (c .before .before .before .before .before .before .before .before .before .args .area .now) (c .before .before .before .before .before .before .before .before .before .args .z)) (c .before .before .before .before .before .before .before .before .before .args .i) ≡ 5 = sym (c .before .before .before .before .before .node-of .ensures .0) ∙ c .before .before .before .before .if1 .left in let O = node-ok _ _ _ (F .nodes) _ (c .before .before .before .before .before .before .before .before .before .pre .2) in let m : nameAt (nodesIn (c .before .before .before .before .before .before .before .before .before .args .area .now) (c .before .before .before .before .before .before .before .before .before .args .z)) (c .before .before .before .before .before .before .before .before .before .args .i) < c .before .before .before .before .before .before .before .before .before .pre .0 .0 = ltb-true _ _ (O .call-name k) in let q : c .before .before .before .node-of2 .result < 256 = omega (arith, c .before .before .before .node-of2 .ensures .0, F .few) in omega (arith, T .entries (c .before .before .before .node-of2 .result) q, F .small .vars, T .vars, c .before .if2 .left)
+shared-slice-read-index c =
+    let a = c .before .before .before .before .before .before .before .before .before .args in
+    let p = c .before .before .before .before .before .before .before .before .before .pre in
+    let F = p .0 .1 in
+    let T = p .1 in
+    let k : kindAt (nodesIn (a .area .now) (a .z)) (a .i) ≡ 5 = sym (c .before .before .before .before .before .node-of .ensures .0) ∙ c .before .before .before .before .if1 .left in
+    let O = node-ok _ _ _ (F .nodes) _ (p .2) in
+    let m : nameAt (nodesIn (a .area .now) (a .z)) (a .i) < p .0 .0 = ltb-true _ _ (O .call-name k) in
+    let q : c .before .before .before .node-of2 .result < 256 = omega (arith, c .before .before .before .node-of2 .ensures .0, F .few) in
+    omega (arith, T .entries (c .before .before .before .node-of2 .result) q, F .small .vars, T .vars, c .before .if2 .left)
 
 cast-index : tie.Need-cast-index
 cast-index c = omega (arith, c .shared-slice-known5 .given (getD (c .before .before .before .before .before .before .before .before .before .args .numbers .now) (c .before .before .before .node-of2 .result) 0 - 1))
 
 returns-3 : tie.Need-returns-3
-returns-3 c = let k : kindAt (nodesIn (c .before .before .before .before .before .before .before .before .before .before .args .area .now) (c .before .before .before .before .before .before .before .before .before .before .args .z)) (c .before .before .before .before .before .before .before .before .before .before .args .i) ≡ 5 = sym (c .before .before .before .before .before .before .node-of .ensures .0) ∙ c .before .before .before .before .before .if1 .left in sym (start-untimed _ _ _ _ k _ (c .before .before .before .before .node-of2 .ensures .0) (c .before .before .if2 .left) (c .if3 .taken))
+returns-3 c =
+    let a = c .before .before .before .before .before .before .before .before .before .before .args in
+    let k : kindAt (nodesIn (a .area .now) (a .z)) (a .i) ≡ 5 = sym (c .before .before .before .before .before .before .node-of .ensures .0) ∙ c .before .before .before .before .before .if1 .left in
+    sym (start-untimed _ _ _ _ k _ (c .before .before .before .before .node-of2 .ensures .0) (c .before .before .if2 .left) (c .if3 .taken))
 
 node-of-requires-3 : tie.Need-node-of-requires-3
 node-of-requires-3 c κs = search needs
@@ -54,28 +78,64 @@ sub-if4 : tie.Need-sub-if4
 sub-if4 c = search needs
 
 returns-4 : tie.Need-returns-4
-returns-4 c = let k : kindAt (nodesIn (c .before .before .before .before .before .before .before .before .before .before .before .before .args .area .now) (c .before .before .before .before .before .before .before .before .before .before .before .before .args .z)) (c .before .before .before .before .before .before .before .before .before .before .before .before .args .i) ≡ 5 = sym (c .before .before .before .before .before .before .before .before .node-of .ensures .0) ∙ c .before .before .before .before .before .before .before .if1 .left in sym (start-short _ _ _ _ k _ (c .before .before .before .before .before .before .node-of2 .ensures .0) (c .before .before .before .before .if2 .left) (c .before .before .if3 .left) (omega (arith, c .if4 .taken, c .before .node-of3 .ensures .0)))
+returns-4 c =
+    let a = c .before .before .before .before .before .before .before .before .before .before .before .before .args in
+    let k : kindAt (nodesIn (a .area .now) (a .z)) (a .i) ≡ 5 = sym (c .before .before .before .before .before .before .before .before .node-of .ensures .0) ∙ c .before .before .before .before .before .before .before .if1 .left in
+    sym (start-short _ _ _ _ k _ (c .before .before .before .before .before .before .node-of2 .ensures .0) (c .before .before .before .before .if2 .left) (c .before .before .if3 .left) (omega (arith, c .if4 .taken, c .before .node-of3 .ensures .0)))
 
 sub-arg-at : tie.Need-sub-arg-at
 sub-arg-at c = search needs
 
 arg-at-requires : tie.Need-arg-at-requires
-arg-at-requires c κs = let F = c .before .before .before .before .before .before .before .before .before .before .before .before .pre .0 .1 in let T = c .before .before .before .before .before .before .before .before .before .before .before .before .pre .1 in let k : kindAt (nodesIn (c .before .before .before .before .before .before .before .before .before .before .before .before .args .area .now) (c .before .before .before .before .before .before .before .before .before .before .before .before .args .z)) (c .before .before .before .before .before .before .before .before .before .before .before .before .args .i) ≡ 5 = sym (c .before .before .before .before .before .before .before .before .node-of .ensures .0) ∙ c .before .before .before .before .before .before .before .if1 .left in let G : getD (c .before .before .before .before .before .before .before .before .before .before .before .before .args .indexes .now) (getD (c .before .before .before .before .before .before .before .before .before .before .before .before .args .numbers .now) (c .before .before .before .before .before .before .node-of2 .result) 0 - 1) 0 - 1 < opAt (nodesIn (c .before .before .before .before .before .before .before .before .before .before .before .before .args .area .now) (c .before .before .before .before .before .before .before .before .before .before .before .before .args .z)) (c .before .before .before .before .before .before .before .before .before .before .before .before .args .i) = omega (arith, c .if4 .left, c .before .node-of3 .ensures .0) in (c .before .before .before .before .before .before .before .before .before .before .before .before .pre .0, c .before .before .before .before .before .before .before .before .before .before .before .before .pre .2, k, G)
+arg-at-requires c κs =
+    let a = c .before .before .before .before .before .before .before .before .before .before .before .before .args in
+    let p = c .before .before .before .before .before .before .before .before .before .before .before .before .pre in
+    let F = p .0 .1 in
+    let T = p .1 in
+    let k : kindAt (nodesIn (a .area .now) (a .z)) (a .i) ≡ 5 = sym (c .before .before .before .before .before .before .before .before .node-of .ensures .0) ∙ c .before .before .before .before .before .before .before .if1 .left in
+    let G : getD (a .indexes .now) (getD (a .numbers .now) (c .before .before .before .before .before .before .node-of2 .result) 0 - 1) 0 - 1 < opAt (nodesIn (a .area .now) (a .z)) (a .i) = omega (arith, c .if4 .left, c .before .node-of3 .ensures .0) in
+    (p .0, p .2, k, G)
 
 sub-node-of : tie.Need-sub-node-of
-sub-node-of c = let F = c .before .before .before .before .before .before .before .before .before .before .before .before .before .pre .0 .1 in let T = c .before .before .before .before .before .before .before .before .before .before .before .before .before .pre .1 in let k : kindAt (nodesIn (c .before .before .before .before .before .before .before .before .before .before .before .before .before .args .area .now) (c .before .before .before .before .before .before .before .before .before .before .before .before .before .args .z)) (c .before .before .before .before .before .before .before .before .before .before .before .before .before .args .i) ≡ 5 = sym (c .before .before .before .before .before .before .before .before .before .node-of .ensures .0) ∙ c .before .before .before .before .before .before .before .before .if1 .left in let G : getD (c .before .before .before .before .before .before .before .before .before .before .before .before .before .args .indexes .now) (getD (c .before .before .before .before .before .before .before .before .before .before .before .before .before .args .numbers .now) (c .before .before .before .before .before .before .before .node-of2 .result) 0 - 1) 0 - 1 < opAt (nodesIn (c .before .before .before .before .before .before .before .before .before .before .before .before .before .args .area .now) (c .before .before .before .before .before .before .before .before .before .before .before .before .before .args .z)) (c .before .before .before .before .before .before .before .before .before .before .before .before .before .args .i) = omega (arith, c .before .if4 .left, c .before .before .node-of3 .ensures .0) in let O = node-ok _ _ _ (F .nodes) _ (c .before .before .before .before .before .before .before .before .before .before .before .before .before .pre .2) in let a = arg-node _ _ _ (F .nodes) (getD (c .before .before .before .before .before .before .before .before .before .before .before .before .before .args .indexes .now) (getD (c .before .before .before .before .before .before .before .before .before .before .before .before .before .args .numbers .now) (c .before .before .before .before .before .before .before .node-of2 .result) 0 - 1) 0 - 1) _ (c .before .before .before .before .before .before .before .before .before .before .before .before .before .args .i) _ (omega (arith, c .before .before .before .before .before .before .before .before .before .before .before .before .before .pre .2)) (O .call k) G in omega (arith, a .low, c .arg-at .ensures)
+sub-node-of c =
+    let args = c .before .before .before .before .before .before .before .before .before .before .before .before .before .args in
+    let p = c .before .before .before .before .before .before .before .before .before .before .before .before .before .pre in
+    let F = p .0 .1 in
+    let T = p .1 in
+    let k : kindAt (nodesIn (args .area .now) (args .z)) (args .i) ≡ 5 = sym (c .before .before .before .before .before .before .before .before .before .node-of .ensures .0) ∙ c .before .before .before .before .before .before .before .before .if1 .left in
+    let G : getD (args .indexes .now) (getD (args .numbers .now) (c .before .before .before .before .before .before .before .node-of2 .result) 0 - 1) 0 - 1 < opAt (nodesIn (args .area .now) (args .z)) (args .i) = omega (arith, c .before .if4 .left, c .before .before .node-of3 .ensures .0) in
+    let O = node-ok _ _ _ (F .nodes) _ (p .2) in
+    let a = arg-node _ _ _ (F .nodes) (getD (args .indexes .now) (getD (args .numbers .now) (c .before .before .before .before .before .before .before .node-of2 .result) 0 - 1) 0 - 1) _ (args .i) _ (omega (arith, p .2)) (O .call k) G in
+    omega (arith, a .low, c .arg-at .ensures)
 
 node-of-requires-4 : tie.Need-node-of-requires-4
-node-of-requires-4 c κs = let F = c .before .before .before .before .before .before .before .before .before .before .before .before .before .pre .0 .1 in let T = c .before .before .before .before .before .before .before .before .before .before .before .before .before .pre .1 in let k : kindAt (nodesIn (c .before .before .before .before .before .before .before .before .before .before .before .before .before .args .area .now) (c .before .before .before .before .before .before .before .before .before .before .before .before .before .args .z)) (c .before .before .before .before .before .before .before .before .before .before .before .before .before .args .i) ≡ 5 = sym (c .before .before .before .before .before .before .before .before .before .node-of .ensures .0) ∙ c .before .before .before .before .before .before .before .before .if1 .left in let G : getD (c .before .before .before .before .before .before .before .before .before .before .before .before .before .args .indexes .now) (getD (c .before .before .before .before .before .before .before .before .before .before .before .before .before .args .numbers .now) (c .before .before .before .before .before .before .before .node-of2 .result) 0 - 1) 0 - 1 < opAt (nodesIn (c .before .before .before .before .before .before .before .before .before .before .before .before .before .args .area .now) (c .before .before .before .before .before .before .before .before .before .before .before .before .before .args .z)) (c .before .before .before .before .before .before .before .before .before .before .before .before .before .args .i) = omega (arith, c .before .if4 .left, c .before .before .node-of3 .ensures .0) in let O = node-ok _ _ _ (F .nodes) _ (c .before .before .before .before .before .before .before .before .before .before .before .before .before .pre .2) in let a = arg-node _ _ _ (F .nodes) (getD (c .before .before .before .before .before .before .before .before .before .before .before .before .before .args .indexes .now) (getD (c .before .before .before .before .before .before .before .before .before .before .before .before .before .args .numbers .now) (c .before .before .before .before .before .before .before .node-of2 .result) 0 - 1) 0 - 1) _ (c .before .before .before .before .before .before .before .before .before .before .before .before .before .args .i) _ (omega (arith, c .before .before .before .before .before .before .before .before .before .before .before .before .before .pre .2)) (O .call k) G in (omega (arith, F .long), omega (arith, a .low, a .below, c .arg-at .ensures), omega arith)
+node-of-requires-4 c κs =
+    let args = c .before .before .before .before .before .before .before .before .before .before .before .before .before .args in
+    let p = c .before .before .before .before .before .before .before .before .before .before .before .before .before .pre in
+    let F = p .0 .1 in
+    let T = p .1 in
+    let k : kindAt (nodesIn (args .area .now) (args .z)) (args .i) ≡ 5 = sym (c .before .before .before .before .before .before .before .before .before .node-of .ensures .0) ∙ c .before .before .before .before .before .before .before .before .if1 .left in
+    let G : getD (args .indexes .now) (getD (args .numbers .now) (c .before .before .before .before .before .before .before .node-of2 .result) 0 - 1) 0 - 1 < opAt (nodesIn (args .area .now) (args .z)) (args .i) = omega (arith, c .before .if4 .left, c .before .before .node-of3 .ensures .0) in
+    let O = node-ok _ _ _ (F .nodes) _ (p .2) in
+    let a = arg-node _ _ _ (F .nodes) (getD (args .indexes .now) (getD (args .numbers .now) (c .before .before .before .before .before .before .before .node-of2 .result) 0 - 1) 0 - 1) _ (args .i) _ (omega (arith, p .2)) (O .call k) G in
+    (omega (arith, F .long), omega (arith, a .low, a .below, c .arg-at .ensures), omega arith)
 
 sub-t15 : tie.Need-sub-t15
 sub-t15 c = search needs
 
 returns-5 : tie.Need-returns-5
-returns-5 c = let k : kindAt (nodesIn (c .before .before .before .before .before .before .before .before .before .before .before .before .before .before .before .args .area .now) (c .before .before .before .before .before .before .before .before .before .before .before .before .before .before .before .args .z)) (c .before .before .before .before .before .before .before .before .before .before .before .before .before .before .before .args .i) ≡ 5 = sym (c .before .before .before .before .before .before .before .before .before .before .before .node-of .ensures .0) ∙ c .before .before .before .before .before .before .before .before .before .before .if1 .left in let G : getD (c .before .before .before .before .before .before .before .before .before .before .before .before .before .before .before .args .indexes .now) (getD (c .before .before .before .before .before .before .before .before .before .before .before .before .before .before .before .args .numbers .now) (c .before .before .before .before .before .before .before .before .before .node-of2 .result) 0 - 1) 0 - 1 < opAt (nodesIn (c .before .before .before .before .before .before .before .before .before .before .before .before .before .before .before .args .area .now) (c .before .before .before .before .before .before .before .before .before .before .before .before .before .before .before .args .z)) (c .before .before .before .before .before .before .before .before .before .before .before .before .before .before .before .args .i) = omega (arith, c .before .before .before .if4 .left, c .before .before .before .before .node-of3 .ensures .0) in sym (start-arg _ _ _ _ k _ (c .before .before .before .before .before .before .before .before .before .node-of2 .ensures .0) (c .before .before .before .before .before .before .before .if2 .left) (c .before .before .before .before .before .if3 .left) G ∙ rw (← c .before .before .arg-at .ensures) (arg-number _ _ _ (sym (c .before .node-of4 .ensures .0) ∙ c .if5 .taken)))
+returns-5 c =
+    let a = c .before .before .before .before .before .before .before .before .before .before .before .before .before .before .before .args in
+    let k : kindAt (nodesIn (a .area .now) (a .z)) (a .i) ≡ 5 = sym (c .before .before .before .before .before .before .before .before .before .before .before .node-of .ensures .0) ∙ c .before .before .before .before .before .before .before .before .before .before .if1 .left in
+    let G : getD (a .indexes .now) (getD (a .numbers .now) (c .before .before .before .before .before .before .before .before .before .node-of2 .result) 0 - 1) 0 - 1 < opAt (nodesIn (a .area .now) (a .z)) (a .i) = omega (arith, c .before .before .before .if4 .left, c .before .before .before .before .node-of3 .ensures .0) in
+    sym (start-arg _ _ _ _ k _ (c .before .before .before .before .before .before .before .before .before .node-of2 .ensures .0) (c .before .before .before .before .before .before .before .if2 .left) (c .before .before .before .before .before .if3 .left) G ∙ rw (← c .before .before .arg-at .ensures) (arg-number _ _ _ (sym (c .before .node-of4 .ensures .0) ∙ c .if5 .taken)))
 
 returns-6 : tie.Need-returns-6
-returns-6 c = let k : kindAt (nodesIn (c .before .before .before .before .before .before .before .before .before .before .before .before .before .before .before .args .area .now) (c .before .before .before .before .before .before .before .before .before .before .before .before .before .before .before .args .z)) (c .before .before .before .before .before .before .before .before .before .before .before .before .before .before .before .args .i) ≡ 5 = sym (c .before .before .before .before .before .before .before .before .before .before .before .node-of .ensures .0) ∙ c .before .before .before .before .before .before .before .before .before .before .if1 .left in let G : getD (c .before .before .before .before .before .before .before .before .before .before .before .before .before .before .before .args .indexes .now) (getD (c .before .before .before .before .before .before .before .before .before .before .before .before .before .before .before .args .numbers .now) (c .before .before .before .before .before .before .before .before .before .node-of2 .result) 0 - 1) 0 - 1 < opAt (nodesIn (c .before .before .before .before .before .before .before .before .before .before .before .before .before .before .before .args .area .now) (c .before .before .before .before .before .before .before .before .before .before .before .before .before .before .before .args .z)) (c .before .before .before .before .before .before .before .before .before .before .before .before .before .before .before .args .i) = omega (arith, c .before .before .before .if4 .left, c .before .before .before .before .node-of3 .ensures .0) in sym (start-arg _ _ _ _ k _ (c .before .before .before .before .before .before .before .before .before .node-of2 .ensures .0) (c .before .before .before .before .before .before .before .if2 .left) (c .before .before .before .before .before .if3 .left) G ∙ rw (← c .before .before .arg-at .ensures) (arg-other _ _ _ (λ e. c .if5 .left (c .before .node-of4 .ensures .0 ∙ e))))
+returns-6 c =
+    let a = c .before .before .before .before .before .before .before .before .before .before .before .before .before .before .before .args in
+    let k : kindAt (nodesIn (a .area .now) (a .z)) (a .i) ≡ 5 = sym (c .before .before .before .before .before .before .before .before .before .before .before .node-of .ensures .0) ∙ c .before .before .before .before .before .before .before .before .before .before .if1 .left in
+    let G : getD (a .indexes .now) (getD (a .numbers .now) (c .before .before .before .before .before .before .before .before .before .node-of2 .result) 0 - 1) 0 - 1 < opAt (nodesIn (a .area .now) (a .z)) (a .i) = omega (arith, c .before .before .before .if4 .left, c .before .before .before .before .node-of3 .ensures .0) in
+    sym (start-arg _ _ _ _ k _ (c .before .before .before .before .before .before .before .before .before .node-of2 .ensures .0) (c .before .before .before .before .before .before .before .if2 .left) (c .before .before .before .before .before .if3 .left) G ∙ rw (← c .before .before .arg-at .ensures) (arg-other _ _ _ (λ e. c .if5 .left (c .before .node-of4 .ensures .0 ∙ e))))
 
 pub start-of-spec : {M : Type 1} → statement M
 start-of-spec =

@@ -10,19 +10,30 @@ enum-known-start : tie.Need-enum-known-start
 enum-known-start c = search needs
 
 sub-record-bits : tie.Need-sub-record-bits
-sub-record-bits c = let N = number-fits _ _ _ _ (c .before .start .given .1) (c .before .before .before .before .pre .2) in N .1
+sub-record-bits c =
+    let N = number-fits _ _ _ _ (c .before .start .given .1) (c .before .before .before .before .pre .2) in
+    N .1
 
 record-bits-requires : tie.Need-record-bits-requires
-record-bits-requires c κs = let N = number-fits _ _ _ _ (c .before .start .given .1) (c .before .before .before .before .pre .2) in (omega (arith, c .before .before .before .before .pre .0), omega (arith, N .1, N .2), omega arith)
+record-bits-requires c κs =
+    let p = c .before .before .before .before .pre in
+    let N = number-fits _ _ _ _ (c .before .start .given .1) (p .2) in
+    (omega (arith, p .0), omega (arith, N .1, N .2), omega arith)
 
 same-number-requires : tie.Need-same-number-requires
 same-number-requires c κs = search needs
 
 mul-result : tie.Need-mul-result
-mul-result c = let N = number-fits _ _ _ _ (c .before .before .before .before .start .given .1) (c .before .before .before .before .before .before .before .pre .2) in omega (arith, N .0, c .before .before .before .before .before .before .before .pre .1 .vars)
+mul-result c =
+    let p = c .before .before .before .before .before .before .before .pre in
+    let N = number-fits _ _ _ _ (c .before .before .before .before .start .given .1) (p .2) in
+    omega (arith, N .0, p .1 .vars)
 
 add-result : tie.Need-add-result
-add-result c = let N = number-fits _ _ _ _ (c .before .before .before .before .start .given .1) (c .before .before .before .before .before .before .before .pre .2) in omega (arith, N .0, c .before .before .before .before .before .before .before .pre .1 .vars)
+add-result c =
+    let p = c .before .before .before .before .before .before .before .pre in
+    let N = number-fits _ _ _ _ (c .before .before .before .before .start .given .1) (p .2) in
+    omega (arith, N .0, p .1 .vars)
 
 cast-result : tie.Need-cast-result
 cast-result c = search needs
@@ -34,7 +45,11 @@ enum-told-2 : tie.Need-enum-told-2
 enum-told-2 c = search needs
 
 returns : tie.Need-returns
-returns c = λ f. let N = number-fits _ _ _ _ (c .before .before .before .before .start .given .1) (c .before .before .before .before .before .before .before .pre .2) in let m : (2 * c .before .before .before .before .start .given .0 .0 + 1) % 4294967296 ≡ 2 * c .before .before .before .before .start .given .0 .0 + 1 = omega (arith, N .0, c .before .before .before .before .before .before .before .pre .1 .vars) in m ∙ sym (role-lower _ _ _ _ _ _ (c .before .before .before .before .start .given .1) (sym (same-float _ _) ∙ (rw (← c .before .before .record-bits .ensures) (sym (c .before .same-number .ensures) ∙ c .if1 .taken))))
+returns c =
+    let p = c .before .before .before .before .before .before .before .pre in
+    λ f. let N = number-fits _ _ _ _ (c .before .before .before .before .start .given .1) (p .2) in
+    let m : (2 * c .before .before .before .before .start .given .0 .0 + 1) % 4294967296 ≡ 2 * c .before .before .before .before .start .given .0 .0 + 1 = omega (arith, N .0, p .1 .vars) in
+    m ∙ sym (role-lower _ _ _ _ _ _ (c .before .before .before .before .start .given .1) (sym (same-float _ _) ∙ (rw (← c .before .before .record-bits .ensures) (sym (c .before .same-number .ensures) ∙ c .if1 .taken))))
 
 returns-2 : tie.Need-returns-2
 returns-2 c = λ f. sym (role-wrong _ _ _ _ _ _ (c .before .before .before .before .start .given .1) (sym (same-float _ _) ∙ (rw (← c .before .before .record-bits .ensures) (sym (c .before .same-number .ensures) ∙ c .if1 .left))))

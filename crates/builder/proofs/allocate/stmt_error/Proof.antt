@@ -10,11 +10,15 @@ stmts-at-requires c κs = search needs
 
 record-word-requires : tie.Need-record-word-requires
 unfolding stmtsAt varsAt depsAt errorsAt
-record-word-requires c κs = (omega (arith, c .before .stmts-at .ensures, c .before .before .before .pre .1), c .before .before .before .pre .3, omega arith)
+record-word-requires c κs =
+    let p = c .before .before .before .pre in
+    (omega (arith, c .before .stmts-at .ensures, p .1), p .3, omega arith)
 
 record-word-requires-2 : tie.Need-record-word-requires-2
 unfolding stmtsAt varsAt depsAt errorsAt
-record-word-requires-2 c κs = (omega (arith, c .before .before .before .stmts-at .ensures, c .before .before .before .before .before .pre .1), c .before .before .before .before .before .pre .3, omega arith)
+record-word-requires-2 c κs =
+    let p = c .before .before .before .before .before .pre in
+    (omega (arith, c .before .before .before .stmts-at .ensures, p .1), p .3, omega arith)
 
 list-error-requires : tie.Need-list-error-requires
 list-error-requires c κs = search needs

@@ -31,13 +31,19 @@ paired-requires : tie.Need-paired-requires
 paired-requires c κs = search needs
 
 write-fates-requires : tie.Need-write-fates-requires
-write-fates-requires c κs = (c .before .before .before .before .before .before .before .before .before .before .before .before .before .before .before .before .pre .0 .1 .small, flattened-long _ _ _ (c .before .before .before .before .before .before .before .before .before .before .before .before .before .before .before .before .pre .0 .1), roles-long (c .before .before .before .before .before .before .before .before .before .before .before .before .before .before .before .before .args .own .now) (c .before .before .before .before .before .before .before .before .before .before .before .before .before .before .before .before .args .z) (c .before .before .before .before .before .before .before .before .before .before .before .before .before .before .before .before .args .numbers .now) (c .before .before .before .before .before .before .before .before .before .before .before .before .before .before .before .before .args .indexes .now) (c .before .before .before .before .before .before .before .before .before .before .before .before .before .before .before .before .args .rates .now) (c .before .before .before .before .before .before .before .before .before .before .before .before .before .before .before .before .args .lower) (c .before .before .before .before .before .before .before .before .before .roles .result) (c .before .before .before .before .before .before .before .before .before .roles .ensures), omega (arith, c .paired .ensures, paired-few (c .before .before .before .before .before .before .before .left-count .result) (c .before .before .before .before .before .lacking .result .count), c .before .before .before .before .before .lacking .ensures .0, c .before .before .before .before .before .lacking .ensures .1, c .before .before .before .before .before .before .before .before .before .before .before .before .before .before .before .before .pre .0 .1 .small .vars))
+write-fates-requires c κs =
+    let a = c .before .before .before .before .before .before .before .before .before .before .before .before .before .before .before .before .args in
+    let p = c .before .before .before .before .before .before .before .before .before .before .before .before .before .before .before .before .pre in
+    (p .0 .1 .small, flattened-long _ _ _ (p .0 .1), roles-long (a .own .now) (a .z) (a .numbers .now) (a .indexes .now) (a .rates .now) (a .lower) (c .before .before .before .before .before .before .before .before .before .roles .result) (c .before .before .before .before .before .before .before .before .before .roles .ensures), omega (arith, c .paired .ensures, paired-few (c .before .before .before .before .before .before .before .left-count .result) (c .before .before .before .before .before .lacking .result .count), c .before .before .before .before .before .lacking .ensures .0, c .before .before .before .before .before .lacking .ensures .1, p .0 .1 .small .vars))
 
 same-length : tie.Need-same-length
 same-length c = search needs
 
 returns : tie.Need-returns
-returns c = let h : c .before .before .before .before .before .before .before .before .lacking .result .count ≤ length (c .before .before .before .before .before .before .before .before .lacking .result .states) = omega (arith, c .before .before .before .before .before .before .before .before .lacking .ensures .0, c .before .before .before .before .before .before .before .before .lacking .ensures .1, c .before .before .before .before .before .before .before .before .before .before .before .before .before .before .before .before .before .before .before .pre .0 .1 .small .vars) in (left-by (c .before .before .before .before .before .before .before .before .before .before .before .before .before .before .before .before .before .before .before .args .own .now) (c .before .before .before .before .before .before .before .before .before .before .before .before .before .before .before .before .before .before .before .args .z) (c .before .before .before .before .before .before .before .before .before .before .before .before .before .before .before .before .before .before .before .args .numbers .now) (c .before .before .before .before .before .before .before .before .before .before .before .before .before .before .before .before .before .before .before .args .indexes .now) (c .before .before .before .before .before .before .before .before .before .before .before .before .before .before .before .before .before .before .before .args .rates .now) (c .before .before .before .before .before .before .before .before .before .before .before .before .before .before .before .before .before .before .before .args .lower) (c .before .before .before .before .before .before .before .before .before .before .before .before .roles .result) (c .before .before .before .before .before .before .before .before .before .before .before .before .roles .ensures) _ (c .before .before .before .before .before .before .before .before .before .before .left-count .ensures), states-by (c .before .before .before .before .before .before .before .before .before .before .before .before .before .before .before .before .before .before .before .args .own .now) (c .before .before .before .before .before .before .before .before .before .before .before .before .before .before .before .before .before .before .before .args .z) (c .before .before .before .before .before .before .before .before .before .before .before .before .before .before .before .before .before .before .before .args .numbers .now) (c .before .before .before .before .before .before .before .before .before .before .before .before .before .before .before .before .before .before .before .args .indexes .now) (c .before .before .before .before .before .before .before .before .before .before .before .before .before .before .before .before .before .before .before .args .rates .now) (c .before .before .before .before .before .before .before .before .before .before .before .before .before .before .before .before .before .before .before .args .lower) (c .before .before .before .before .before .before .before .before .before .before .before .before .roles .result) (c .before .before .before .before .before .before .before .before .before .before .before .before .roles .ensures) (c .before .before .before .before .before .before .before .before .before .before .before .before .before .before .before .before .before .before .before .args .starts .now) (c .before .before .before .before .before .before .before .before .lacking .result .states) (c .before .before .before .before .before .before .before .before .lacking .result .count) h (c .before .before .before .before .before .before .before .before .lacking .ensures .2), fated-by (c .before .before .before .before .before .before .before .before .before .before .before .before .before .before .before .before .before .before .before .args .own .now) (c .before .before .before .before .before .before .before .before .before .before .before .before .before .before .before .before .before .before .before .args .z) (c .before .before .before .before .before .before .before .before .before .before .before .before .before .before .before .before .before .before .before .args .numbers .now) (c .before .before .before .before .before .before .before .before .before .before .before .before .before .before .before .before .before .before .before .args .indexes .now) (c .before .before .before .before .before .before .before .before .before .before .before .before .before .before .before .before .before .before .before .args .rates .now) (c .before .before .before .before .before .before .before .before .before .before .before .before .before .before .before .before .before .before .before .args .lower) (c .before .before .before .before .before .before .before .before .before .before .before .before .roles .result) (c .before .before .before .before .before .before .before .before .before .before .before .before .roles .ensures) (c .before .before .before .before .before .before .before .before .before .before .before .before .before .before .before .before .before .before .before .args .starts .now) (c .before .before .before .before .before .before .before .before .lacking .result .states) (c .before .before .before .before .before .before .before .before .lacking .result .count) h (c .before .before .before .before .before .before .before .before .lacking .ensures .2) (c .before .before .before .before .before .before .before .before .before .before .left-count .result) (c .before .before .before .paired .result) (c .before .before .before .before .before .before .before .before .before .before .left-count .ensures) (c .before .before .before .paired .ensures) _ (c .before .before .write-fates .ensures))
+returns c =
+    let a = c .before .before .before .before .before .before .before .before .before .before .before .before .before .before .before .before .before .before .before .args in
+    let h : c .before .before .before .before .before .before .before .before .lacking .result .count ≤ length (c .before .before .before .before .before .before .before .before .lacking .result .states) = omega (arith, c .before .before .before .before .before .before .before .before .lacking .ensures .0, c .before .before .before .before .before .before .before .before .lacking .ensures .1, c .before .before .before .before .before .before .before .before .before .before .before .before .before .before .before .before .before .before .before .pre .0 .1 .small .vars) in
+    (left-by (a .own .now) (a .z) (a .numbers .now) (a .indexes .now) (a .rates .now) (a .lower) (c .before .before .before .before .before .before .before .before .before .before .before .before .roles .result) (c .before .before .before .before .before .before .before .before .before .before .before .before .roles .ensures) _ (c .before .before .before .before .before .before .before .before .before .before .left-count .ensures), states-by (a .own .now) (a .z) (a .numbers .now) (a .indexes .now) (a .rates .now) (a .lower) (c .before .before .before .before .before .before .before .before .before .before .before .before .roles .result) (c .before .before .before .before .before .before .before .before .before .before .before .before .roles .ensures) (a .starts .now) (c .before .before .before .before .before .before .before .before .lacking .result .states) (c .before .before .before .before .before .before .before .before .lacking .result .count) h (c .before .before .before .before .before .before .before .before .lacking .ensures .2), fated-by (a .own .now) (a .z) (a .numbers .now) (a .indexes .now) (a .rates .now) (a .lower) (c .before .before .before .before .before .before .before .before .before .before .before .before .roles .result) (c .before .before .before .before .before .before .before .before .before .before .before .before .roles .ensures) (a .starts .now) (c .before .before .before .before .before .before .before .before .lacking .result .states) (c .before .before .before .before .before .before .before .before .lacking .result .count) h (c .before .before .before .before .before .before .before .before .lacking .ensures .2) (c .before .before .before .before .before .before .before .before .before .before .left-count .result) (c .before .before .before .paired .result) (c .before .before .before .before .before .before .before .before .before .before .left-count .ensures) (c .before .before .before .paired .ensures) _ (c .before .before .write-fates .ensures))
 
 pub allocate-stmts-spec : {M : Type 1} → statement M
 allocate-stmts-spec =

@@ -21,15 +21,21 @@ bounds-from-requires-2 c κs = search needs
 
 returns : tie.Need-returns
 unfolding caseBounds
-returns c = sym (ap (λ d. caseBounds d (c .before .before .before .args .time) (c .before .before .before .args .positive)) (c .before .domain .given .1))
+returns c =
+    let a = c .before .before .before .args in
+    sym (ap (λ d. caseBounds d (a .time) (a .positive)) (c .before .domain .given .1))
 
 returns-2 : tie.Need-returns-2
 unfolding caseBounds
-returns-2 c = c .bounds-from .ensures ∙ sym (ap (λ d. caseBounds d (c .before .before .before .args .time) (c .before .before .before .args .positive)) (c .before .enum-told .given .1))
+returns-2 c =
+    let a = c .before .before .before .args in
+    c .bounds-from .ensures ∙ sym (ap (λ d. caseBounds d (a .time) (a .positive)) (c .before .enum-told .given .1))
 
 returns-3 : tie.Need-returns-3
 unfolding caseBounds
-returns-3 c = c .bounds-from2 .ensures ∙ sym (ap (λ d. caseBounds d (c .before .before .before .args .time) (c .before .before .before .args .positive)) (c .before .enum-told2 .given .1))
+returns-3 c =
+    let a = c .before .before .before .args in
+    c .bounds-from2 .ensures ∙ sym (ap (λ d. caseBounds d (a .time) (a .positive)) (c .before .enum-told2 .given .1))
 
 pub domain-bounds-spec : {M : Type 1} → statement M
 domain-bounds-spec =

@@ -19,10 +19,20 @@ unknown-requires-2 : tie.Need-unknown-requires-2
 unknown-requires-2 c κs = search needs
 
 shared-slice-read-result : tie.Need-shared-slice-read-result
-shared-slice-read-result c = let k : wordOf (unknownRecord (c .before .before .before .before .before .before .args .f .now) (c .before .before .before .before .before .before .args .s) (c .before .before .before .before .before .before .args .u)) 3 ≡ 2 = sym (c .before .before .before .unknown .ensures .0) ∙ c .before .before .if1 .taken in let d = domain-named (c .before .before .before .before .before .before .args .s .counts .names) (unknownRecord (c .before .before .before .before .before .before .args .f .now) (c .before .before .before .before .before .before .args .s) (c .before .before .before .before .before .before .args .u)) (unknown-is (c .before .before .before .before .before .before .args .f .now) (c .before .before .before .before .before .before .args .s) (c .before .before .before .before .before .before .pre .0) (c .before .before .before .before .before .before .args .u) (c .before .before .before .before .before .before .pre .3) .domain-fits) k in omega (arith, c .before .unknown2 .ensures .0, d, c .before .before .before .before .before .before .pre .2)
+shared-slice-read-result c =
+    let a = c .before .before .before .before .before .before .args in
+    let p = c .before .before .before .before .before .before .pre in
+    let k : wordOf (unknownRecord (a .f .now) (a .s) (a .u)) 3 ≡ 2 = sym (c .before .before .before .unknown .ensures .0) ∙ c .before .before .if1 .taken in
+    let d = domain-named (a .s .counts .names) (unknownRecord (a .f .now) (a .s) (a .u)) (unknown-is (a .f .now) (a .s) (p .0) (a .u) (p .3) .domain-fits) k in
+    omega (arith, c .before .unknown2 .ensures .0, d, p .2)
 
 returns : tie.Need-returns
-returns c = let k : wordOf (unknownRecord (c .before .before .before .before .before .before .args .f .now) (c .before .before .before .before .before .before .args .s) (c .before .before .before .before .before .before .args .u)) 3 ≡ 2 = sym (c .before .before .before .unknown .ensures .0) ∙ c .before .before .if1 .taken in let d : wordOf (unknownRecord (c .before .before .before .before .before .before .args .f .now) (c .before .before .before .before .before .before .args .s) (c .before .before .before .before .before .before .args .u)) 4 < c .before .before .before .before .before .before .args .s .counts .names = domain-named (c .before .before .before .before .before .before .args .s .counts .names) (unknownRecord (c .before .before .before .before .before .before .args .f .now) (c .before .before .before .before .before .before .args .s) (c .before .before .before .before .before .before .args .u)) (unknown-is (c .before .before .before .before .before .before .args .f .now) (c .before .before .before .before .before .before .args .s) (c .before .before .before .before .before .before .pre .0) (c .before .before .before .before .before .before .args .u) (c .before .before .before .before .before .before .pre .3) .domain-fits) k in rw (k, c .before .unknown2 .ensures .0, c .before .before .before .before .before .before .pre .1 .class (wordOf (unknownRecord (c .before .before .before .before .before .before .args .f .now) (c .before .before .before .before .before .before .args .s) (c .before .before .before .before .before .before .args .u)) 4) (omega (arith, d, names-long (c .before .before .before .before .before .before .args .f .now) (c .before .before .before .before .before .before .args .s)))) (class-non-negative (Opens.fileIn (c .before .before .before .before .before .before .args .f .now) (c .before .before .before .before .before .before .args .s) .names) (wordOf (unknownRecord (c .before .before .before .before .before .before .args .f .now) (c .before .before .before .before .before .before .args .s) (c .before .before .before .before .before .before .args .u)) 4))
+returns c =
+    let a = c .before .before .before .before .before .before .args in
+    let p = c .before .before .before .before .before .before .pre in
+    let k : wordOf (unknownRecord (a .f .now) (a .s) (a .u)) 3 ≡ 2 = sym (c .before .before .before .unknown .ensures .0) ∙ c .before .before .if1 .taken in
+    let d : wordOf (unknownRecord (a .f .now) (a .s) (a .u)) 4 < a .s .counts .names = domain-named (a .s .counts .names) (unknownRecord (a .f .now) (a .s) (a .u)) (unknown-is (a .f .now) (a .s) (p .0) (a .u) (p .3) .domain-fits) k in
+    rw (k, c .before .unknown2 .ensures .0, p .1 .class (wordOf (unknownRecord (a .f .now) (a .s) (a .u)) 4) (omega (arith, d, names-long (a .f .now) (a .s)))) (class-non-negative (Opens.fileIn (a .f .now) (a .s) .names) (wordOf (unknownRecord (a .f .now) (a .s) (a .u)) 4))
 
 returns-2 : tie.Need-returns-2
 returns-2 c = rw (← c .before .unknown .ensures .0, ne-eqb _ _ (c .if1 .left)) refl

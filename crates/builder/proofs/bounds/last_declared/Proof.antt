@@ -25,25 +25,46 @@ model-requires-2 : tie.Need-model-requires-2 Inv-loop μ-loop
 model-requires-2 c κs = (c .before .before .pre .0, (c .before .before .pre .1, omega arith))
 
 loop-holds : tie.Need-loop-holds Inv-loop μ-loop
-loop-holds c = (omega (arith, c .model2 .ensures .0), decided-all (c .before .before .before .args .f .now) (c .before .before .before .args .s) (c .before .before .before .pre .0) (c .before .before .before .args .m) (c .before .before .before .pre .1) (c .before .before .before .args .name) (c .model2 .result) (c .model2 .ensures .0))
+loop-holds c =
+    let a = c .before .before .before .args in
+    let p = c .before .before .before .pre in
+    (omega (arith, c .model2 .ensures .0), decided-all (a .f .now) (a .s) (p .0) (a .m) (p .1) (a .name) (c .model2 .result) (c .model2 .ensures .0))
 
 add-unknown : tie.Need-add-unknown Inv-loop μ-loop
-add-unknown c = let run = model-is (c .before .before .before .before .before .args .f .now) (c .before .before .before .before .before .args .s) (c .before .before .before .before .before .pre .0) (c .before .before .before .before .before .args .m) (c .before .before .before .before .before .pre .1) .unknowns-within in let e = c .before .before .before .model .ensures .0 in let n = c .before .before .before .before .before .pre .0 .laid .within .unknowns in omega arith
+add-unknown c =
+    let a = c .before .before .before .before .before .args in
+    let p = c .before .before .before .before .before .pre in
+    let run = model-is (a .f .now) (a .s) (p .0) (a .m) (p .1) .unknowns-within in
+    let e = c .before .before .before .model .ensures .0 in
+    let n = p .0 .laid .within .unknowns in
+    omega arith
 
 sub-unknown : tie.Need-sub-unknown Inv-loop μ-loop
 sub-unknown c = omega arith
 
 unknown-requires : tie.Need-unknown-requires Inv-loop μ-loop
-unknown-requires c κs = (c .before .before .before .before .before .pre .0, ((let run = model-is (c .before .before .before .before .before .args .f .now) (c .before .before .before .before .before .args .s) (c .before .before .before .before .before .pre .0) (c .before .before .before .before .before .args .m) (c .before .before .before .before .before .pre .1) .unknowns-within in let e = c .before .before .before .model .ensures .0 in let n = c .before .before .before .before .before .pre .0 .laid .within .unknowns in omega arith), omega arith))
+unknown-requires c κs =
+    let a = c .before .before .before .before .before .args in
+    let p = c .before .before .before .before .before .pre in
+    (p .0, ((let run = model-is (a .f .now) (a .s) (p .0) (a .m) (p .1) .unknowns-within in let e = c .before .before .before .model .ensures .0 in let n = p .0 .laid .within .unknowns in omega arith), omega arith))
 
 add-if1 : tie.Need-add-if1 Inv-loop μ-loop
 add-if1 c = omega (arith, c .unknown .ensures .1)
 
 add-result : tie.Need-add-result Inv-loop μ-loop
-add-result c = let run = model-is (c .before .before .before .before .before .before .before .args .f .now) (c .before .before .before .before .before .before .before .args .s) (c .before .before .before .before .before .before .before .pre .0) (c .before .before .before .before .before .before .before .args .m) (c .before .before .before .before .before .before .before .pre .1) .unknowns-within in let e = c .before .before .before .before .before .model .ensures .0 in let n = c .before .before .before .before .before .before .before .pre .0 .laid .within .unknowns in omega arith
+add-result c =
+    let a = c .before .before .before .before .before .before .before .args in
+    let p = c .before .before .before .before .before .before .before .pre in
+    let run = model-is (a .f .now) (a .s) (p .0) (a .m) (p .1) .unknowns-within in
+    let e = c .before .before .before .before .before .model .ensures .0 in
+    let n = p .0 .laid .within .unknowns in
+    omega arith
 
 returns : tie.Need-returns Inv-loop μ-loop
-returns c = decided-found (c .before .before .before .before .before .before .before .args .f .now) (c .before .before .before .before .before .before .before .args .s) (c .before .before .before .before .before .before .before .pre .0) (c .before .before .before .before .before .before .before .args .m) (c .before .before .before .before .before .before .before .pre .1) (c .before .before .before .before .before .before .before .args .name) (c .before .before .before .loop .i) (c .before .before .before .before .before .model .result) (c .before .unknown .result) (omega arith) (c .before .before .before .loop .inv .0) (c .before .before .before .before .before .model .ensures .0) (c .before .unknown .ensures .0) (c .before .before .before .loop .inv .1) (c .if1 .taken)
+returns c =
+    let a = c .before .before .before .before .before .before .before .args in
+    let p = c .before .before .before .before .before .before .before .pre in
+    decided-found (a .f .now) (a .s) (p .0) (a .m) (p .1) (a .name) (c .before .before .before .loop .i) (c .before .before .before .before .before .model .result) (c .before .unknown .result) (omega arith) (c .before .before .before .loop .inv .0) (c .before .before .before .before .before .model .ensures .0) (c .before .unknown .ensures .0) (c .before .before .before .loop .inv .1) (c .if1 .taken)
 
 sub-i : tie.Need-sub-i Inv-loop μ-loop
 sub-i c = omega arith
@@ -52,10 +73,16 @@ loop-less : tie.Need-loop-less Inv-loop μ-loop
 loop-less c = omega arith
 
 loop-again : tie.Need-loop-again Inv-loop μ-loop
-loop-again c = (omega arith, decided-next (c .before .before .before .before .before .before .before .args .f .now) (c .before .before .before .before .before .before .before .args .s) (c .before .before .before .before .before .before .before .pre .0) (c .before .before .before .before .before .before .before .args .m) (c .before .before .before .before .before .before .before .pre .1) (c .before .before .before .before .before .before .before .args .name) (c .before .before .before .loop .i) (c .before .before .before .before .before .model .result) (c .before .unknown .result) (omega arith) (c .before .before .before .loop .inv .0) (c .before .before .before .before .before .model .ensures .0) (c .before .unknown .ensures .0) (c .before .before .before .loop .inv .1) (c .if1 .left))
+loop-again c =
+    let a = c .before .before .before .before .before .before .before .args in
+    let p = c .before .before .before .before .before .before .before .pre in
+    (omega arith, decided-next (a .f .now) (a .s) (p .0) (a .m) (p .1) (a .name) (c .before .before .before .loop .i) (c .before .before .before .before .before .model .result) (c .before .unknown .result) (omega arith) (c .before .before .before .loop .inv .0) (c .before .before .before .before .before .model .ensures .0) (c .before .unknown .ensures .0) (c .before .before .before .loop .inv .1) (c .if1 .left))
 
 returns-2 : tie.Need-returns-2 Inv-loop μ-loop
-returns-2 c = decided-none (c .before .before .before .before .before .args .f .now) (c .before .before .before .before .before .args .s) (c .before .before .before .before .before .pre .0) (c .before .before .before .before .before .args .m) (c .before .before .before .before .before .pre .1) (c .before .before .before .before .before .args .name) (c .before .loop .i) (omega arith) (c .before .loop .inv .1)
+returns-2 c =
+    let a = c .before .before .before .before .before .args in
+    let p = c .before .before .before .before .before .pre in
+    decided-none (a .f .now) (a .s) (p .0) (a .m) (p .1) (a .name) (c .before .loop .i) (omega arith) (c .before .loop .inv .1)
 
 pub last-declared-spec : {M : Type 1} → statement M
 last-declared-spec =

@@ -24,7 +24,9 @@ same-length c = search needs
 
 returns : tie.Need-returns
 unfolding boundsWords bitsOf
-returns c = c .before .before .put-number2 .ensures ∙ put-more (c .before .before .before .before .before .before .before .before .before .args .out .now) _ (low (toBits binary64 (c .before .before .before .before .before .before .before .before .before .args .b .lower)) ∷ high (toBits binary64 (c .before .before .before .before .before .before .before .before .before .args .b .lower)) ∷ []) (c .before .before .before .before .before .before .before .before .before .args .place) _ refl (c .before .before .before .before .before .before .put-number .ensures) (low (toBits binary64 (c .before .before .before .before .before .before .before .before .before .args .b .upper)) ∷ high (toBits binary64 (c .before .before .before .before .before .before .before .before .before .args .b .upper)) ∷ []) (omega arith)
+returns c =
+    let a = c .before .before .before .before .before .before .before .before .before .args in
+    c .before .before .put-number2 .ensures ∙ put-more (a .out .now) _ (low (toBits binary64 (a .b .lower)) ∷ high (toBits binary64 (a .b .lower)) ∷ []) (a .place) _ refl (c .before .before .before .before .before .before .put-number .ensures) (low (toBits binary64 (a .b .upper)) ∷ high (toBits binary64 (a .b .upper)) ∷ []) (omega arith)
 
 pub put-bounds-spec : {M : Type 1} → statement M
 put-bounds-spec =

@@ -10,13 +10,17 @@ bounds-from-requires : tie.Need-bounds-from-requires
 bounds-from-requires c κs = search needs
 
 put-bounds-requires : tie.Need-put-bounds-requires
-put-bounds-requires c κs = let x = rw (← c .before .bounds-from .ensures) at (from-numbers (c .before .before .before .before .before .before .args .floor)) in (x .0, x .1, omega arith)
+put-bounds-requires c κs =
+    let x = rw (← c .before .bounds-from .ensures) at (from-numbers (c .before .before .before .before .before .before .args .floor)) in
+    (x .0, x .1, omega arith)
 
 same-length : tie.Need-same-length
 same-length c = search needs
 
 returns : tie.Need-returns
-returns c = c .before .before .put-bounds .ensures ∙ rw (c .before .before .before .before .bounds-from .ensures, from-bits (c .before .before .before .before .before .before .before .before .before .args .floor), declared-none (c .before .before .before .before .before .before .before .before .before .args .f .now) (c .before .before .before .before .before .before .before .before .before .args .s) (c .before .before .before .before .before .before .before .before .before .args .u) (boundsFrom (c .before .before .before .before .before .before .before .before .before .args .floor)) (c .before .before .before .before .before .if1 .taken)) refl
+returns c =
+    let a = c .before .before .before .before .before .before .before .before .before .args in
+    c .before .before .put-bounds .ensures ∙ rw (c .before .before .before .before .bounds-from .ensures, from-bits (a .floor), declared-none (a .f .now) (a .s) (a .u) (boundsFrom (a .floor)) (c .before .before .before .before .before .if1 .taken)) refl
 
 sub-put-unknown-bounds : tie.Need-sub-put-unknown-bounds
 sub-put-unknown-bounds c = search needs
@@ -28,7 +32,9 @@ same-length-2 : tie.Need-same-length-2
 same-length-2 c = search needs
 
 returns-2 : tie.Need-returns-2
-returns-2 c = c .before .before .put-unknown-bounds .ensures ∙ rw (declared-some (c .before .before .before .before .before .before .before .before .args .f .now) (c .before .before .before .before .before .before .before .before .args .s) (c .before .before .before .before .before .before .before .before .args .u) (boundsFrom (c .before .before .before .before .before .before .before .before .args .floor)) (c .before .before .before .before .if1 .left)) refl
+returns-2 c =
+    let a = c .before .before .before .before .before .before .before .before .args in
+    c .before .before .put-unknown-bounds .ensures ∙ rw (declared-some (a .f .now) (a .s) (a .u) (boundsFrom (a .floor)) (c .before .before .before .before .if1 .left)) refl
 
 pub put-declared-bounds-spec : {M : Type 1} → statement M
 put-declared-bounds-spec =

@@ -8,7 +8,9 @@ last-declared-requires : tie.Need-last-declared-requires
 last-declared-requires c κs = search needs
 
 put-declared-bounds-requires : tie.Need-put-declared-bounds-requires
-put-declared-bounds-requires c κs = (c .before .before .before .before .before .pre .0, c .before .before .before .before .before .pre .1, c .before .before .before .before .before .pre .2, c .before .last-declared .ensures .within, c .before .before .before .before .before .pre .4)
+put-declared-bounds-requires c κs =
+    let p = c .before .before .before .before .before .pre in
+    (p .0, p .1, p .2, c .before .last-declared .ensures .within, p .4)
 
 same-length : tie.Need-same-length
 same-length c = search needs

@@ -30,7 +30,9 @@ same-length c = search needs
 
 returns : tie.Need-returns
 unfolding low high
-returns c = rw (← c .before .before .before .before .before .before .before .before .bits-of .ensures) (c .before .before .put-word2 .ensures ∙ put-next (c .before .before .before .before .before .before .before .before .before .before .args .out .now) _ (low (c .before .before .before .before .before .before .before .before .bits-of .result) ∷ []) (c .before .before .before .before .before .before .before .before .before .before .args .place) _ refl (c .before .before .before .before .before .before .put-word .ensures ∙ put-first (c .before .before .before .before .before .before .before .before .before .before .args .out .now) (c .before .before .before .before .before .before .before .before .before .before .args .place) (low (c .before .before .before .before .before .before .before .before .bits-of .result)) (omega arith)) (high (c .before .before .before .before .before .before .before .before .bits-of .result)) (omega arith))
+returns c =
+    let a = c .before .before .before .before .before .before .before .before .before .before .args in
+    rw (← c .before .before .before .before .before .before .before .before .bits-of .ensures) (c .before .before .put-word2 .ensures ∙ put-next (a .out .now) _ (low (c .before .before .before .before .before .before .before .before .bits-of .result) ∷ []) (a .place) _ refl (c .before .before .before .before .before .before .put-word .ensures ∙ put-first (a .out .now) (a .place) (low (c .before .before .before .before .before .before .before .before .bits-of .result)) (omega arith)) (high (c .before .before .before .before .before .before .before .before .bits-of .result)) (omega arith))
 
 pub put-number-spec : {M : Type 1} → statement M
 put-number-spec =

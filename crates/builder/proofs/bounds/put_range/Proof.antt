@@ -55,7 +55,9 @@ same-length : tie.Need-same-length
 same-length c = search needs
 
 returns : tie.Need-returns
-returns c = put-four (c .before .before .before .before .before .before .before .before .before .before .before .before .before .before .before .before .before .before .before .before .before .before .args .out .now) _ _ _ _ (c .before .before .before .before .before .before .before .before .before .before .before .before .before .before .before .before .before .before .before .before .before .before .args .place) _ _ _ _ (omega arith) (c .before .before .before .before .before .before .before .before .before .before .before .before .before .before .before .before .before .put-word .ensures) (c .before .before .before .before .before .before .before .before .before .before .before .before .put-word2 .ensures) (c .before .before .before .before .before .before .before .put-word3 .ensures) (c .before .before .put-word4 .ensures) ∙ rw (c .before .before .before .before .before .before .before .before .before .before .before .before .before .before .before .before .before .before .unknown .ensures .0, c .before .before .before .before .before .before .before .before .before .before .before .before .before .unknown2 .ensures .0, c .before .before .before .before .before .before .before .before .unknown3 .ensures .0, c .before .before .before .unknown4 .ensures .0, range-four (c .before .before .before .before .before .before .before .before .before .before .before .before .before .before .before .before .before .before .before .before .before .before .args .f .now) (c .before .before .before .before .before .before .before .before .before .before .before .before .before .before .before .before .before .before .before .before .before .before .args .s) (c .before .before .before .before .before .before .before .before .before .before .before .before .before .before .before .before .before .before .before .before .before .before .args .u) (c .before .before .before .before .before .before .before .before .before .before .before .before .before .before .before .before .before .before .before .before .before .before .pre .2) (rw (← c .before .before .before .before .before .before .before .before .before .before .before .before .before .before .before .before .before .before .unknown .ensures .0) (omega (arith, c .before .before .before .before .before .before .before .before .before .before .before .before .before .before .before .before .before .before .unknown .ensures .1))) (rw (← c .before .before .before .before .before .before .before .before .unknown3 .ensures .0) (omega (arith, c .before .before .before .before .before .before .before .before .unknown3 .ensures .1)))) refl
+returns c =
+    let a = c .before .before .before .before .before .before .before .before .before .before .before .before .before .before .before .before .before .before .before .before .before .before .args in
+    put-four (a .out .now) _ _ _ _ (a .place) _ _ _ _ (omega arith) (c .before .before .before .before .before .before .before .before .before .before .before .before .before .before .before .before .before .put-word .ensures) (c .before .before .before .before .before .before .before .before .before .before .before .before .put-word2 .ensures) (c .before .before .before .before .before .before .before .put-word3 .ensures) (c .before .before .put-word4 .ensures) ∙ rw (c .before .before .before .before .before .before .before .before .before .before .before .before .before .before .before .before .before .before .unknown .ensures .0, c .before .before .before .before .before .before .before .before .before .before .before .before .before .unknown2 .ensures .0, c .before .before .before .before .before .before .before .before .unknown3 .ensures .0, c .before .before .before .unknown4 .ensures .0, range-four (a .f .now) (a .s) (a .u) (c .before .before .before .before .before .before .before .before .before .before .before .before .before .before .before .before .before .before .before .before .before .before .pre .2) (rw (← c .before .before .before .before .before .before .before .before .before .before .before .before .before .before .before .before .before .before .unknown .ensures .0) (omega (arith, c .before .before .before .before .before .before .before .before .before .before .before .before .before .before .before .before .before .before .unknown .ensures .1))) (rw (← c .before .before .before .before .before .before .before .before .unknown3 .ensures .0) (omega (arith, c .before .before .before .before .before .before .before .before .unknown3 .ensures .1)))) refl
 
 pub put-range-spec : {M : Type 1} → statement M
 put-range-spec =

@@ -13,13 +13,17 @@ bounds-from-requires : tie.Need-bounds-from-requires
 bounds-from-requires c κs = search needs
 
 put-bounds-requires : tie.Need-put-bounds-requires
-put-bounds-requires c κs = let x = rw (← c .before .bounds-from .ensures) at (from-numbers true) in (x .0, x .1, omega arith)
+put-bounds-requires c κs =
+    let x = rw (← c .before .bounds-from .ensures) at (from-numbers true) in
+    (x .0, x .1, omega arith)
 
 same-length : tie.Need-same-length
 same-length c = search needs
 
 returns : tie.Need-returns
-returns c = c .before .before .put-bounds .ensures ∙ rw (c .before .before .before .before .bounds-from .ensures, from-bits true, bounds-of-time (fileIn (c .before .before .before .before .before .before .before .before .before .args .f .now) (c .before .before .before .before .before .before .before .before .before .args .s) .names) (modelAt (fileIn (c .before .before .before .before .before .before .before .before .before .args .f .now) (c .before .before .before .before .before .before .before .before .before .args .s)) (c .before .before .before .before .before .before .before .before .before .args .m) .unknowns) (c .before .before .before .before .before .before .before .before .before .args .name) (c .before .before .before .before .before .before .before .before .before .args .v) (c .before .before .before .before .before .if1 .taken)) refl
+returns c =
+    let a = c .before .before .before .before .before .before .before .before .before .args in
+    c .before .before .put-bounds .ensures ∙ rw (c .before .before .before .before .bounds-from .ensures, from-bits true, bounds-of-time (fileIn (a .f .now) (a .s) .names) (modelAt (fileIn (a .f .now) (a .s)) (a .m) .unknowns) (a .name) (a .v) (c .before .before .before .before .before .if1 .taken)) refl
 
 put-last-bounds-requires : tie.Need-put-last-bounds-requires
 put-last-bounds-requires c κs = search needs
@@ -28,7 +32,9 @@ same-length-2 : tie.Need-same-length-2
 same-length-2 c = search needs
 
 returns-2 : tie.Need-returns-2
-returns-2 c = c .before .before .put-last-bounds .ensures ∙ rw (bounds-of-other (fileIn (c .before .before .before .before .before .before .before .before .args .f .now) (c .before .before .before .before .before .before .before .before .args .s) .names) (modelAt (fileIn (c .before .before .before .before .before .before .before .before .args .f .now) (c .before .before .before .before .before .before .before .before .args .s)) (c .before .before .before .before .before .before .before .before .args .m) .unknowns) (c .before .before .before .before .before .before .before .before .args .name) (c .before .before .before .before .before .before .before .before .args .v) (c .before .before .before .before .if1 .left)) refl
+returns-2 c =
+    let a = c .before .before .before .before .before .before .before .before .args in
+    c .before .before .put-last-bounds .ensures ∙ rw (bounds-of-other (fileIn (a .f .now) (a .s) .names) (modelAt (fileIn (a .f .now) (a .s)) (a .m) .unknowns) (a .name) (a .v) (c .before .before .before .before .if1 .left)) refl
 
 pub put-var-bounds-spec : {M : Type 1} → statement M
 put-var-bounds-spec =

@@ -21,7 +21,10 @@ unknown-requires : tie.Need-unknown-requires
 unknown-requires c κs = search needs
 
 shared-slice-read-is-time : tie.Need-shared-slice-read-is-time
-shared-slice-read-is-time c = omega (arith, c .before .unknown .ensures .0, unknown-is (c .before .before .before .before .args .f .now) (c .before .before .before .before .args .s) (c .before .before .before .before .pre .0) (c .before .before .before .before .args .u) (c .before .before .before .before .pre .3) .name-below, c .before .before .before .before .pre .2)
+shared-slice-read-is-time c =
+    let a = c .before .before .before .before .args in
+    let p = c .before .before .before .before .pre in
+    omega (arith, c .before .unknown .ensures .0, unknown-is (a .f .now) (a .s) (p .0) (a .u) (p .3) .name-below, p .2)
 
 is-time-requires : tie.Need-is-time-requires
 is-time-requires c κs = search needs
@@ -30,17 +33,23 @@ is-positive-requires : tie.Need-is-positive-requires
 is-positive-requires c κs = search needs
 
 read-domain-requires : tie.Need-read-domain-requires
-read-domain-requires c κs = (ranges (c .before .before .before .before .before .before .args .f .now) (c .before .before .before .before .before .before .args .s) (c .before .before .before .before .before .before .pre .0) .unknowns, c .before .before .before .before .before .before .pre .3)
+read-domain-requires c κs =
+    let a = c .before .before .before .before .before .before .args in
+    let p = c .before .before .before .before .before .before .pre in
+    (ranges (a .f .now) (a .s) (p .0) .unknowns, p .3)
 
 domain-bounds-requires : tie.Need-domain-bounds-requires
 domain-bounds-requires c κs = search needs
 
 returns : tie.Need-returns
 unfolding contentsOf
-returns c = let n : wordOf (unknownRecord (c .before .before .before .before .before .before .before .before .args .f .now) (c .before .before .before .before .before .before .before .before .args .s) (c .before .before .before .before .before .before .before .before .args .u)) 0 < length (Opens.fileIn (c .before .before .before .before .before .before .before .before .args .f .now) (c .before .before .before .before .before .before .before .before .args .s) .names) = omega (arith, unknown-is (c .before .before .before .before .before .before .before .before .args .f .now) (c .before .before .before .before .before .before .before .before .args .s) (c .before .before .before .before .before .before .before .before .pre .0) (c .before .before .before .before .before .before .before .before .args .u) (c .before .before .before .before .before .before .before .before .pre .3) .name-below, names-long (c .before .before .before .before .before .before .before .before .args .f .now) (c .before .before .before .before .before .before .before .before .args .s)) in
-    let t : c .before .before .before .is-time .result ≡ isTime (Opens.fileIn (c .before .before .before .before .before .before .before .before .args .f .now) (c .before .before .before .before .before .before .before .before .args .s) .names) (wordOf (unknownRecord (c .before .before .before .before .before .before .before .before .args .f .now) (c .before .before .before .before .before .before .before .before .args .s) (c .before .before .before .before .before .before .before .before .args .u)) 0) = c .before .before .before .is-time .ensures ∙ rw (c .before .before .before .before .before .unknown .ensures .0, c .before .before .before .before .before .before .before .before .pre .1 .class (wordOf (unknownRecord (c .before .before .before .before .before .before .before .before .args .f .now) (c .before .before .before .before .before .before .before .before .args .s) (c .before .before .before .before .before .before .before .before .args .u)) 0) n) (class-time (Opens.fileIn (c .before .before .before .before .before .before .before .before .args .f .now) (c .before .before .before .before .before .before .before .before .args .s) .names) (wordOf (unknownRecord (c .before .before .before .before .before .before .before .before .args .f .now) (c .before .before .before .before .before .before .before .before .args .s) (c .before .before .before .before .before .before .before .before .args .u)) 0)) in
-    let d : c .before .read-domain .result ≡ domainValue (domainOf (unknownRecord (c .before .before .before .before .before .before .before .before .args .f .now) (c .before .before .before .before .before .before .before .before .args .s) (c .before .before .before .before .before .before .before .before .args .u))) = rw (← ranges (c .before .before .before .before .before .before .before .before .args .f .now) (c .before .before .before .before .before .before .before .before .args .s) (c .before .before .before .before .before .before .before .before .pre .0) .starts .unknowns) (c .before .read-domain .ensures) in
-    c .domain-bounds .ensures ∙ rw (d, t, c .before .before .is-positive .ensures) (unknown-floats (c .before .before .before .before .before .before .before .before .args .f .now) (c .before .before .before .before .before .before .before .before .args .s) (c .before .before .before .before .before .before .before .before .args .u) (c .before .before .before .before .before .before .before .before .pre .0) (c .before .before .before .before .before .before .before .before .pre .3))
+returns c =
+    let a = c .before .before .before .before .before .before .before .before .args in
+    let p = c .before .before .before .before .before .before .before .before .pre in
+    let n : wordOf (unknownRecord (a .f .now) (a .s) (a .u)) 0 < length (Opens.fileIn (a .f .now) (a .s) .names) = omega (arith, unknown-is (a .f .now) (a .s) (p .0) (a .u) (p .3) .name-below, names-long (a .f .now) (a .s)) in
+    let t : c .before .before .before .is-time .result ≡ isTime (Opens.fileIn (a .f .now) (a .s) .names) (wordOf (unknownRecord (a .f .now) (a .s) (a .u)) 0) = c .before .before .before .is-time .ensures ∙ rw (c .before .before .before .before .before .unknown .ensures .0, p .1 .class (wordOf (unknownRecord (a .f .now) (a .s) (a .u)) 0) n) (class-time (Opens.fileIn (a .f .now) (a .s) .names) (wordOf (unknownRecord (a .f .now) (a .s) (a .u)) 0)) in
+    let d : c .before .read-domain .result ≡ domainValue (domainOf (unknownRecord (a .f .now) (a .s) (a .u))) = rw (← ranges (a .f .now) (a .s) (p .0) .starts .unknowns) (c .before .read-domain .ensures) in
+    c .domain-bounds .ensures ∙ rw (d, t, c .before .before .is-positive .ensures) (unknown-floats (a .f .now) (a .s) (a .u) (p .0) (p .3))
 
 pub unknown-bounds-spec : {M : Type 1} → statement M
 unknown-bounds-spec =

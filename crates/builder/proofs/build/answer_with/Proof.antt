@@ -18,7 +18,10 @@ rules-requires : tie.Need-rules-requires
 rules-requires c κs = search needs
 
 fill-requires : tie.Need-fill-requires
-fill-requires c κs = let z = measured-sized _ _ _ _ _ (sym (c .before .before .before .before .before .i .given .1) ∙ c .before .before .before .before .before .before .before .before .before .measure .ensures .0) in let p = c .before .before .before .before .before .before .before .before .before .before .before .before .before .before .pre in (record { opened = p .0; classes = p .2 .0; rules = c .before .before .before .rules .ensures; callees = p .2 .2 }, p .2 .1, p .1, (c .before .before .before .before .before .before .before .before .before .measure .ensures .1, c .before .before .before .before .before .before .before .before .before .measure .ensures .2), p .4, (z .0, z .1, z .2, z .3))
+fill-requires c κs =
+    let z = measured-sized _ _ _ _ _ (sym (c .before .before .before .before .before .i .given .1) ∙ c .before .before .before .before .before .before .before .before .before .measure .ensures .0) in
+    let p = c .before .before .before .before .before .before .before .before .before .before .before .before .before .before .pre in
+    (record { opened = p .0; classes = p .2 .0; rules = c .before .before .before .rules .ensures; callees = p .2 .2 }, p .2 .1, p .1, (c .before .before .before .before .before .before .before .before .before .measure .ensures .1, c .before .before .before .before .before .before .before .before .before .measure .ensures .2), p .4, (z .0, z .1, z .2, z .3))
 
 same-length : tie.Need-same-length
 same-length c = search needs

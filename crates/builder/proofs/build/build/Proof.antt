@@ -26,7 +26,10 @@ same-length : tie.Need-same-length
 same-length c = search needs
 
 returns : tie.Need-returns
-returns c = let e = built-refused _ (c .before .before .before .before .before .before .before .before .before .before .before .args .root .now) (length (c .before .before .before .before .before .before .before .before .before .before .before .args .area .now)) _ (sym (c .before .before .before .before .before .number .given .1) ∙ c .before .before .before .before .before .before .before .open .ensures) in (c .before .before .refuse .ensures .0 ∙ sym (ap told e), c .before .before .refuse .ensures .1 ∙ sym (ap (resultArea (length (c .before .before .before .before .before .before .before .before .before .before .before .args .area .now))) e))
+returns c =
+    let a = c .before .before .before .before .before .before .before .before .before .before .before .args in
+    let e = built-refused _ (a .root .now) (length (a .area .now)) _ (sym (c .before .before .before .before .before .number .given .1) ∙ c .before .before .before .before .before .before .before .open .ensures) in
+    (c .before .before .refuse .ensures .0 ∙ sym (ap told e), c .before .before .refuse .ensures .1 ∙ sym (ap (resultArea (length (a .area .now))) e))
 
 same-length-2 : tie.Need-same-length-2
 same-length-2 c = search needs

@@ -25,7 +25,10 @@ same-length : tie.Need-same-length
 same-length c = search needs
 
 returns : tie.Need-returns
-returns c = let room = length (c .before .before .before .before .before .before .before .before .before .before .before .args .area .now) in let e = ap (fittedIn room) (c .before .before .before .before .before .before .answer .ensures .0) in (c .before .before .hand-over .ensures .0 ∙ ap told e, c .before .before .hand-over .ensures .1 ∙ ap (resultArea room) e)
+returns c =
+    let room = length (c .before .before .before .before .before .before .before .before .before .before .before .args .area .now) in
+    let e = ap (fittedIn room) (c .before .before .before .before .before .before .answer .ensures .0) in
+    (c .before .before .hand-over .ensures .0 ∙ ap told e, c .before .before .hand-over .ensures .1 ∙ ap (resultArea room) e)
 
 pub build-apart-spec : {M : Type 1} → statement M
 build-apart-spec =

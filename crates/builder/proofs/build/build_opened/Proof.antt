@@ -18,31 +18,47 @@ same-length : tie.Need-same-length
 same-length c = search needs
 
 returns : tie.Need-returns
-returns c = let room = length (c .before .before .before .before .before .before .before .before .before .args .area .now) in let e = built-none _ (c .before .before .before .before .before .before .before .before .before .args .root .now) room _ (c .before .before .before .before .before .before .before .before .before .pre .1) (place-none _ _ (c .before .before .before .before .before .find-root .ensures) (c .before .before .before .before .if1 .taken)) in (c .before .before .refuse .ensures .0 ∙ sym (ap told e), c .before .before .refuse .ensures .1 ∙ sym (ap (resultArea room) e))
+returns c =
+    let a = c .before .before .before .before .before .before .before .before .before .args in
+    let room = length (a .area .now) in
+    let e = built-none _ (a .root .now) room _ (c .before .before .before .before .before .before .before .before .before .pre .1) (place-none _ _ (c .before .before .before .before .before .find-root .ensures) (c .before .before .before .before .if1 .taken)) in
+    (c .before .before .refuse .ensures .0 ∙ sym (ap told e), c .before .before .refuse .ensures .1 ∙ sym (ap (resultArea room) e))
 
 sub-build-apart : tie.Need-sub-build-apart
 sub-build-apart c = search needs
 
 build-apart-requires : tie.Need-build-apart-requires
-build-apart-requires c κs = (c .before .before .before .before .before .before .before .pre .0, omega (arith, c .before .before .before .find-root .ensures, c .before .before .if1 .left, root-below (c .before .before .before .before .before .before .before .args .file .now) (c .before .before .before .before .before .before .before .args .s) (c .before .before .before .before .before .before .before .args .root .now)))
+build-apart-requires c κs =
+    let a = c .before .before .before .before .before .before .before .args in
+    (c .before .before .before .before .before .before .before .pre .0, omega (arith, c .before .before .before .find-root .ensures, c .before .before .if1 .left, root-below (a .file .now) (a .s) (a .root .now)))
 
 same-length-2 : tie.Need-same-length-2
 same-length-2 c = search needs
 
 returns-2 : tie.Need-returns-2
-returns-2 c = let room = length (c .before .before .before .before .before .before .before .before .before .before .args .area .now) in let e = built-at _ (c .before .before .before .before .before .before .before .before .before .before .args .root .now) room _ (c .before .before .before .before .before .before .before .before .before .before .pre .1) _ (place-of _ _ (c .before .before .before .before .before .before .find-root .ensures) (c .before .before .before .before .before .if1 .left)) in (c .before .before .build-apart .ensures .0 ∙ sym (ap told e), c .before .before .build-apart .ensures .1 ∙ sym (ap (resultArea room) e))
+returns-2 c =
+    let a = c .before .before .before .before .before .before .before .before .before .before .args in
+    let room = length (a .area .now) in
+    let e = built-at _ (a .root .now) room _ (c .before .before .before .before .before .before .before .before .before .before .pre .1) _ (place-of _ _ (c .before .before .before .before .before .before .find-root .ensures) (c .before .before .before .before .before .if1 .left)) in
+    (c .before .before .build-apart .ensures .0 ∙ sym (ap told e), c .before .before .build-apart .ensures .1 ∙ sym (ap (resultArea room) e))
 
 sub-build-within : tie.Need-sub-build-within
 sub-build-within c = search needs
 
 build-within-requires : tie.Need-build-within-requires
-build-within-requires c κs = (c .before .before .before .before .before .before .before .pre .0, omega (arith, c .before .before .before .find-root .ensures, c .before .before .if1 .left, root-below (c .before .before .before .before .before .before .before .args .file .now) (c .before .before .before .before .before .before .before .args .s) (c .before .before .before .before .before .before .before .args .root .now)), omega (arith, c .before .if2 .left))
+build-within-requires c κs =
+    let a = c .before .before .before .before .before .before .before .args in
+    (c .before .before .before .before .before .before .before .pre .0, omega (arith, c .before .before .before .find-root .ensures, c .before .before .if1 .left, root-below (a .file .now) (a .s) (a .root .now)), omega (arith, c .before .if2 .left))
 
 same-length-3 : tie.Need-same-length-3
 same-length-3 c = search needs
 
 returns-3 : tie.Need-returns-3
-returns-3 c = let room = length (c .before .before .before .before .before .before .before .before .before .before .args .area .now) in let e = built-at _ (c .before .before .before .before .before .before .before .before .before .before .args .root .now) room _ (c .before .before .before .before .before .before .before .before .before .before .pre .1) _ (place-of _ _ (c .before .before .before .before .before .before .find-root .ensures) (c .before .before .before .before .before .if1 .left)) in (c .before .before .build-within .ensures .0 ∙ sym (ap told e), c .before .before .build-within .ensures .1 ∙ sym (ap (resultArea room) e))
+returns-3 c =
+    let a = c .before .before .before .before .before .before .before .before .before .before .args in
+    let room = length (a .area .now) in
+    let e = built-at _ (a .root .now) room _ (c .before .before .before .before .before .before .before .before .before .before .pre .1) _ (place-of _ _ (c .before .before .before .before .before .before .find-root .ensures) (c .before .before .before .before .before .if1 .left)) in
+    (c .before .before .build-within .ensures .0 ∙ sym (ap told e), c .before .before .build-within .ensures .1 ∙ sym (ap (resultArea room) e))
 
 pub build-opened-spec : {M : Type 1} → statement M
 build-opened-spec =

@@ -12,7 +12,9 @@ slice-aggregate-answer : tie.Need-slice-aggregate-answer
 slice-aggregate-answer c = sym (length-take-le 55384 (c .before .before .before .args .area .now) (c .before .before .before .pre .2))
 
 answer-requires : tie.Need-answer-requires
-answer-requires c κs = (c .before .before .before .pre .0, c .before .before .before .pre .1, length-take-le 55384 (c .before .before .before .args .area .now) (c .before .before .before .pre .2))
+answer-requires c κs =
+    let p = c .before .before .before .pre in
+    (p .0, p .1, length-take-le 55384 (c .before .before .before .args .area .now) (p .2))
 
 keep-requires : tie.Need-keep-requires
 keep-requires c κs = search needs
@@ -21,7 +23,10 @@ same-length : tie.Need-same-length
 same-length c = search needs
 
 returns : tie.Need-returns
-returns c = given-within (c .before .before .before .before .before .before .before .before .before .before .args .area .now) _ _ _ _ _ (c .before .before .before .before .before .before .before .before .before .before .pre .2) (c .before .before .before .before .before .before .answer .ensures) (c .before .before .before .before .before .before .answer .kept .1 .1 .1 .0 ∙ length-take-le 55384 (c .before .before .before .before .before .before .before .before .before .before .args .area .now) (c .before .before .before .before .before .before .before .before .before .before .pre .2)) (c .before .before .keep .ensures)
+returns c =
+    let a = c .before .before .before .before .before .before .before .before .before .before .args in
+    let p = c .before .before .before .before .before .before .before .before .before .before .pre in
+    given-within (a .area .now) _ _ _ _ _ (p .2) (c .before .before .before .before .before .before .answer .ensures) (c .before .before .before .before .before .before .answer .kept .1 .1 .1 .0 ∙ length-take-le 55384 (a .area .now) (p .2)) (c .before .before .keep .ensures)
 
 pub build-within-spec : {M : Type 1} → statement M
 build-within-spec =

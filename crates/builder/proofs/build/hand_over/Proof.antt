@@ -18,19 +18,29 @@ enum-known-a-2 : tie.Need-enum-known-a-2
 enum-known-a-2 c = search needs
 
 hand-out-requires : tie.Need-hand-out-requires
-hand-out-requires c κs = let e = used-is _ _ (c .before .before .a2 .given .1) in let h : c .before .before .a2 .given .0 .0 ≤ length (c .before .before .before .before .before .before .args .own .now) = omega (arith, e, c .before .before .before .before .before .before .pre .0, c .before .before .before .before .before .before .pre .1) in (h, omega (arith, h, c .before .before .before .before .before .before .pre .0))
+hand-out-requires c κs =
+    let p = c .before .before .before .before .before .before .pre in
+    let e = used-is _ _ (c .before .before .a2 .given .1) in
+    let h : c .before .before .a2 .given .0 .0 ≤ length (c .before .before .before .before .before .before .args .own .now) = omega (arith, e, p .0, p .1) in
+    (h, omega (arith, h, p .0))
 
 same-length : tie.Need-same-length
 same-length c = search needs
 
 returns : tie.Need-returns
-returns c = let e = hands-refused (length (c .before .before .before .before .before .before .before .before .before .args .area .now)) _ _ (c .before .before .before .before .before .before .before .before .before .args .own .now) (c .before .before .before .before .before .a .given .1) in (c .before .before .refuse .ensures .0 ∙ sym (ap told e), c .before .before .refuse .ensures .1 ∙ sym (ap (resultArea (length (c .before .before .before .before .before .before .before .before .before .args .area .now))) e))
+returns c =
+    let a = c .before .before .before .before .before .before .before .before .before .args in
+    let e = hands-refused (length (a .area .now)) _ _ (a .own .now) (c .before .before .before .before .before .a .given .1) in
+    (c .before .before .refuse .ensures .0 ∙ sym (ap told e), c .before .before .refuse .ensures .1 ∙ sym (ap (resultArea (length (a .area .now))) e))
 
 same-length-2 : tie.Need-same-length-2
 same-length-2 c = search needs
 
 returns-2 : tie.Need-returns-2
-returns-2 c = let e = hands-used (length (c .before .before .before .before .before .before .before .before .before .args .area .now)) _ _ (c .before .before .before .before .before .before .before .before .before .args .own .now) (c .before .before .before .before .before .a2 .given .1) in (c .before .before .hand-out .ensures .0 ∙ sym (ap told e), c .before .before .hand-out .ensures .1 ∙ sym (ap (resultArea (length (c .before .before .before .before .before .before .before .before .before .args .area .now))) e))
+returns-2 c =
+    let a = c .before .before .before .before .before .before .before .before .before .args in
+    let e = hands-used (length (a .area .now)) _ _ (a .own .now) (c .before .before .before .before .before .a2 .given .1) in
+    (c .before .before .hand-out .ensures .0 ∙ sym (ap told e), c .before .before .hand-out .ensures .1 ∙ sym (ap (resultArea (length (a .area .now))) e))
 
 pub hand-over-spec : {M : Type 1} → statement M
 hand-over-spec =

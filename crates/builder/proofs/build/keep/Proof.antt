@@ -18,22 +18,36 @@ enum-known-a-2 : tie.Need-enum-known-a-2
 enum-known-a-2 c = search needs
 
 clear-requires : tie.Need-clear-requires
-clear-requires c κs = let e = used-is _ _ (c .before .before .a2 .given .1) in omega (arith, e, c .before .before .before .before .before .pre .0, c .before .before .before .before .before .pre .1)
+clear-requires c κs =
+    let p = c .before .before .before .before .before .pre in
+    let e = used-is _ _ (c .before .before .a2 .given .1) in
+    omega (arith, e, p .0, p .1)
 
 mul-result : tie.Need-mul-result
-mul-result c = let e = used-is _ _ (c .before .before .before .before .before .a2 .given .1) in omega (arith, e, c .before .before .before .before .before .before .before .before .pre .0)
+mul-result c =
+    let e = used-is _ _ (c .before .before .before .before .before .a2 .given .1) in
+    omega (arith, e, c .before .before .before .before .before .before .before .before .pre .0)
 
 same-length : tie.Need-same-length
 same-length c = search needs
 
 returns : tie.Need-returns
-returns c = let d = c .before .before .before .before .before .before .before .before .args .area .now in let e = hands-refused (length d) _ _ d (c .before .before .before .before .before .a .given .1) in (c .before .before .refuse .ensures .0 ∙ sym (ap told e), c .before .before .refuse .ensures .1 ∙ sym (ap (resultArea (length d)) e))
+returns c =
+    let d = c .before .before .before .before .before .before .before .before .args .area .now in
+    let e = hands-refused (length d) _ _ d (c .before .before .before .before .before .a .given .1) in
+    (c .before .before .refuse .ensures .0 ∙ sym (ap told e), c .before .before .refuse .ensures .1 ∙ sym (ap (resultArea (length d)) e))
 
 same-length-2 : tie.Need-same-length-2
 same-length-2 c = search needs
 
 returns-2 : tie.Need-returns-2
-returns-2 c = let d = c .before .before .before .before .before .before .before .before .args .area .now in let e = hands-used (length d) _ _ d (c .before .before .before .before .before .a2 .given .1) in let u = used-is _ _ (c .before .before .before .before .before .a2 .given .1) in let k = kept d _ (c .before .before .before .before .before .a2 .given .0 .0) (omega (arith, u, c .before .before .before .before .before .before .before .before .pre .0, c .before .before .before .before .before .before .before .before .pre .1)) (c .before .before .clear .ensures) in (k .0 ∙ sym (ap told e), k .1 ∙ sym (ap (resultArea (length d)) e))
+returns-2 c =
+    let p = c .before .before .before .before .before .before .before .before .pre in
+    let d = c .before .before .before .before .before .before .before .before .args .area .now in
+    let e = hands-used (length d) _ _ d (c .before .before .before .before .before .a2 .given .1) in
+    let u = used-is _ _ (c .before .before .before .before .before .a2 .given .1) in
+    let k = kept d _ (c .before .before .before .before .before .a2 .given .0 .0) (omega (arith, u, p .0, p .1)) (c .before .before .clear .ensures) in
+    (k .0 ∙ sym (ap told e), k .1 ∙ sym (ap (resultArea (length d)) e))
 
 pub keep-spec : {M : Type 1} → statement M
 keep-spec =

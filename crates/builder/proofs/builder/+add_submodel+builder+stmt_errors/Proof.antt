@@ -75,55 +75,85 @@ add-submodel-stmt-requires : (t : ℕ) → add-submodel-lts.Need-stmt-requires (
 add-submodel-stmt-requires t c κs = (c .before .before .pre .1 .0 .opened, (c .before .before .pre .1 .1, omega arith))
 
 add-submodel-element-copy-out-c : (t : ℕ) → add-submodel-lts.Need-element-copy-out-c (stmt-reads.Asked, stmt-reads.Learnt, node-reads.Asked, node-reads.Learnt, missing-error-reads.Asked, missing-error-reads.Learnt, builder-below t, builder.Post, order-errors-reads.Asked, order-errors-reads.Learnt) (add-submodel-at t) add-submodel.Post
-add-submodel-element-copy-out-c t c = omega (arith, c .before .before .before .pre .1 .0 .opened .laid .within .stmts, c .before .before .before .pre .1 .1)
+add-submodel-element-copy-out-c t c =
+    let p = c .before .before .before .pre in
+    omega (arith, p .1 .0 .opened .laid .within .stmts, p .1 .1)
 
 add-submodel-cast-c : (t : ℕ) → add-submodel-lts.Need-cast-c (stmt-reads.Asked, stmt-reads.Learnt, node-reads.Asked, node-reads.Learnt, missing-error-reads.Asked, missing-error-reads.Learnt, builder-below t, builder.Post, order-errors-reads.Asked, order-errors-reads.Learnt) (add-submodel-at t) add-submodel.Post
-add-submodel-cast-c t c = omega (arith, entry-below (c .before .before .before .before .args .f .now) (c .before .before .before .before .args .s) (c .before .before .before .before .pre .1 .0 .opened) (c .before .before .before .before .args .callees .now) (c .before .before .before .before .pre .1 .0 .callees) (c .before .before .before .before .args .q) (c .before .before .before .before .pre .1 .1), c .before .before .before .before .pre .1 .0 .opened .laid .within .models)
+add-submodel-cast-c t c =
+    let a = c .before .before .before .before .args in
+    let p = c .before .before .before .before .pre in
+    omega (arith, entry-below (a .f .now) (a .s) (p .1 .0 .opened) (a .calls .now) (p .1 .0 .callees) (a .q) (p .1 .1), p .1 .0 .opened .laid .within .models)
 
 add-submodel-node-requires : (t : ℕ) → add-submodel-lts.Need-node-requires (stmt-reads.Asked, stmt-reads.Learnt, node-reads.Asked, node-reads.Learnt, missing-error-reads.Asked, missing-error-reads.Learnt, builder-below t, builder.Post, order-errors-reads.Asked, order-errors-reads.Learnt) (add-submodel-at t) add-submodel.Post
-add-submodel-node-requires t c κs = (c .before .before .before .before .before .pre .1 .0 .opened, ((call-in (c .before .before .before .before .before .pre .1 .0 .opened) (c .before .before .before .before .before .args .q) (c .before .before .before .before .before .pre .1 .1) 3 (sym (c .before .before .before .before .before .pre .1 .2)) refl (c .before .before .stmt .result) (c .before .before .stmt .ensures .0)) .within, omega arith))
+add-submodel-node-requires t c κs =
+    let p = c .before .before .before .before .before .pre in
+    (p .1 .0 .opened, ((call-in (p .1 .0 .opened) (c .before .before .before .before .before .args .q) (p .1 .1) 3 (sym (p .1 .2)) refl (c .before .before .stmt .result) (c .before .before .stmt .ensures .0)) .within, omega arith))
 
 add-submodel-missing-error-requires : (t : ℕ) → add-submodel-lts.Need-missing-error-requires (stmt-reads.Asked, stmt-reads.Learnt, node-reads.Asked, node-reads.Learnt, missing-error-reads.Asked, missing-error-reads.Learnt, builder-below t, builder.Post, order-errors-reads.Asked, order-errors-reads.Learnt) (add-submodel-at t) add-submodel.Post
-add-submodel-missing-error-requires t c κs = (c .before .before .before .before .before .before .before .pre .1 .0 .opened, c .before .before .before .before .before .before .before .pre .1 .1, omega (arith, c .before .node .ensures .0, call-small (call-in (c .before .before .before .before .before .before .before .pre .1 .0 .opened) (c .before .before .before .before .before .before .before .args .q) (c .before .before .before .before .before .before .before .pre .1 .1) 3 (sym (c .before .before .before .before .before .before .before .pre .1 .2)) refl (c .before .before .before .before .stmt .result) (c .before .before .before .before .stmt .ensures .0))), (c .before .before .before .before .before .before .before .pre .1 .4 (scopeIn (c .before .before .before .before .before .before .before .args .f .now) (c .before .before .before .before .before .before .before .args .s) 0)) .long, omega (arith, (c .before .before .before .before .before .before .before .pre .1 .4 (scopeIn (c .before .before .before .before .before .before .before .args .f .now) (c .before .before .before .before .before .before .before .args .s) 0)) .few))
+add-submodel-missing-error-requires t c κs =
+    let a = c .before .before .before .before .before .before .before .args in
+    let p = c .before .before .before .before .before .before .before .pre in
+    (p .1 .0 .opened, p .1 .1, omega (arith, c .before .node .ensures .0, call-small (call-in (p .1 .0 .opened) (a .q) (p .1 .1) 3 (sym (p .1 .2)) refl (c .before .before .before .before .stmt .result) (c .before .before .before .before .stmt .ensures .0))), (p .1 .4 (scopeIn (a .f .now) (a .s) 0)) .long, omega (arith, (p .1 .4 (scopeIn (a .f .now) (a .s) 0)) .few))
 
 add-submodel-same-length : (t : ℕ) → add-submodel-lts.Need-same-length (stmt-reads.Asked, stmt-reads.Learnt, node-reads.Asked, node-reads.Learnt, missing-error-reads.Asked, missing-error-reads.Learnt, builder-below t, builder.Post, order-errors-reads.Asked, order-errors-reads.Learnt) (add-submodel-at t) add-submodel.Post
 add-submodel-same-length t c = omega arith
 
 add-submodel-returns : (t : ℕ) → add-submodel-lts.Need-returns (stmt-reads.Asked, stmt-reads.Learnt, node-reads.Asked, node-reads.Learnt, missing-error-reads.Asked, missing-error-reads.Learnt, builder-below t, builder.Post, order-errors-reads.Asked, order-errors-reads.Learnt) (add-submodel-at t) add-submodel.Post
-add-submodel-returns t c = λ o. rw (submodel-missing (c .before .before .before .before .before .before .before .before .before .before .pre .1 .0) (c .before .before .before .before .before .before .before .before .before .before .args .q) (c .before .before .before .before .before .before .before .before .before .before .pre .1 .1) 3 (sym (c .before .before .before .before .before .before .before .before .before .before .pre .1 .2)) refl (c .before .before .before .before .before .before .before .stmt .result) (c .before .before .before .before .before .before .before .stmt .ensures .0) (λ j. errorsOf (fileIn (c .before .before .before .before .before .before .before .before .before .before .args .f .now) (c .before .before .before .before .before .before .before .before .before .before .args .s)) (c .before .before .before .before .before .before .before .before .before .before .args .k) j) o (c .before .before .before .before .before .if1 .taken) (c .before .before .before .before .node .result) (c .before .before .before .before .node .ensures .0)) (c .before .before .missing-error .ensures)
+add-submodel-returns t c =
+    let a = c .before .before .before .before .before .before .before .before .before .before .args in
+    let p = c .before .before .before .before .before .before .before .before .before .before .pre in
+    λ o. rw (submodel-missing (p .1 .0) (a .q) (p .1 .1) 3 (sym (p .1 .2)) refl (c .before .before .before .before .before .before .before .stmt .result) (c .before .before .before .before .before .before .before .stmt .ensures .0) (λ j. errorsOf (fileIn (a .f .now) (a .s)) (a .k) j) o (c .before .before .before .before .before .if1 .taken) (c .before .before .before .before .node .result) (c .before .before .before .before .node .ensures .0)) (c .before .before .missing-error .ensures)
 
 add-submodel-sub-builder : (t : ℕ) → add-submodel-lts.Need-sub-builder (stmt-reads.Asked, stmt-reads.Learnt, node-reads.Asked, node-reads.Learnt, missing-error-reads.Asked, missing-error-reads.Learnt, builder-below t, builder.Post, order-errors-reads.Asked, order-errors-reads.Learnt) (add-submodel-at t) add-submodel.Post
 add-submodel-sub-builder t c = omega (arith, c .if1 .left)
 
 add-submodel-builder-requires : (t : ℕ) → add-submodel-lts.Need-builder-requires (stmt-reads.Asked, stmt-reads.Learnt, node-reads.Asked, node-reads.Learnt, missing-error-reads.Asked, missing-error-reads.Learnt, builder-below t, builder.Post, order-errors-reads.Asked, order-errors-reads.Learnt) (add-submodel-at t) add-submodel.Post
-add-submodel-builder-requires t c κs = (omega (arith, c .before .before .before .before .before .before .pre .0), (c .before .before .before .before .before .before .pre .1 .0, omega (arith, entry-below (c .before .before .before .before .before .before .args .f .now) (c .before .before .before .before .before .before .args .s) (c .before .before .before .before .before .before .pre .1 .0 .opened) (c .before .before .before .before .before .before .args .callees .now) (c .before .before .before .before .before .before .pre .1 .0 .callees) (c .before .before .before .before .before .before .args .q) (c .before .before .before .before .before .before .pre .1 .1), c .before .if1 .left), omega (arith, c .before .before .before .before .before .before .pre .1 .3), room-first (submodel-found (c .before .before .before .before .before .before .pre .1 .0) (c .before .before .before .before .before .before .args .q) (c .before .before .before .before .before .before .pre .1 .1) 3 (sym (c .before .before .before .before .before .before .pre .1 .2)) refl (c .before .before .before .stmt .result) (c .before .before .before .stmt .ensures .0) (λ j. errorsOf (fileIn (c .before .before .before .before .before .before .args .f .now) (c .before .before .before .before .before .before .args .s)) (c .before .before .before .before .before .before .args .k) j) (scopeIn (c .before .before .before .before .before .before .args .f .now) (c .before .before .before .before .before .before .args .s) 0) (c .before .if1 .left) _ _ refl refl) (c .before .before .before .before .before .before .pre .1 .4 (scopeIn (c .before .before .before .before .before .before .args .f .now) (c .before .before .before .before .before .before .args .s) 0))))
+add-submodel-builder-requires t c κs =
+    let a = c .before .before .before .before .before .before .args in
+    let p = c .before .before .before .before .before .before .pre in
+    (omega (arith, p .0), (p .1 .0, omega (arith, entry-below (a .f .now) (a .s) (p .1 .0 .opened) (a .calls .now) (p .1 .0 .callees) (a .q) (p .1 .1), c .before .if1 .left), omega (arith, p .1 .3), room-first (submodel-found (p .1 .0) (a .q) (p .1 .1) 3 (sym (p .1 .2)) refl (c .before .before .before .stmt .result) (c .before .before .before .stmt .ensures .0) (λ j. errorsOf (fileIn (a .f .now) (a .s)) (a .k) j) (scopeIn (a .f .now) (a .s) 0) (c .before .if1 .left) _ _ refl refl) (p .1 .4 (scopeIn (a .f .now) (a .s) 0))))
 
 add-submodel-node-requires-2 : (t : ℕ) → add-submodel-lts.Need-node-requires-2 (stmt-reads.Asked, stmt-reads.Learnt, node-reads.Asked, node-reads.Learnt, missing-error-reads.Asked, missing-error-reads.Learnt, builder-below t, builder.Post, order-errors-reads.Asked, order-errors-reads.Learnt) (add-submodel-at t) add-submodel.Post
-add-submodel-node-requires-2 t c κs = (c .before .before .before .before .before .before .before .before .before .pre .1 .0 .opened, ((call-in (c .before .before .before .before .before .before .before .before .before .pre .1 .0 .opened) (c .before .before .before .before .before .before .before .before .before .args .q) (c .before .before .before .before .before .before .before .before .before .pre .1 .1) 3 (sym (c .before .before .before .before .before .before .before .before .before .pre .1 .2)) refl (c .before .before .before .before .before .before .stmt .result) (c .before .before .before .before .before .before .stmt .ensures .0)) .within, omega arith))
+add-submodel-node-requires-2 t c κs =
+    let p = c .before .before .before .before .before .before .before .before .before .pre in
+    (p .1 .0 .opened, ((call-in (p .1 .0 .opened) (c .before .before .before .before .before .before .before .before .before .args .q) (p .1 .1) 3 (sym (p .1 .2)) refl (c .before .before .before .before .before .before .stmt .result) (c .before .before .before .before .before .before .stmt .ensures .0)) .within, omega arith))
 
 add-submodel-node-requires-3 : (t : ℕ) → add-submodel-lts.Need-node-requires-3 (stmt-reads.Asked, stmt-reads.Learnt, node-reads.Asked, node-reads.Learnt, missing-error-reads.Asked, missing-error-reads.Learnt, builder-below t, builder.Post, order-errors-reads.Asked, order-errors-reads.Learnt) (add-submodel-at t) add-submodel.Post
-add-submodel-node-requires-3 t c κs = (c .before .before .before .before .before .before .before .before .before .before .pre .1 .0 .opened, ((call-in (c .before .before .before .before .before .before .before .before .before .before .pre .1 .0 .opened) (c .before .before .before .before .before .before .before .before .before .before .args .q) (c .before .before .before .before .before .before .before .before .before .before .pre .1 .1) 3 (sym (c .before .before .before .before .before .before .before .before .before .before .pre .1 .2)) refl (c .before .before .before .before .before .before .before .stmt .result) (c .before .before .before .before .before .before .before .stmt .ensures .0)) .within, omega arith))
+add-submodel-node-requires-3 t c κs =
+    let p = c .before .before .before .before .before .before .before .before .before .before .pre in
+    (p .1 .0 .opened, ((call-in (p .1 .0 .opened) (c .before .before .before .before .before .before .before .before .before .before .args .q) (p .1 .1) 3 (sym (p .1 .2)) refl (c .before .before .before .before .before .before .before .stmt .result) (c .before .before .before .before .before .before .before .stmt .ensures .0)) .within, omega arith))
 
 add-submodel-sub-total : (t : ℕ) → add-submodel-lts.Need-sub-total (stmt-reads.Asked, stmt-reads.Learnt, node-reads.Asked, node-reads.Learnt, missing-error-reads.Asked, missing-error-reads.Learnt, builder-below t, builder.Post, order-errors-reads.Asked, order-errors-reads.Learnt) (add-submodel-at t) add-submodel.Post
-add-submodel-sub-total t c = omega (arith, c .node3 .ensures .0, call-sized (call-in (c .before .before .before .before .before .before .before .before .before .before .before .pre .1 .0 .opened) (c .before .before .before .before .before .before .before .before .before .before .before .args .q) (c .before .before .before .before .before .before .before .before .before .before .before .pre .1 .1) 3 (sym (c .before .before .before .before .before .before .before .before .before .before .before .pre .1 .2)) refl (c .before .before .before .before .before .before .before .before .stmt .result) (c .before .before .before .before .before .before .before .before .stmt .ensures .0)))
+add-submodel-sub-total t c =
+    let p = c .before .before .before .before .before .before .before .before .before .before .before .pre in
+    omega (arith, c .node3 .ensures .0, call-sized (call-in (p .1 .0 .opened) (c .before .before .before .before .before .before .before .before .before .before .before .args .q) (p .1 .1) 3 (sym (p .1 .2)) refl (c .before .before .before .before .before .before .before .before .stmt .result) (c .before .before .before .before .before .before .before .before .stmt .ensures .0)))
 
 add-submodel-order-errors-requires : (t : ℕ) → add-submodel-lts.Need-order-errors-requires (stmt-reads.Asked, stmt-reads.Learnt, node-reads.Asked, node-reads.Learnt, missing-error-reads.Asked, missing-error-reads.Learnt, builder-below t, builder.Post, order-errors-reads.Asked, order-errors-reads.Learnt) (add-submodel-at t) add-submodel.Post
-add-submodel-order-errors-requires t c κs = (call-args (call-in (c .before .before .before .before .before .before .before .before .before .before .before .before .pre .1 .0 .opened) (c .before .before .before .before .before .before .before .before .before .before .before .before .args .q) (c .before .before .before .before .before .before .before .before .before .before .before .before .pre .1 .1) 3 (sym (c .before .before .before .before .before .before .before .before .before .before .before .before .pre .1 .2)) refl (c .before .before .before .before .before .before .before .before .before .stmt .result) (c .before .before .before .before .before .before .before .before .before .stmt .ensures .0)) (c .before .before .node2 .result) (c .before .node3 .result) (c .before .before .node2 .ensures .0) (c .before .node3 .ensures .0), room-then (submodel-found (c .before .before .before .before .before .before .before .before .before .before .before .before .pre .1 .0) (c .before .before .before .before .before .before .before .before .before .before .before .before .args .q) (c .before .before .before .before .before .before .before .before .before .before .before .before .pre .1 .1) 3 (sym (c .before .before .before .before .before .before .before .before .before .before .before .before .pre .1 .2)) refl (c .before .before .before .before .before .before .before .before .before .stmt .result) (c .before .before .before .before .before .before .before .before .before .stmt .ensures .0) (λ j. errorsOf (fileIn (c .before .before .before .before .before .before .before .before .before .before .before .before .args .f .now) (c .before .before .before .before .before .before .before .before .before .before .before .before .args .s)) (c .before .before .before .before .before .before .before .before .before .before .before .before .args .k) j) (scopeIn (c .before .before .before .before .before .before .before .before .before .before .before .before .args .f .now) (c .before .before .before .before .before .before .before .before .before .before .before .before .args .s) 0) (c .before .before .before .before .before .before .before .if1 .left) (c .before .before .node2 .result) (c .before .node3 .result) (c .before .before .node2 .ensures .0) (c .before .node3 .ensures .0)) _ _ (c .before .before .before .before .before .before .before .before .before .before .before .before .pre .1 .4 (scopeIn (c .before .before .before .before .before .before .before .before .before .before .before .before .args .f .now) (c .before .before .before .before .before .before .before .before .before .before .before .before .args .s) 0)) (c .before .before .before .before .before .builder .ensures))
+add-submodel-order-errors-requires t c κs =
+    let a = c .before .before .before .before .before .before .before .before .before .before .before .before .args in
+    let p = c .before .before .before .before .before .before .before .before .before .before .before .before .pre in
+    (call-args (call-in (p .1 .0 .opened) (a .q) (p .1 .1) 3 (sym (p .1 .2)) refl (c .before .before .before .before .before .before .before .before .before .stmt .result) (c .before .before .before .before .before .before .before .before .before .stmt .ensures .0)) (c .before .before .node2 .result) (c .before .node3 .result) (c .before .before .node2 .ensures .0) (c .before .node3 .ensures .0), room-then (submodel-found (p .1 .0) (a .q) (p .1 .1) 3 (sym (p .1 .2)) refl (c .before .before .before .before .before .before .before .before .before .stmt .result) (c .before .before .before .before .before .before .before .before .before .stmt .ensures .0) (λ j. errorsOf (fileIn (a .f .now) (a .s)) (a .k) j) (scopeIn (a .f .now) (a .s) 0) (c .before .before .before .before .before .before .before .if1 .left) (c .before .before .node2 .result) (c .before .node3 .result) (c .before .before .node2 .ensures .0) (c .before .node3 .ensures .0)) _ _ (p .1 .4 (scopeIn (a .f .now) (a .s) 0)) (c .before .before .before .before .before .builder .ensures))
 
 add-submodel-same-length-2 : (t : ℕ) → add-submodel-lts.Need-same-length-2 (stmt-reads.Asked, stmt-reads.Learnt, node-reads.Asked, node-reads.Learnt, missing-error-reads.Asked, missing-error-reads.Learnt, builder-below t, builder.Post, order-errors-reads.Asked, order-errors-reads.Learnt) (add-submodel-at t) add-submodel.Post
 add-submodel-same-length-2 t c = omega arith
 
 add-submodel-returns-2 : (t : ℕ) → add-submodel-lts.Need-returns-2 (stmt-reads.Asked, stmt-reads.Learnt, node-reads.Asked, node-reads.Learnt, missing-error-reads.Asked, missing-error-reads.Learnt, builder-below t, builder.Post, order-errors-reads.Asked, order-errors-reads.Learnt) (add-submodel-at t) add-submodel.Post
-add-submodel-returns-2 t c = λ o. lists-then (submodel-found (c .before .before .before .before .before .before .before .before .before .before .before .before .before .before .before .pre .1 .0) (c .before .before .before .before .before .before .before .before .before .before .before .before .before .before .before .args .q) (c .before .before .before .before .before .before .before .before .before .before .before .before .before .before .before .pre .1 .1) 3 (sym (c .before .before .before .before .before .before .before .before .before .before .before .before .before .before .before .pre .1 .2)) refl (c .before .before .before .before .before .before .before .before .before .before .before .before .stmt .result) (c .before .before .before .before .before .before .before .before .before .before .before .before .stmt .ensures .0) (λ j. errorsOf (fileIn (c .before .before .before .before .before .before .before .before .before .before .before .before .before .before .before .args .f .now) (c .before .before .before .before .before .before .before .before .before .before .before .before .before .before .before .args .s)) (c .before .before .before .before .before .before .before .before .before .before .before .before .before .before .before .args .k) j) o (c .before .before .before .before .before .before .before .before .before .before .if1 .left) (c .before .before .before .before .before .node2 .result) (c .before .before .before .before .node3 .result) (c .before .before .before .before .before .node2 .ensures .0) (c .before .before .before .before .node3 .ensures .0)) _ _ _ _ _ _ (c .before .before .before .before .before .before .before .before .builder .ensures) (c .before .before .order-errors .ensures)
+add-submodel-returns-2 t c =
+    let a = c .before .before .before .before .before .before .before .before .before .before .before .before .before .before .before .args in
+    let p = c .before .before .before .before .before .before .before .before .before .before .before .before .before .before .before .pre in
+    λ o. lists-then (submodel-found (p .1 .0) (a .q) (p .1 .1) 3 (sym (p .1 .2)) refl (c .before .before .before .before .before .before .before .before .before .before .before .before .stmt .result) (c .before .before .before .before .before .before .before .before .before .before .before .before .stmt .ensures .0) (λ j. errorsOf (fileIn (a .f .now) (a .s)) (a .k) j) o (c .before .before .before .before .before .before .before .before .before .before .if1 .left) (c .before .before .before .before .before .node2 .result) (c .before .before .before .before .node3 .result) (c .before .before .before .before .before .node2 .ensures .0) (c .before .before .before .before .node3 .ensures .0)) _ _ _ _ _ _ (c .before .before .before .before .before .before .before .before .builder .ensures) (c .before .before .order-errors .ensures)
 
 abbrev builder-Inv-loop : builder-lts.InvT-loop
-builder-Inv-loop f s classes rules callees k m out₀ count vars first stmts listed₀ i₀ out listed i = (i ≤ stmts) × Lists out₀ listed₀ (each (stmtErrors (fileIn f s) (λ j. errorsOf (fileIn f s) (k - 1) j) (scopeIn f s m)) (take i (modelAt (fileIn f s) m .stmts))) listed out
+builder-Inv-loop f s classes rules calls k m out₀ count vars first stmts listed₀ i₀ out listed i = (i ≤ stmts) × Lists out₀ listed₀ (each (stmtErrors (fileIn f s) (λ j. errorsOf (fileIn f s) (k - 1) j) (scopeIn f s m)) (take i (modelAt (fileIn f s) m .stmts))) listed out
 
 abbrev builder-μ-loop : builder-lts.MeasureT-loop
-builder-μ-loop f s classes rules callees k m out₀ count vars first stmts listed₀ i₀ out listed i = stmts - i
+builder-μ-loop f s classes rules calls k m out₀ count vars first stmts listed₀ i₀ out listed i = stmts - i
 
 builder-returns : (t : ℕ) → builder-lts.Need-returns (no-marks-reads.Asked, no-marks-reads.Learnt, model-vars-reads.Asked, model-vars-reads.Learnt, model-reads.Asked, model-reads.Learnt, unknowns-errors-reads.Asked, unknowns-errors-reads.Learnt, stmt-errors-below t, stmt-errors.Post) (builder-at t) builder.Post builder-Inv-loop builder-μ-loop
-builder-returns t c = rw (errors-none (fileIn (c .before .before .before .args .f .now) (c .before .before .before .args .s)) (c .before .before .before .args .k) (c .before .before .before .args .m) (c .if1 .taken)) (lists-none _ _)
+builder-returns t c =
+    let a = c .before .before .before .args in
+    rw (errors-none (fileIn (a .f .now) (a .s)) (a .k) (a .m) (c .if1 .taken)) (lists-none _ _)
 
 builder-no-marks-requires : (t : ℕ) → builder-lts.Need-no-marks-requires (no-marks-reads.Asked, no-marks-reads.Learnt, model-vars-reads.Asked, model-vars-reads.Learnt, model-reads.Asked, model-reads.Learnt, unknowns-errors-reads.Asked, unknowns-errors-reads.Learnt, stmt-errors-below t, stmt-errors.Post) (builder-at t) builder.Post builder-Inv-loop builder-μ-loop
 builder-no-marks-requires t c κs = tt
@@ -132,64 +162,105 @@ builder-slice-aggregate-model-vars : (t : ℕ) → builder-lts.Need-slice-aggreg
 builder-slice-aggregate-model-vars t c = sym (c .before .no-marks .ensures .0)
 
 builder-model-vars-requires : (t : ℕ) → builder-lts.Need-model-vars-requires (no-marks-reads.Asked, no-marks-reads.Learnt, model-vars-reads.Asked, model-vars-reads.Learnt, model-reads.Asked, model-reads.Learnt, unknowns-errors-reads.Asked, unknowns-errors-reads.Learnt, stmt-errors-below t, stmt-errors.Post) (builder-at t) builder.Post builder-Inv-loop builder-μ-loop
-builder-model-vars-requires t c κs = (c .before .before .before .before .before .pre .1 .0 .opened, c .before .before .before .before .before .pre .1 .1, c .before .before .before .before .before .pre .1 .0 .classes, c .before .no-marks .ensures .0, c .before .no-marks .ensures .1)
+builder-model-vars-requires t c κs =
+    let p = c .before .before .before .before .before .pre in
+    (p .1 .0 .opened, p .1 .1, p .1 .0 .classes, c .before .no-marks .ensures .0, c .before .no-marks .ensures .1)
 
 builder-model-requires : (t : ℕ) → builder-lts.Need-model-requires (no-marks-reads.Asked, no-marks-reads.Learnt, model-vars-reads.Asked, model-vars-reads.Learnt, model-reads.Asked, model-reads.Learnt, unknowns-errors-reads.Asked, unknowns-errors-reads.Learnt, stmt-errors-below t, stmt-errors.Post) (builder-at t) builder.Post builder-Inv-loop builder-μ-loop
-builder-model-requires t c κs = (c .before .before .before .before .before .before .before .pre .1 .0 .opened, (c .before .before .before .before .before .before .before .pre .1 .1, omega arith))
+builder-model-requires t c κs =
+    let p = c .before .before .before .before .before .before .before .pre in
+    (p .1 .0 .opened, (p .1 .1, omega arith))
 
 builder-model-requires-2 : (t : ℕ) → builder-lts.Need-model-requires-2 (no-marks-reads.Asked, no-marks-reads.Learnt, model-vars-reads.Asked, model-vars-reads.Learnt, model-reads.Asked, model-reads.Learnt, unknowns-errors-reads.Asked, unknowns-errors-reads.Learnt, stmt-errors-below t, stmt-errors.Post) (builder-at t) builder.Post builder-Inv-loop builder-μ-loop
-builder-model-requires-2 t c κs = (c .before .before .before .before .before .before .before .before .pre .1 .0 .opened, (c .before .before .before .before .before .before .before .before .pre .1 .1, omega arith))
+builder-model-requires-2 t c κs =
+    let p = c .before .before .before .before .before .before .before .before .pre in
+    (p .1 .0 .opened, (p .1 .1, omega arith))
 
 builder-unknowns-errors-requires : (t : ℕ) → builder-lts.Need-unknowns-errors-requires (no-marks-reads.Asked, no-marks-reads.Learnt, model-vars-reads.Asked, model-vars-reads.Learnt, model-reads.Asked, model-reads.Learnt, unknowns-errors-reads.Asked, unknowns-errors-reads.Learnt, stmt-errors-below t, stmt-errors.Post) (builder-at t) builder.Post builder-Inv-loop builder-μ-loop
-builder-unknowns-errors-requires t c κs = (c .before .before .before .before .before .before .before .before .before .before .pre .1 .0 .opened, c .before .before .before .before .before .before .before .before .before .before .pre .1 .0 .classes, c .before .before .before .before .before .before .before .before .before .before .pre .1 .1, room-first (errors-more (fileIn (c .before .before .before .before .before .before .before .before .before .before .args .f .now) (c .before .before .before .before .before .before .before .before .before .before .args .s)) (c .before .before .before .before .before .before .before .before .before .before .args .k) (c .before .before .before .before .before .before .before .before .before .before .args .m) (c .before .before .before .before .before .before .before .if1 .left)) (c .before .before .before .before .before .before .before .before .before .before .pre .1 .3))
+builder-unknowns-errors-requires t c κs =
+    let a = c .before .before .before .before .before .before .before .before .before .before .args in
+    let p = c .before .before .before .before .before .before .before .before .before .before .pre in
+    (p .1 .0 .opened, p .1 .0 .classes, p .1 .1, room-first (errors-more (fileIn (a .f .now) (a .s)) (a .k) (a .m) (c .before .before .before .before .before .before .before .if1 .left)) (p .1 .3))
 
 builder-loop-holds : (t : ℕ) → builder-lts.Need-loop-holds (no-marks-reads.Asked, no-marks-reads.Learnt, model-vars-reads.Asked, model-vars-reads.Learnt, model-reads.Asked, model-reads.Learnt, unknowns-errors-reads.Asked, unknowns-errors-reads.Learnt, stmt-errors-below t, stmt-errors.Post) (builder-at t) builder.Post builder-Inv-loop builder-μ-loop
-builder-loop-holds t c = (omega arith, run-begins (stmtErrors (fileIn (c .before .before .before .before .before .before .before .before .before .before .before .before .before .args .f .now) (c .before .before .before .before .before .before .before .before .before .before .before .before .before .args .s)) (λ j. errorsOf (fileIn (c .before .before .before .before .before .before .before .before .before .before .before .before .before .args .f .now) (c .before .before .before .before .before .before .before .before .before .before .before .before .before .args .s)) (c .before .before .before .before .before .before .before .before .before .before .before .before .before .args .k - 1) j) (scopeIn (c .before .before .before .before .before .before .before .before .before .before .before .before .before .args .f .now) (c .before .before .before .before .before .before .before .before .before .before .before .before .before .args .s) (c .before .before .before .before .before .before .before .before .before .before .before .before .before .args .m))) (modelAt (fileIn (c .before .before .before .before .before .before .before .before .before .before .before .before .before .args .f .now) (c .before .before .before .before .before .before .before .before .before .before .before .before .before .args .s)) (c .before .before .before .before .before .before .before .before .before .before .before .before .before .args .m) .stmts) _ _)
+builder-loop-holds t c =
+    let a = c .before .before .before .before .before .before .before .before .before .before .before .before .before .args in
+    (omega arith, run-begins (stmtErrors (fileIn (a .f .now) (a .s)) (λ j. errorsOf (fileIn (a .f .now) (a .s)) (a .k - 1) j) (scopeIn (a .f .now) (a .s) (a .m))) (modelAt (fileIn (a .f .now) (a .s)) (a .m) .stmts) _ _)
+
+builder-add-q : (t : ℕ) → builder-lts.Need-add-q (no-marks-reads.Asked, no-marks-reads.Learnt, model-vars-reads.Asked, model-vars-reads.Learnt, model-reads.Asked, model-reads.Learnt, unknowns-errors-reads.Asked, unknowns-errors-reads.Learnt, stmt-errors-below t, stmt-errors.Post) (builder-at t) builder.Post builder-Inv-loop builder-μ-loop
+builder-add-q t c =
+    let a = c .before .before .before .before .before .before .before .before .before .before .before .before .before .before .before .args in
+    let p = c .before .before .before .before .before .before .before .before .before .before .before .before .before .before .before .pre in
+    omega (arith, stmts-below (a .f .now) (a .s) (p .1 .0 .opened) (a .m) (p .1 .1) (c .before .before .before .before .before .before .before .model .result) (c .before .before .before .before .before .before .model2 .result) (c .before .loop .i) (c .before .before .before .before .before .before .before .model .ensures .0) (c .before .before .before .before .before .before .model2 .ensures .0) (c .loop-test .taken), p .1 .0 .opened .laid .within .stmts)
 
 builder-sub-stmt-errors : (t : ℕ) → builder-lts.Need-sub-stmt-errors (no-marks-reads.Asked, no-marks-reads.Learnt, model-vars-reads.Asked, model-vars-reads.Learnt, model-reads.Asked, model-reads.Learnt, unknowns-errors-reads.Asked, unknowns-errors-reads.Learnt, stmt-errors-below t, stmt-errors.Post) (builder-at t) builder.Post builder-Inv-loop builder-μ-loop
 builder-sub-stmt-errors t c = omega (arith, c .before .before .before .before .before .before .before .before .before .before .before .before .before .if1 .left)
 
-builder-add-stmt-errors : (t : ℕ) → builder-lts.Need-add-stmt-errors (no-marks-reads.Asked, no-marks-reads.Learnt, model-vars-reads.Asked, model-vars-reads.Learnt, model-reads.Asked, model-reads.Learnt, unknowns-errors-reads.Asked, unknowns-errors-reads.Learnt, stmt-errors-below t, stmt-errors.Post) (builder-at t) builder.Post builder-Inv-loop builder-μ-loop
-builder-add-stmt-errors t c = omega (arith, stmts-below (c .before .before .before .before .before .before .before .before .before .before .before .before .before .before .before .before .args .f .now) (c .before .before .before .before .before .before .before .before .before .before .before .before .before .before .before .before .args .s) (c .before .before .before .before .before .before .before .before .before .before .before .before .before .before .before .before .pre .1 .0 .opened) (c .before .before .before .before .before .before .before .before .before .before .before .before .before .before .before .before .args .m) (c .before .before .before .before .before .before .before .before .before .before .before .before .before .before .before .before .pre .1 .1) (c .before .before .before .before .before .before .before .before .model .result) (c .before .before .before .before .before .before .before .model2 .result) (c .before .before .loop .i) (c .before .before .before .before .before .before .before .before .model .ensures .0) (c .before .before .before .before .before .before .before .model2 .ensures .0) (c .before .loop-test .taken), c .before .before .before .before .before .before .before .before .before .before .before .before .before .before .before .before .pre .1 .0 .opened .laid .within .stmts)
-
 builder-stmt-errors-requires : (t : ℕ) → builder-lts.Need-stmt-errors-requires (no-marks-reads.Asked, no-marks-reads.Learnt, model-vars-reads.Asked, model-vars-reads.Learnt, model-reads.Asked, model-reads.Learnt, unknowns-errors-reads.Asked, unknowns-errors-reads.Learnt, stmt-errors-below t, stmt-errors.Post) (builder-at t) builder.Post builder-Inv-loop builder-μ-loop
-builder-stmt-errors-requires t c κs = (omega (arith, c .before .before .before .before .before .before .before .before .before .before .before .before .before .before .before .before .before .pre .0, c .before .before .before .before .before .before .before .before .before .before .before .before .before .before .if1 .left), (c .before .before .before .before .before .before .before .before .before .before .before .before .before .before .before .before .before .pre .1 .0, against (c .before .before .before .before .before .before .before .before .before .before .before .before .before .before .before .before .before .pre .1 .0) (c .before .before .before .before .before .before .before .before .before .before .before .before .before .before .before .before .before .args .m) (c .before .before .before .before .before .before .before .before .before .before .before .before .before .before .before .before .before .pre .1 .1) (c .before .before .before .before .before .before .before .before .before .before .before .model-vars .ensures .0), stmts-below (c .before .before .before .before .before .before .before .before .before .before .before .before .before .before .before .before .before .args .f .now) (c .before .before .before .before .before .before .before .before .before .before .before .before .before .before .before .before .before .args .s) (c .before .before .before .before .before .before .before .before .before .before .before .before .before .before .before .before .before .pre .1 .0 .opened) (c .before .before .before .before .before .before .before .before .before .before .before .before .before .before .before .before .before .args .m) (c .before .before .before .before .before .before .before .before .before .before .before .before .before .before .before .before .before .pre .1 .1) (c .before .before .before .before .before .before .before .before .before .model .result) (c .before .before .before .before .before .before .before .before .model2 .result) (c .before .before .before .loop .i) (c .before .before .before .before .before .before .before .before .before .model .ensures .0) (c .before .before .before .before .before .before .before .before .model2 .ensures .0) (c .before .before .loop-test .taken), omega (arith, c .before .before .before .before .before .before .before .before .before .before .before .before .before .before .before .before .before .pre .1 .2), run-room (stmtErrors (fileIn (c .before .before .before .before .before .before .before .before .before .before .before .before .before .before .before .before .before .args .f .now) (c .before .before .before .before .before .before .before .before .before .before .before .before .before .before .before .before .before .args .s)) (λ j. errorsOf (fileIn (c .before .before .before .before .before .before .before .before .before .before .before .before .before .before .before .before .before .args .f .now) (c .before .before .before .before .before .before .before .before .before .before .before .before .before .before .before .before .before .args .s)) (c .before .before .before .before .before .before .before .before .before .before .before .before .before .before .before .before .before .args .k - 1) j) (scopeIn (c .before .before .before .before .before .before .before .before .before .before .before .before .before .before .before .before .before .args .f .now) (c .before .before .before .before .before .before .before .before .before .before .before .before .before .before .before .before .before .args .s) (c .before .before .before .before .before .before .before .before .before .before .before .before .before .before .before .before .before .args .m))) (modelAt (fileIn (c .before .before .before .before .before .before .before .before .before .before .before .before .before .before .before .before .before .args .f .now) (c .before .before .before .before .before .before .before .before .before .before .before .before .before .before .before .before .before .args .s)) (c .before .before .before .before .before .before .before .before .before .before .before .before .before .before .before .before .before .args .m) .stmts) (stmtIn (c .before .before .before .before .before .before .before .before .before .before .before .before .before .before .before .before .before .args .f .now) (c .before .before .before .before .before .before .before .before .before .before .before .before .before .before .before .before .before .args .s) (c .before .before .before .before .before .before .before .before .before .model .result + c .before .before .before .loop .i)) (c .before .before .before .loop .i) (stmt-there (c .before .before .before .before .before .before .before .before .before .before .before .before .before .before .before .before .before .args .f .now) (c .before .before .before .before .before .before .before .before .before .before .before .before .before .before .before .before .before .args .s) (c .before .before .before .before .before .before .before .before .before .before .before .before .before .before .before .before .before .pre .1 .0 .opened) (c .before .before .before .before .before .before .before .before .before .before .before .before .before .before .before .before .before .args .m) (c .before .before .before .before .before .before .before .before .before .before .before .before .before .before .before .before .before .pre .1 .1) (c .before .before .before .before .before .before .before .before .before .model .result) (c .before .before .before .before .before .before .before .before .model2 .result) (c .before .before .before .loop .i) (c .before .before .before .before .before .before .before .before .before .model .ensures .0) (c .before .before .before .before .before .before .before .before .model2 .ensures .0) (c .before .before .loop-test .taken)) (stmt-here (c .before .before .before .before .before .before .before .before .before .before .before .before .before .before .before .before .before .args .f .now) (c .before .before .before .before .before .before .before .before .before .before .before .before .before .before .before .before .before .args .s) (c .before .before .before .before .before .before .before .before .before .before .before .before .before .before .before .before .before .pre .1 .0 .opened) (c .before .before .before .before .before .before .before .before .before .before .before .before .before .before .before .before .before .args .m) (c .before .before .before .before .before .before .before .before .before .before .before .before .before .before .before .before .before .pre .1 .1) (c .before .before .before .before .before .before .before .before .before .model .result) (c .before .before .before .before .before .before .before .before .model2 .result) (c .before .before .before .loop .i) (c .before .before .before .before .before .before .before .before .before .model .ensures .0) (c .before .before .before .before .before .before .before .before .model2 .ensures .0) (c .before .before .loop-test .taken)) _ _ _ _ (room-then (errors-more (fileIn (c .before .before .before .before .before .before .before .before .before .before .before .before .before .before .before .before .before .args .f .now) (c .before .before .before .before .before .before .before .before .before .before .before .before .before .before .before .before .before .args .s)) (c .before .before .before .before .before .before .before .before .before .before .before .before .before .before .before .before .before .args .k) (c .before .before .before .before .before .before .before .before .before .before .before .before .before .before .before .before .before .args .m) (c .before .before .before .before .before .before .before .before .before .before .before .before .before .before .if1 .left)) _ _ (c .before .before .before .before .before .before .before .before .before .before .before .before .before .before .before .before .before .pre .1 .3) (c .before .before .before .before .before .before .unknowns-errors .ensures)) (c .before .before .before .loop .inv .1)))
+builder-stmt-errors-requires t c κs =
+    let a = c .before .before .before .before .before .before .before .before .before .before .before .before .before .before .before .before .before .args in
+    let p = c .before .before .before .before .before .before .before .before .before .before .before .before .before .before .before .before .before .pre in
+    (omega (arith, p .0, c .before .before .before .before .before .before .before .before .before .before .before .before .before .before .if1 .left), (p .1 .0, against (p .1 .0) (a .m) (p .1 .1) (c .before .before .before .before .before .before .before .before .before .before .before .model-vars .ensures .0), stmts-below (a .f .now) (a .s) (p .1 .0 .opened) (a .m) (p .1 .1) (c .before .before .before .before .before .before .before .before .before .model .result) (c .before .before .before .before .before .before .before .before .model2 .result) (c .before .before .before .loop .i) (c .before .before .before .before .before .before .before .before .before .model .ensures .0) (c .before .before .before .before .before .before .before .before .model2 .ensures .0) (c .before .before .loop-test .taken), omega (arith, p .1 .2), run-room (stmtErrors (fileIn (a .f .now) (a .s)) (λ j. errorsOf (fileIn (a .f .now) (a .s)) (a .k - 1) j) (scopeIn (a .f .now) (a .s) (a .m))) (modelAt (fileIn (a .f .now) (a .s)) (a .m) .stmts) (stmtIn (a .f .now) (a .s) (c .before .before .before .before .before .before .before .before .before .model .result + c .before .before .before .loop .i)) (c .before .before .before .loop .i) (stmt-there (a .f .now) (a .s) (p .1 .0 .opened) (a .m) (p .1 .1) (c .before .before .before .before .before .before .before .before .before .model .result) (c .before .before .before .before .before .before .before .before .model2 .result) (c .before .before .before .loop .i) (c .before .before .before .before .before .before .before .before .before .model .ensures .0) (c .before .before .before .before .before .before .before .before .model2 .ensures .0) (c .before .before .loop-test .taken)) (stmt-here (a .f .now) (a .s) (p .1 .0 .opened) (a .m) (p .1 .1) (c .before .before .before .before .before .before .before .before .before .model .result) (c .before .before .before .before .before .before .before .before .model2 .result) (c .before .before .before .loop .i) (c .before .before .before .before .before .before .before .before .before .model .ensures .0) (c .before .before .before .before .before .before .before .before .model2 .ensures .0) (c .before .before .loop-test .taken)) _ _ _ _ (room-then (errors-more (fileIn (a .f .now) (a .s)) (a .k) (a .m) (c .before .before .before .before .before .before .before .before .before .before .before .before .before .before .if1 .left)) _ _ (p .1 .3) (c .before .before .before .before .before .before .unknowns-errors .ensures)) (c .before .before .before .loop .inv .1)))
 
 builder-add-i : (t : ℕ) → builder-lts.Need-add-i (no-marks-reads.Asked, no-marks-reads.Learnt, model-vars-reads.Asked, model-vars-reads.Learnt, model-reads.Asked, model-reads.Learnt, unknowns-errors-reads.Asked, unknowns-errors-reads.Learnt, stmt-errors-below t, stmt-errors.Post) (builder-at t) builder.Post builder-Inv-loop builder-μ-loop
-builder-add-i t c = omega (arith, stmts-below (c .before .before .before .before .before .before .before .before .before .before .before .before .before .before .before .before .before .before .before .before .args .f .now) (c .before .before .before .before .before .before .before .before .before .before .before .before .before .before .before .before .before .before .before .before .args .s) (c .before .before .before .before .before .before .before .before .before .before .before .before .before .before .before .before .before .before .before .before .pre .1 .0 .opened) (c .before .before .before .before .before .before .before .before .before .before .before .before .before .before .before .before .before .before .before .before .args .m) (c .before .before .before .before .before .before .before .before .before .before .before .before .before .before .before .before .before .before .before .before .pre .1 .1) (c .before .before .before .before .before .before .before .before .before .before .before .before .model .result) (c .before .before .before .before .before .before .before .before .before .before .before .model2 .result) (c .before .before .before .before .before .before .loop .i) (c .before .before .before .before .before .before .before .before .before .before .before .before .model .ensures .0) (c .before .before .before .before .before .before .before .before .before .before .before .model2 .ensures .0) (c .before .before .before .before .before .loop-test .taken), c .before .before .before .before .before .before .before .before .before .before .before .before .before .before .before .before .before .before .before .before .pre .1 .0 .opened .laid .within .stmts)
+builder-add-i t c =
+    let a = c .before .before .before .before .before .before .before .before .before .before .before .before .before .before .before .before .before .before .before .before .args in
+    let p = c .before .before .before .before .before .before .before .before .before .before .before .before .before .before .before .before .before .before .before .before .pre in
+    omega (arith, stmts-below (a .f .now) (a .s) (p .1 .0 .opened) (a .m) (p .1 .1) (c .before .before .before .before .before .before .before .before .before .before .before .before .model .result) (c .before .before .before .before .before .before .before .before .before .before .before .model2 .result) (c .before .before .before .before .before .before .loop .i) (c .before .before .before .before .before .before .before .before .before .before .before .before .model .ensures .0) (c .before .before .before .before .before .before .before .before .before .before .before .model2 .ensures .0) (c .before .before .before .before .before .loop-test .taken), p .1 .0 .opened .laid .within .stmts)
 
 builder-loop-less : (t : ℕ) → builder-lts.Need-loop-less (no-marks-reads.Asked, no-marks-reads.Learnt, model-vars-reads.Asked, model-vars-reads.Learnt, model-reads.Asked, model-reads.Learnt, unknowns-errors-reads.Asked, unknowns-errors-reads.Learnt, stmt-errors-below t, stmt-errors.Post) (builder-at t) builder.Post builder-Inv-loop builder-μ-loop
 builder-loop-less t c = omega (arith, c .before .before .before .before .before .loop-test .taken)
 
 builder-loop-again : (t : ℕ) → builder-lts.Need-loop-again (no-marks-reads.Asked, no-marks-reads.Learnt, model-vars-reads.Asked, model-vars-reads.Learnt, model-reads.Asked, model-reads.Learnt, unknowns-errors-reads.Asked, unknowns-errors-reads.Learnt, stmt-errors-below t, stmt-errors.Post) (builder-at t) builder.Post builder-Inv-loop builder-μ-loop
-builder-loop-again t c = (omega (arith, c .before .before .before .before .before .loop-test .taken), run-goes (stmtErrors (fileIn (c .before .before .before .before .before .before .before .before .before .before .before .before .before .before .before .before .before .before .before .before .args .f .now) (c .before .before .before .before .before .before .before .before .before .before .before .before .before .before .before .before .before .before .before .before .args .s)) (λ j. errorsOf (fileIn (c .before .before .before .before .before .before .before .before .before .before .before .before .before .before .before .before .before .before .before .before .args .f .now) (c .before .before .before .before .before .before .before .before .before .before .before .before .before .before .before .before .before .before .before .before .args .s)) (c .before .before .before .before .before .before .before .before .before .before .before .before .before .before .before .before .before .before .before .before .args .k - 1) j) (scopeIn (c .before .before .before .before .before .before .before .before .before .before .before .before .before .before .before .before .before .before .before .before .args .f .now) (c .before .before .before .before .before .before .before .before .before .before .before .before .before .before .before .before .before .before .before .before .args .s) (c .before .before .before .before .before .before .before .before .before .before .before .before .before .before .before .before .before .before .before .before .args .m))) (modelAt (fileIn (c .before .before .before .before .before .before .before .before .before .before .before .before .before .before .before .before .before .before .before .before .args .f .now) (c .before .before .before .before .before .before .before .before .before .before .before .before .before .before .before .before .before .before .before .before .args .s)) (c .before .before .before .before .before .before .before .before .before .before .before .before .before .before .before .before .before .before .before .before .args .m) .stmts) (stmtIn (c .before .before .before .before .before .before .before .before .before .before .before .before .before .before .before .before .before .before .before .before .args .f .now) (c .before .before .before .before .before .before .before .before .before .before .before .before .before .before .before .before .before .before .before .before .args .s) (c .before .before .before .before .before .before .before .before .before .before .before .before .model .result + c .before .before .before .before .before .before .loop .i)) (c .before .before .before .before .before .before .loop .i) (stmt-there (c .before .before .before .before .before .before .before .before .before .before .before .before .before .before .before .before .before .before .before .before .args .f .now) (c .before .before .before .before .before .before .before .before .before .before .before .before .before .before .before .before .before .before .before .before .args .s) (c .before .before .before .before .before .before .before .before .before .before .before .before .before .before .before .before .before .before .before .before .pre .1 .0 .opened) (c .before .before .before .before .before .before .before .before .before .before .before .before .before .before .before .before .before .before .before .before .args .m) (c .before .before .before .before .before .before .before .before .before .before .before .before .before .before .before .before .before .before .before .before .pre .1 .1) (c .before .before .before .before .before .before .before .before .before .before .before .before .model .result) (c .before .before .before .before .before .before .before .before .before .before .before .model2 .result) (c .before .before .before .before .before .before .loop .i) (c .before .before .before .before .before .before .before .before .before .before .before .before .model .ensures .0) (c .before .before .before .before .before .before .before .before .before .before .before .model2 .ensures .0) (c .before .before .before .before .before .loop-test .taken)) (stmt-here (c .before .before .before .before .before .before .before .before .before .before .before .before .before .before .before .before .before .before .before .before .args .f .now) (c .before .before .before .before .before .before .before .before .before .before .before .before .before .before .before .before .before .before .before .before .args .s) (c .before .before .before .before .before .before .before .before .before .before .before .before .before .before .before .before .before .before .before .before .pre .1 .0 .opened) (c .before .before .before .before .before .before .before .before .before .before .before .before .before .before .before .before .before .before .before .before .args .m) (c .before .before .before .before .before .before .before .before .before .before .before .before .before .before .before .before .before .before .before .before .pre .1 .1) (c .before .before .before .before .before .before .before .before .before .before .before .before .model .result) (c .before .before .before .before .before .before .before .before .before .before .before .model2 .result) (c .before .before .before .before .before .before .loop .i) (c .before .before .before .before .before .before .before .before .before .before .before .before .model .ensures .0) (c .before .before .before .before .before .before .before .before .before .before .before .model2 .ensures .0) (c .before .before .before .before .before .loop-test .taken)) _ _ _ _ _ _ (c .before .before .before .before .before .before .loop .inv .1) (c .before .before .stmt-errors .ensures))
+builder-loop-again t c =
+    let a = c .before .before .before .before .before .before .before .before .before .before .before .before .before .before .before .before .before .before .before .before .args in
+    let p = c .before .before .before .before .before .before .before .before .before .before .before .before .before .before .before .before .before .before .before .before .pre in
+    (omega (arith, c .before .before .before .before .before .loop-test .taken), run-goes (stmtErrors (fileIn (a .f .now) (a .s)) (λ j. errorsOf (fileIn (a .f .now) (a .s)) (a .k - 1) j) (scopeIn (a .f .now) (a .s) (a .m))) (modelAt (fileIn (a .f .now) (a .s)) (a .m) .stmts) (stmtIn (a .f .now) (a .s) (c .before .before .before .before .before .before .before .before .before .before .before .before .model .result + c .before .before .before .before .before .before .loop .i)) (c .before .before .before .before .before .before .loop .i) (stmt-there (a .f .now) (a .s) (p .1 .0 .opened) (a .m) (p .1 .1) (c .before .before .before .before .before .before .before .before .before .before .before .before .model .result) (c .before .before .before .before .before .before .before .before .before .before .before .model2 .result) (c .before .before .before .before .before .before .loop .i) (c .before .before .before .before .before .before .before .before .before .before .before .before .model .ensures .0) (c .before .before .before .before .before .before .before .before .before .before .before .model2 .ensures .0) (c .before .before .before .before .before .loop-test .taken)) (stmt-here (a .f .now) (a .s) (p .1 .0 .opened) (a .m) (p .1 .1) (c .before .before .before .before .before .before .before .before .before .before .before .before .model .result) (c .before .before .before .before .before .before .before .before .before .before .before .model2 .result) (c .before .before .before .before .before .before .loop .i) (c .before .before .before .before .before .before .before .before .before .before .before .before .model .ensures .0) (c .before .before .before .before .before .before .before .before .before .before .before .model2 .ensures .0) (c .before .before .before .before .before .loop-test .taken)) _ _ _ _ _ _ (c .before .before .before .before .before .before .loop .inv .1) (c .before .before .stmt-errors .ensures))
 
 builder-same-length : (t : ℕ) → builder-lts.Need-same-length (no-marks-reads.Asked, no-marks-reads.Learnt, model-vars-reads.Asked, model-vars-reads.Learnt, model-reads.Asked, model-reads.Learnt, unknowns-errors-reads.Asked, unknowns-errors-reads.Learnt, stmt-errors-below t, stmt-errors.Post) (builder-at t) builder.Post builder-Inv-loop builder-μ-loop
-builder-same-length t c = let r = room-then (errors-more (fileIn (c .before .before .before .before .before .before .before .before .before .before .before .before .before .before .before .args .f .now) (c .before .before .before .before .before .before .before .before .before .before .before .before .before .before .before .args .s)) (c .before .before .before .before .before .before .before .before .before .before .before .before .before .before .before .args .k) (c .before .before .before .before .before .before .before .before .before .before .before .before .before .before .before .args .m) (c .before .before .before .before .before .before .before .before .before .before .before .before .if1 .left)) _ _ (c .before .before .before .before .before .before .before .before .before .before .before .before .before .before .before .pre .1 .3) (c .before .before .before .before .unknowns-errors .ensures) in ap length (c .before .loop .inv .1 .1) ∙ length-listed _ _ _ (r .long) ∙ ap length (c .before .before .before .before .unknowns-errors .ensures .1) ∙ length-listed _ _ _ (c .before .before .before .before .before .before .before .before .before .before .before .before .before .before .before .pre .1 .3 .long)
+builder-same-length t c =
+    let a = c .before .before .before .before .before .before .before .before .before .before .before .before .before .before .before .args in
+    let p = c .before .before .before .before .before .before .before .before .before .before .before .before .before .before .before .pre in
+    let r = room-then (errors-more (fileIn (a .f .now) (a .s)) (a .k) (a .m) (c .before .before .before .before .before .before .before .before .before .before .before .before .if1 .left)) _ _ (p .1 .3) (c .before .before .before .before .unknowns-errors .ensures) in
+    ap length (c .before .loop .inv .1 .1) ∙ length-listed _ _ _ (r .long) ∙ ap length (c .before .before .before .before .unknowns-errors .ensures .1) ∙ length-listed _ _ _ (p .1 .3 .long)
 
 builder-returns-2 : (t : ℕ) → builder-lts.Need-returns-2 (no-marks-reads.Asked, no-marks-reads.Learnt, model-vars-reads.Asked, model-vars-reads.Learnt, model-reads.Asked, model-reads.Learnt, unknowns-errors-reads.Asked, unknowns-errors-reads.Learnt, stmt-errors-below t, stmt-errors.Post) (builder-at t) builder.Post builder-Inv-loop builder-μ-loop
-builder-returns-2 t c = lists-then (errors-more (fileIn (c .before .before .before .before .before .before .before .before .before .before .before .before .before .before .before .args .f .now) (c .before .before .before .before .before .before .before .before .before .before .before .before .before .before .before .args .s)) (c .before .before .before .before .before .before .before .before .before .before .before .before .before .before .before .args .k) (c .before .before .before .before .before .before .before .before .before .before .before .before .before .before .before .args .m) (c .before .before .before .before .before .before .before .before .before .before .before .before .if1 .left)) _ _ _ _ _ _ (c .before .before .before .before .unknowns-errors .ensures) (run-ends (stmtErrors (fileIn (c .before .before .before .before .before .before .before .before .before .before .before .before .before .before .before .args .f .now) (c .before .before .before .before .before .before .before .before .before .before .before .before .before .before .before .args .s)) (λ j. errorsOf (fileIn (c .before .before .before .before .before .before .before .before .before .before .before .before .before .before .before .args .f .now) (c .before .before .before .before .before .before .before .before .before .before .before .before .before .before .before .args .s)) (c .before .before .before .before .before .before .before .before .before .before .before .before .before .before .before .args .k - 1) j) (scopeIn (c .before .before .before .before .before .before .before .before .before .before .before .before .before .before .before .args .f .now) (c .before .before .before .before .before .before .before .before .before .before .before .before .before .before .before .args .s) (c .before .before .before .before .before .before .before .before .before .before .before .before .before .before .before .args .m))) (modelAt (fileIn (c .before .before .before .before .before .before .before .before .before .before .before .before .before .before .before .args .f .now) (c .before .before .before .before .before .before .before .before .before .before .before .before .before .before .before .args .s)) (c .before .before .before .before .before .before .before .before .before .before .before .before .before .before .before .args .m) .stmts) (c .before .loop .i) (stmts-past (c .before .before .before .before .before .before .before .before .before .before .before .before .before .before .before .args .f .now) (c .before .before .before .before .before .before .before .before .before .before .before .before .before .before .before .args .s) (c .before .before .before .before .before .before .before .before .before .before .before .before .before .before .before .pre .1 .0 .opened) (c .before .before .before .before .before .before .before .before .before .before .before .before .before .before .before .args .m) (c .before .before .before .before .before .before .before .before .before .before .before .before .before .before .before .pre .1 .1) (c .before .before .before .before .before .before .before .model .result) (c .before .before .before .before .before .before .model2 .result) (c .before .loop .i) (c .before .before .before .before .before .before .before .model .ensures .0) (c .before .before .before .before .before .before .model2 .ensures .0) (c .loop-test .left)) _ _ _ _ (c .before .loop .inv .1))
+builder-returns-2 t c =
+    let a = c .before .before .before .before .before .before .before .before .before .before .before .before .before .before .before .args in
+    let p = c .before .before .before .before .before .before .before .before .before .before .before .before .before .before .before .pre in
+    lists-then (errors-more (fileIn (a .f .now) (a .s)) (a .k) (a .m) (c .before .before .before .before .before .before .before .before .before .before .before .before .if1 .left)) _ _ _ _ _ _ (c .before .before .before .before .unknowns-errors .ensures) (run-ends (stmtErrors (fileIn (a .f .now) (a .s)) (λ j. errorsOf (fileIn (a .f .now) (a .s)) (a .k - 1) j) (scopeIn (a .f .now) (a .s) (a .m))) (modelAt (fileIn (a .f .now) (a .s)) (a .m) .stmts) (c .before .loop .i) (stmts-past (a .f .now) (a .s) (p .1 .0 .opened) (a .m) (p .1 .1) (c .before .before .before .before .before .before .before .model .result) (c .before .before .before .before .before .before .model2 .result) (c .before .loop .i) (c .before .before .before .before .before .before .before .model .ensures .0) (c .before .before .before .before .before .before .model2 .ensures .0) (c .loop-test .left)) _ _ _ _ (c .before .loop .inv .1))
 
 stmt-errors-stmt-requires : (t : ℕ) → stmt-errors-lts.Need-stmt-requires (stmt-reads.Asked, stmt-reads.Learnt, own-errors-reads.Asked, own-errors-reads.Learnt, add-submodel-below t, add-submodel.Post) (stmt-errors-at t) stmt-errors.Post
 stmt-errors-stmt-requires t c κs = (c .before .before .pre .1 .0 .opened, (c .before .before .pre .1 .2, omega arith))
 
 stmt-errors-own-errors-requires : (t : ℕ) → stmt-errors-lts.Need-own-errors-requires (stmt-reads.Asked, stmt-reads.Learnt, own-errors-reads.Asked, own-errors-reads.Learnt, add-submodel-below t, add-submodel.Post) (stmt-errors-at t) stmt-errors.Post
-stmt-errors-own-errors-requires t c κs = (c .before .before .before .before .before .pre .1 .1, c .before .before .before .before .before .pre .1 .2, (let n = not-three (c .before .before .before .before .before .pre .1 .0 .opened) (c .before .before .before .before .before .args .q) (c .before .before .before .before .before .pre .1 .2) (c .before .before .stmt .result) (c .before .before .stmt .ensures .0) (c .before .if1 .taken) in omega (arith, n, c .before .before .stmt .ensures .0)), rw (own-same (c .before .before .before .before .before .pre .1 .0 .opened) (c .before .before .before .before .before .args .q) (c .before .before .before .before .before .pre .1 .2) (c .before .before .stmt .result) (c .before .before .stmt .ensures .0) (not-three (c .before .before .before .before .before .pre .1 .0 .opened) (c .before .before .before .before .before .args .q) (c .before .before .before .before .before .pre .1 .2) (c .before .before .stmt .result) (c .before .before .stmt .ensures .0) (c .before .if1 .taken)) (λ j. errorsOf (fileIn (c .before .before .before .before .before .args .f .now) (c .before .before .before .before .before .args .s)) (c .before .before .before .before .before .args .k) j) (λ j. []) (scopeIn (c .before .before .before .before .before .args .f .now) (c .before .before .before .before .before .args .s) (c .before .before .before .before .before .args .m))) at (c .before .before .before .before .before .pre .1 .4))
+stmt-errors-own-errors-requires t c κs =
+    let a = c .before .before .before .before .before .args in
+    let p = c .before .before .before .before .before .pre in
+    (p .1 .1, p .1 .2, (let n = not-three (p .1 .0 .opened) (a .q) (p .1 .2) (c .before .before .stmt .result) (c .before .before .stmt .ensures .0) (c .before .if1 .taken) in omega (arith, n, c .before .before .stmt .ensures .0)), rw (own-same (p .1 .0 .opened) (a .q) (p .1 .2) (c .before .before .stmt .result) (c .before .before .stmt .ensures .0) (not-three (p .1 .0 .opened) (a .q) (p .1 .2) (c .before .before .stmt .result) (c .before .before .stmt .ensures .0) (c .before .if1 .taken)) (λ j. errorsOf (fileIn (a .f .now) (a .s)) (a .k) j) (λ j. []) (scopeIn (a .f .now) (a .s) (a .m))) at (p .1 .4))
 
 stmt-errors-same-length : (t : ℕ) → stmt-errors-lts.Need-same-length (stmt-reads.Asked, stmt-reads.Learnt, own-errors-reads.Asked, own-errors-reads.Learnt, add-submodel-below t, add-submodel.Post) (stmt-errors-at t) stmt-errors.Post
 stmt-errors-same-length t c = omega arith
 
 stmt-errors-returns : (t : ℕ) → stmt-errors-lts.Need-returns (stmt-reads.Asked, stmt-reads.Learnt, own-errors-reads.Asked, own-errors-reads.Learnt, add-submodel-below t, add-submodel.Post) (stmt-errors-at t) stmt-errors.Post
-stmt-errors-returns t c = rw (own-same (c .before .before .before .before .before .before .before .before .pre .1 .0 .opened) (c .before .before .before .before .before .before .before .before .args .q) (c .before .before .before .before .before .before .before .before .pre .1 .2) (c .before .before .before .before .before .stmt .result) (c .before .before .before .before .before .stmt .ensures .0) (not-three (c .before .before .before .before .before .before .before .before .pre .1 .0 .opened) (c .before .before .before .before .before .before .before .before .args .q) (c .before .before .before .before .before .before .before .before .pre .1 .2) (c .before .before .before .before .before .stmt .result) (c .before .before .before .before .before .stmt .ensures .0) (c .before .before .before .before .if1 .taken)) (λ j. errorsOf (fileIn (c .before .before .before .before .before .before .before .before .args .f .now) (c .before .before .before .before .before .before .before .before .args .s)) (c .before .before .before .before .before .before .before .before .args .k) j) (λ j. []) (scopeIn (c .before .before .before .before .before .before .before .before .args .f .now) (c .before .before .before .before .before .before .before .before .args .s) (c .before .before .before .before .before .before .before .before .args .m))) (c .before .before .own-errors .ensures)
+stmt-errors-returns t c =
+    let a = c .before .before .before .before .before .before .before .before .args in
+    let p = c .before .before .before .before .before .before .before .before .pre in
+    rw (own-same (p .1 .0 .opened) (a .q) (p .1 .2) (c .before .before .before .before .before .stmt .result) (c .before .before .before .before .before .stmt .ensures .0) (not-three (p .1 .0 .opened) (a .q) (p .1 .2) (c .before .before .before .before .before .stmt .result) (c .before .before .before .before .before .stmt .ensures .0) (c .before .before .before .before .if1 .taken)) (λ j. errorsOf (fileIn (a .f .now) (a .s)) (a .k) j) (λ j. []) (scopeIn (a .f .now) (a .s) (a .m))) (c .before .before .own-errors .ensures)
 
 stmt-errors-add-submodel-requires : (t : ℕ) → stmt-errors-lts.Need-add-submodel-requires (stmt-reads.Asked, stmt-reads.Learnt, own-errors-reads.Asked, own-errors-reads.Learnt, add-submodel-below t, add-submodel.Post) (stmt-errors-at t) stmt-errors.Post
-stmt-errors-add-submodel-requires t c κs = (omega (arith, c .before .before .before .before .before .pre .0), (c .before .before .before .before .before .pre .1 .0, c .before .before .before .before .before .pre .1 .2, omega (arith, c .before .before .stmt .ensures .0), c .before .before .before .before .before .pre .1 .3, λ o. rw (any-scope (c .before .before .before .before .before .pre .1 .0) (c .before .before .before .before .before .args .q) (c .before .before .before .before .before .pre .1 .2) (c .before .before .stmt .result) (c .before .before .stmt .ensures .0) (c .before .if1 .left) _ refl (λ j. errorsOf (fileIn (c .before .before .before .before .before .args .f .now) (c .before .before .before .before .before .args .s)) (c .before .before .before .before .before .args .k) j) o (scopeIn (c .before .before .before .before .before .args .f .now) (c .before .before .before .before .before .args .s) (c .before .before .before .before .before .args .m))) (c .before .before .before .before .before .pre .1 .4)))
+stmt-errors-add-submodel-requires t c κs =
+    let a = c .before .before .before .before .before .args in
+    let p = c .before .before .before .before .before .pre in
+    (omega (arith, p .0), (p .1 .0, p .1 .2, omega (arith, c .before .before .stmt .ensures .0), p .1 .3, λ o. rw (any-scope (p .1 .0) (a .q) (p .1 .2) (c .before .before .stmt .result) (c .before .before .stmt .ensures .0) (c .before .if1 .left) _ refl (λ j. errorsOf (fileIn (a .f .now) (a .s)) (a .k) j) o (scopeIn (a .f .now) (a .s) (a .m))) (p .1 .4)))
 
 stmt-errors-same-length-2 : (t : ℕ) → stmt-errors-lts.Need-same-length-2 (stmt-reads.Asked, stmt-reads.Learnt, own-errors-reads.Asked, own-errors-reads.Learnt, add-submodel-below t, add-submodel.Post) (stmt-errors-at t) stmt-errors.Post
 stmt-errors-same-length-2 t c = omega arith
 
 stmt-errors-returns-2 : (t : ℕ) → stmt-errors-lts.Need-returns-2 (stmt-reads.Asked, stmt-reads.Learnt, own-errors-reads.Asked, own-errors-reads.Learnt, add-submodel-below t, add-submodel.Post) (stmt-errors-at t) stmt-errors.Post
-stmt-errors-returns-2 t c = c .before .before .add-submodel .ensures (scopeIn (c .before .before .before .before .before .before .before .before .args .f .now) (c .before .before .before .before .before .before .before .before .args .s) (c .before .before .before .before .before .before .before .before .args .m))
+stmt-errors-returns-2 t c =
+    let a = c .before .before .before .before .before .before .before .before .args in
+    c .before .before .add-submodel .ensures (scopeIn (a .f .now) (a .s) (a .m))
 
 pub +add-submodel+builder+stmt-errors-spec : {M : Type 1} → statement M
 +add-submodel+builder+stmt-errors-spec =
@@ -224,8 +295,8 @@ pub +add-submodel+builder+stmt-errors-spec : {M : Type 1} → statement M
     (builder-model-requires-2 t)
     (builder-unknowns-errors-requires t)
     (builder-loop-holds t)
+    (builder-add-q t)
     (builder-sub-stmt-errors t)
-    (builder-add-stmt-errors t)
     (builder-stmt-errors-requires t)
     (builder-add-i t)
     (builder-loop-less t)

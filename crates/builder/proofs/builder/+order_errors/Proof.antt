@@ -36,37 +36,55 @@ unfolding orderErrors
 order-errors-returns t c = rw (args-end (c .before .before .before .pre .1 .0) (c .if1 .taken)) (lists-none _ _)
 
 order-errors-sub-last : (t : ℕ) → order-errors-lts.Need-sub-last (node-reads.Asked, node-reads.Learnt, order-errors-below t, order-errors.Post, has-keyword-reads.Asked, has-keyword-reads.Learnt, error-unless-reads.Asked, error-unless-reads.Learnt) (order-errors-at t) order-errors.Post
-order-errors-sub-last t c = let l = arg-last (c .before .before .before .pre .1 .0) (c .if1 .left) in omega (arith, l .two)
+order-errors-sub-last t c =
+    let l = arg-last (c .before .before .before .pre .1 .0) (c .if1 .left) in
+    omega (arith, l .two)
 
 order-errors-node-requires : (t : ℕ) → order-errors-lts.Need-node-requires (node-reads.Asked, node-reads.Learnt, order-errors-below t, order-errors.Post, has-keyword-reads.Asked, has-keyword-reads.Learnt, error-unless-reads.Asked, error-unless-reads.Learnt) (order-errors-at t) order-errors.Post
-order-errors-node-requires t c κs = let n = arg-node (c .before .before .before .pre .1 .0) (c .if1 .left) in (n .opened, (n .within, omega arith))
+order-errors-node-requires t c κs =
+    let n = arg-node (c .before .before .before .pre .1 .0) (c .if1 .left) in
+    (n .opened, (n .within, omega arith))
 
 order-errors-sub-rest : (t : ℕ) → order-errors-lts.Need-sub-rest (node-reads.Asked, node-reads.Learnt, order-errors-below t, order-errors.Post, has-keyword-reads.Asked, has-keyword-reads.Learnt, error-unless-reads.Asked, error-unless-reads.Learnt) (order-errors-at t) order-errors.Post
-order-errors-sub-rest t c = let l = arg-last (c .before .before .before .before .pre .1 .0) (c .before .if1 .left) in omega (arith, c .node .ensures .0, l .within)
+order-errors-sub-rest t c =
+    let l = arg-last (c .before .before .before .before .pre .1 .0) (c .before .if1 .left) in
+    omega (arith, c .node .ensures .0, l .within)
 
 order-errors-sub-order-errors : (t : ℕ) → order-errors-lts.Need-sub-order-errors (node-reads.Asked, node-reads.Learnt, order-errors-below t, order-errors.Post, has-keyword-reads.Asked, has-keyword-reads.Learnt, error-unless-reads.Asked, error-unless-reads.Learnt) (order-errors-at t) order-errors.Post
 order-errors-sub-order-errors t c = omega arith
 
 order-errors-sub-order-errors-2 : (t : ℕ) → order-errors-lts.Need-sub-order-errors-2 (node-reads.Asked, node-reads.Learnt, order-errors-below t, order-errors.Post, has-keyword-reads.Asked, has-keyword-reads.Learnt, error-unless-reads.Asked, error-unless-reads.Learnt) (order-errors-at t) order-errors.Post
-order-errors-sub-order-errors-2 t c = let l = arg-last (c .before .before .before .before .pre .1 .0) (c .before .if1 .left) in omega (arith, c .node .ensures .0, l .le)
+order-errors-sub-order-errors-2 t c =
+    let l = arg-last (c .before .before .before .before .pre .1 .0) (c .before .if1 .left) in
+    omega (arith, c .node .ensures .0, l .le)
 
 order-errors-order-errors-requires : (t : ℕ) → order-errors-lts.Need-order-errors-requires (node-reads.Asked, node-reads.Learnt, order-errors-below t, order-errors.Post, has-keyword-reads.Asked, has-keyword-reads.Learnt, error-unless-reads.Asked, error-unless-reads.Learnt) (order-errors-at t) order-errors.Post
-order-errors-order-errors-requires t c κs = (omega arith, (args-rest (c .before .before .before .before .before .pre .1 .0) (c .before .before .if1 .left) (c .before .node .result) (c .before .node .ensures .0), room-first (order-more (c .before .before .before .before .before .pre .1 .0) (c .before .before .if1 .left) _ refl (c .before .node .result) (c .before .node .ensures .0) _ refl) (c .before .before .before .before .before .pre .1 .1)))
+order-errors-order-errors-requires t c κs =
+    let p = c .before .before .before .before .before .pre in
+    (omega arith, (args-rest (p .1 .0) (c .before .before .if1 .left) (c .before .node .result) (c .before .node .ensures .0), room-first (order-more (p .1 .0) (c .before .before .if1 .left) _ refl (c .before .node .result) (c .before .node .ensures .0) _ refl) (p .1 .1)))
 
 order-errors-node-requires-2 : (t : ℕ) → order-errors-lts.Need-node-requires-2 (node-reads.Asked, node-reads.Learnt, order-errors-below t, order-errors.Post, has-keyword-reads.Asked, has-keyword-reads.Learnt, error-unless-reads.Asked, error-unless-reads.Learnt) (order-errors-at t) order-errors.Post
-order-errors-node-requires-2 t c κs = let n = arg-node (c .before .before .before .before .before .before .before .before .pre .1 .0) (c .before .before .before .before .before .if1 .left) in (n .opened, (n .within, omega arith))
+order-errors-node-requires-2 t c κs =
+    let n = arg-node (c .before .before .before .before .before .before .before .before .pre .1 .0) (c .before .before .before .before .before .if1 .left) in
+    (n .opened, (n .within, omega arith))
 
 order-errors-sub-has-keyword : (t : ℕ) → order-errors-lts.Need-sub-has-keyword (node-reads.Asked, node-reads.Learnt, order-errors-below t, order-errors.Post, has-keyword-reads.Asked, has-keyword-reads.Learnt, error-unless-reads.Asked, error-unless-reads.Learnt) (order-errors-at t) order-errors.Post
 order-errors-sub-has-keyword t c = omega arith
 
 order-errors-sub-has-keyword-2 : (t : ℕ) → order-errors-lts.Need-sub-has-keyword-2 (node-reads.Asked, node-reads.Learnt, order-errors-below t, order-errors.Post, has-keyword-reads.Asked, has-keyword-reads.Learnt, error-unless-reads.Asked, error-unless-reads.Learnt) (order-errors-at t) order-errors.Post
-order-errors-sub-has-keyword-2 t c = let l = arg-last (c .before .before .before .before .before .before .before .before .before .pre .1 .0) (c .before .before .before .before .before .before .if1 .left) in omega (arith, c .before .before .before .before .before .node .ensures .0, l .le)
+order-errors-sub-has-keyword-2 t c =
+    let l = arg-last (c .before .before .before .before .before .before .before .before .before .pre .1 .0) (c .before .before .before .before .before .before .if1 .left) in
+    omega (arith, c .before .before .before .before .before .node .ensures .0, l .le)
 
 order-errors-has-keyword-requires : (t : ℕ) → order-errors-lts.Need-has-keyword-requires (node-reads.Asked, node-reads.Learnt, order-errors-below t, order-errors.Post, has-keyword-reads.Asked, has-keyword-reads.Learnt, error-unless-reads.Asked, error-unless-reads.Learnt) (order-errors-at t) order-errors.Post
 order-errors-has-keyword-requires t c κs = args-rest (c .before .before .before .before .before .before .before .before .before .pre .1 .0) (c .before .before .before .before .before .before .if1 .left) (c .before .before .before .before .before .node .result) (c .before .before .before .before .before .node .ensures .0)
 
 order-errors-error-unless-requires : (t : ℕ) → order-errors-lts.Need-error-unless-requires (node-reads.Asked, node-reads.Learnt, order-errors-below t, order-errors.Post, has-keyword-reads.Asked, has-keyword-reads.Learnt, error-unless-reads.Asked, error-unless-reads.Learnt) (order-errors-at t) order-errors.Post
-order-errors-error-unless-requires t c κs = let n = arg-node (c .before .before .before .before .before .before .before .before .before .before .before .pre .1 .0) (c .before .before .before .before .before .before .before .before .if1 .left) in let r = room-then (order-more (c .before .before .before .before .before .before .before .before .before .before .before .pre .1 .0) (c .before .before .before .before .before .before .before .before .if1 .left) (c .before .before .node2 .result) (c .before .before .node2 .ensures .0) (c .before .before .before .before .before .before .before .node .result) (c .before .before .before .before .before .before .before .node .ensures .0) (c .before .has-keyword .result) (c .before .has-keyword .ensures)) _ _ (c .before .before .before .before .before .before .before .before .before .before .before .pre .1 .1) (c .before .before .before .before .before .order-errors .ensures) in (n, omega arith, r .long, omega (arith, r .few))
+order-errors-error-unless-requires t c κs =
+    let p = c .before .before .before .before .before .before .before .before .before .before .before .pre in
+    let n = arg-node (p .1 .0) (c .before .before .before .before .before .before .before .before .if1 .left) in
+    let r = room-then (order-more (p .1 .0) (c .before .before .before .before .before .before .before .before .if1 .left) (c .before .before .node2 .result) (c .before .before .node2 .ensures .0) (c .before .before .before .before .before .before .before .node .result) (c .before .before .before .before .before .before .before .node .ensures .0) (c .before .has-keyword .result) (c .before .has-keyword .ensures)) _ _ (p .1 .1) (c .before .before .before .before .before .order-errors .ensures) in
+    (n, omega arith, r .long, omega (arith, r .few))
 
 order-errors-same-length : (t : ℕ) → order-errors-lts.Need-same-length (node-reads.Asked, node-reads.Learnt, order-errors-below t, order-errors.Post, has-keyword-reads.Asked, has-keyword-reads.Learnt, error-unless-reads.Asked, error-unless-reads.Learnt) (order-errors-at t) order-errors.Post
 order-errors-same-length t c = omega arith

@@ -21,7 +21,9 @@ add-unknown-error : tie.Need-add-unknown-error
 add-unknown-error c = search needs
 
 unknown-error-requires : tie.Need-unknown-error-requires
-unknown-error-requires c κs = (c .before .before .before .before .before .before .before .pre .0 .opened, c .before .before .before .before .before .before .before .pre .0 .within, omega (arith, domain-small (c .before .before .before .before .before .before .before .pre .0) (c .before .before .before .before .unknown .result) (c .before .before .unknown2 .result) (c .before .before .before .before .unknown .ensures .0) (c .before .before .before .if1 .left) (c .before .before .unknown2 .ensures .0)), c .before .before .before .before .before .before .before .pre .1 .long, omega (arith, c .before .before .before .before .before .before .before .pre .1 .few))
+unknown-error-requires c κs =
+    let p = c .before .before .before .before .before .before .before .pre in
+    (p .0 .opened, p .0 .within, omega (arith, domain-small (p .0) (c .before .before .before .before .unknown .result) (c .before .before .unknown2 .result) (c .before .before .before .before .unknown .ensures .0) (c .before .before .before .if1 .left) (c .before .before .unknown2 .ensures .0)), p .1 .long, omega (arith, p .1 .few))
 
 same-length : tie.Need-same-length
 same-length c = search needs

@@ -29,7 +29,9 @@ same-length c = search needs
 
 returns : tie.Need-returns
 unfolding spanFrom
-returns c = let p = rw (c .before .before .before .before .before .stmt .ensures .0, c .before .before .before .before .stmt2 .ensures .0) at (c .before .before .put-error .ensures) in p
+returns c =
+    let p = rw (c .before .before .before .before .before .stmt .ensures .0, c .before .before .before .before .stmt2 .ensures .0) at (c .before .before .put-error .ensures) in
+    p
 
 pub missing-error-spec : {M : Type 1} → statement M
 missing-error-spec =

@@ -12,7 +12,10 @@ stmt-requires : tie.Need-stmt-requires
 stmt-requires c κs = search needs
 
 check-expr-requires : tie.Need-check-expr-requires
-check-expr-requires c κs = (c .before .before .before .before .pre .0, right-in (c .before .before .before .before .pre .0 .scoped .opened) (c .before .before .before .before .args .q) (c .before .before .before .before .pre .1) (c .before .stmt .result) (c .before .stmt .ensures .0), room-first (right-first (c .before .before .before .before .pre .0 .scoped .opened) (c .before .before .before .before .args .q) (c .before .before .before .before .pre .1) _ refl (λ j. []) (scopeIn (c .before .before .before .before .args .f .now) (c .before .before .before .before .args .s) (c .before .before .before .before .args .m)) (c .before .before .before .before .pre .2) (c .before .stmt .result) (c .before .stmt .ensures .0) .1) (c .before .before .before .before .pre .3))
+check-expr-requires c κs =
+    let a = c .before .before .before .before .args in
+    let p = c .before .before .before .before .pre in
+    (p .0, right-in (p .0 .scoped .opened) (a .q) (p .1) (c .before .stmt .result) (c .before .stmt .ensures .0), room-first (right-first (p .0 .scoped .opened) (a .q) (p .1) _ refl (λ j. []) (scopeIn (a .f .now) (a .s) (a .m)) (p .2) (c .before .stmt .result) (c .before .stmt .ensures .0) .1) (p .3))
 
 stmt-requires-2 : tie.Need-stmt-requires-2
 stmt-requires-2 c κs = search needs
@@ -21,19 +24,30 @@ same-length : tie.Need-same-length
 same-length c = search needs
 
 returns : tie.Need-returns
-returns c = rw (rate-errors (c .before .before .before .before .before .before .before .before .before .pre .0 .scoped .opened) (c .before .before .before .before .before .before .before .before .before .args .q) (c .before .before .before .before .before .before .before .before .before .pre .1) (c .before .stmt2 .result) (c .before .stmt2 .ensures .0) (λ j. []) (scopeIn (c .before .before .before .before .before .before .before .before .before .args .f .now) (c .before .before .before .before .before .before .before .before .before .args .s) (c .before .before .before .before .before .before .before .before .before .args .m)) (c .if1 .taken) (c .before .before .before .before .before .before .stmt .result) (c .before .before .before .before .before .before .stmt .ensures .0)) (c .before .before .before .before .check-expr .ensures)
+returns c =
+    let a = c .before .before .before .before .before .before .before .before .before .args in
+    let p = c .before .before .before .before .before .before .before .before .before .pre in
+    rw (rate-errors (p .0 .scoped .opened) (a .q) (p .1) (c .before .stmt2 .result) (c .before .stmt2 .ensures .0) (λ j. []) (scopeIn (a .f .now) (a .s) (a .m)) (c .if1 .taken) (c .before .before .before .before .before .before .stmt .result) (c .before .before .before .before .before .before .stmt .ensures .0)) (c .before .before .before .before .check-expr .ensures)
 
 stmt-requires-3 : tie.Need-stmt-requires-3
-stmt-requires-3 c κs = (c .before .before .before .before .before .before .before .before .before .pre .0 .scoped .opened, (c .before .before .before .before .before .before .before .before .before .pre .1, omega arith))
+stmt-requires-3 c κs =
+    let p = c .before .before .before .before .before .before .before .before .before .pre in
+    (p .0 .scoped .opened, (p .1, omega arith))
 
 check-expr-requires-2 : tie.Need-check-expr-requires-2
-check-expr-requires-2 c κs = (c .before .before .before .before .before .before .before .before .before .before .before .pre .0, left-in (c .before .before .before .before .before .before .before .before .before .before .before .pre .0 .scoped .opened) (c .before .before .before .before .before .before .before .before .before .before .before .args .q) (c .before .before .before .before .before .before .before .before .before .before .before .pre .1) (c .before .before .before .stmt2 .result) (c .before .before .before .stmt2 .ensures .0) (an-equation (c .before .before .before .before .before .before .before .before .before .before .before .pre .0 .scoped .opened) (c .before .before .before .before .before .before .before .before .before .before .before .args .q) (c .before .before .before .before .before .before .before .before .before .before .before .pre .1) (c .before .before .before .stmt2 .result) (c .before .before .before .stmt2 .ensures .0) (omega (arith, c .before .before .before .before .before .before .before .before .before .before .before .pre .2, c .before .before .before .stmt2 .ensures .0)) (c .before .before .if1 .left)) (c .before .stmt3 .result) (c .before .stmt3 .ensures .0), room-then (equation-errors (c .before .before .before .before .before .before .before .before .before .before .before .pre .0 .scoped .opened) (c .before .before .before .before .before .before .before .before .before .before .before .args .q) (c .before .before .before .before .before .before .before .before .before .before .before .pre .1) (c .before .before .before .stmt2 .result) (c .before .before .before .stmt2 .ensures .0) (λ j. []) (scopeIn (c .before .before .before .before .before .before .before .before .before .before .before .args .f .now) (c .before .before .before .before .before .before .before .before .before .before .before .args .s) (c .before .before .before .before .before .before .before .before .before .before .before .args .m)) (an-equation (c .before .before .before .before .before .before .before .before .before .before .before .pre .0 .scoped .opened) (c .before .before .before .before .before .before .before .before .before .before .before .args .q) (c .before .before .before .before .before .before .before .before .before .before .before .pre .1) (c .before .before .before .stmt2 .result) (c .before .before .before .stmt2 .ensures .0) (omega (arith, c .before .before .before .before .before .before .before .before .before .before .before .pre .2, c .before .before .before .stmt2 .ensures .0)) (c .before .before .if1 .left)) (c .before .before .before .before .before .before .before .before .stmt .result) (c .before .stmt3 .result) (c .before .before .before .before .before .before .before .before .stmt .ensures .0) (c .before .stmt3 .ensures .0)) _ _ (c .before .before .before .before .before .before .before .before .before .before .before .pre .3) (c .before .before .before .before .before .before .check-expr .ensures))
+check-expr-requires-2 c κs =
+    let a = c .before .before .before .before .before .before .before .before .before .before .before .args in
+    let p = c .before .before .before .before .before .before .before .before .before .before .before .pre in
+    (p .0, left-in (p .0 .scoped .opened) (a .q) (p .1) (c .before .before .before .stmt2 .result) (c .before .before .before .stmt2 .ensures .0) (an-equation (p .0 .scoped .opened) (a .q) (p .1) (c .before .before .before .stmt2 .result) (c .before .before .before .stmt2 .ensures .0) (omega (arith, p .2, c .before .before .before .stmt2 .ensures .0)) (c .before .before .if1 .left)) (c .before .stmt3 .result) (c .before .stmt3 .ensures .0), room-then (equation-errors (p .0 .scoped .opened) (a .q) (p .1) (c .before .before .before .stmt2 .result) (c .before .before .before .stmt2 .ensures .0) (λ j. []) (scopeIn (a .f .now) (a .s) (a .m)) (an-equation (p .0 .scoped .opened) (a .q) (p .1) (c .before .before .before .stmt2 .result) (c .before .before .before .stmt2 .ensures .0) (omega (arith, p .2, c .before .before .before .stmt2 .ensures .0)) (c .before .before .if1 .left)) (c .before .before .before .before .before .before .before .before .stmt .result) (c .before .stmt3 .result) (c .before .before .before .before .before .before .before .before .stmt .ensures .0) (c .before .stmt3 .ensures .0)) _ _ (p .3) (c .before .before .before .before .before .before .check-expr .ensures))
 
 same-length-2 : tie.Need-same-length-2
 same-length-2 c = search needs
 
 returns-2 : tie.Need-returns-2
-returns-2 c = lists-then (equation-errors (c .before .before .before .before .before .before .before .before .before .before .before .before .before .before .pre .0 .scoped .opened) (c .before .before .before .before .before .before .before .before .before .before .before .before .before .before .args .q) (c .before .before .before .before .before .before .before .before .before .before .before .before .before .before .pre .1) (c .before .before .before .before .before .before .stmt2 .result) (c .before .before .before .before .before .before .stmt2 .ensures .0) (λ j. []) (scopeIn (c .before .before .before .before .before .before .before .before .before .before .before .before .before .before .args .f .now) (c .before .before .before .before .before .before .before .before .before .before .before .before .before .before .args .s) (c .before .before .before .before .before .before .before .before .before .before .before .before .before .before .args .m)) (an-equation (c .before .before .before .before .before .before .before .before .before .before .before .before .before .before .pre .0 .scoped .opened) (c .before .before .before .before .before .before .before .before .before .before .before .before .before .before .args .q) (c .before .before .before .before .before .before .before .before .before .before .before .before .before .before .pre .1) (c .before .before .before .before .before .before .stmt2 .result) (c .before .before .before .before .before .before .stmt2 .ensures .0) (omega (arith, c .before .before .before .before .before .before .before .before .before .before .before .before .before .before .pre .2, c .before .before .before .before .before .before .stmt2 .ensures .0)) (c .before .before .before .before .before .if1 .left)) (c .before .before .before .before .before .before .before .before .before .before .before .stmt .result) (c .before .before .before .before .stmt3 .result) (c .before .before .before .before .before .before .before .before .before .before .before .stmt .ensures .0) (c .before .before .before .before .stmt3 .ensures .0)) _ _ _ _ _ _ (c .before .before .before .before .before .before .before .before .before .check-expr .ensures) (c .before .before .check-expr2 .ensures)
+returns-2 c =
+    let a = c .before .before .before .before .before .before .before .before .before .before .before .before .before .before .args in
+    let p = c .before .before .before .before .before .before .before .before .before .before .before .before .before .before .pre in
+    lists-then (equation-errors (p .0 .scoped .opened) (a .q) (p .1) (c .before .before .before .before .before .before .stmt2 .result) (c .before .before .before .before .before .before .stmt2 .ensures .0) (λ j. []) (scopeIn (a .f .now) (a .s) (a .m)) (an-equation (p .0 .scoped .opened) (a .q) (p .1) (c .before .before .before .before .before .before .stmt2 .result) (c .before .before .before .before .before .before .stmt2 .ensures .0) (omega (arith, p .2, c .before .before .before .before .before .before .stmt2 .ensures .0)) (c .before .before .before .before .before .if1 .left)) (c .before .before .before .before .before .before .before .before .before .before .before .stmt .result) (c .before .before .before .before .stmt3 .result) (c .before .before .before .before .before .before .before .before .before .before .before .stmt .ensures .0) (c .before .before .before .before .stmt3 .ensures .0)) _ _ _ _ _ _ (c .before .before .before .before .before .before .before .before .before .check-expr .ensures) (c .before .before .check-expr2 .ensures)
 
 pub own-errors-spec : {M : Type 1} → statement M
 own-errors-spec =

@@ -30,7 +30,9 @@ same-length c = search needs
 
 returns-2 : tie.Need-returns-2
 unfolding spanFrom
-returns-2 c = let p = rw (c .before .before .before .before .before .unknown .ensures .0, c .before .before .before .before .unknown2 .ensures .0) at (c .before .before .put-error .ensures) in lists-unless _ _ _ _ _ _ (c .before .before .before .before .before .before .if1 .left) p
+returns-2 c =
+    let p = rw (c .before .before .before .before .before .unknown .ensures .0, c .before .before .before .before .unknown2 .ensures .0) at (c .before .before .put-error .ensures) in
+    lists-unless _ _ _ _ _ _ (c .before .before .before .before .before .before .if1 .left) p
 
 pub unknown-error-spec : {M : Type 1} → statement M
 unknown-error-spec =

@@ -7,7 +7,9 @@ use Rattle.builder.proofs.builder.unknown_errors.Statement.{statement}
 use Rattle.builder.proofs.builder.unknown_errors.Tie as tie
 
 domain-errors-requires : tie.Need-domain-errors-requires
-domain-errors-requires c κs = (c .before .before .before .pre .0, room-first (unknown-more (c .before .before .before .pre .0) _ refl _ _ refl refl) (c .before .before .before .pre .1))
+domain-errors-requires c κs =
+    let p = c .before .before .before .pre in
+    (p .0, room-first (unknown-more (p .0) _ refl _ _ refl refl) (p .1))
 
 unknown-requires : tie.Need-unknown-requires
 unknown-requires c κs = search needs
@@ -25,7 +27,10 @@ add-unknown-error : tie.Need-add-unknown-error
 add-unknown-error c = search needs
 
 unknown-error-requires : tie.Need-unknown-error-requires
-unknown-error-requires c κs = let r = room-then (unknown-more (c .before .before .before .before .before .before .before .before .before .before .before .pre .0) (c .before .before .before .before .unknown .result) (c .before .before .before .before .unknown .ensures .0) (c .before .before .is-reserved .result) (c .before .is-time .result) (c .before .before .is-reserved .ensures) (c .before .is-time .ensures)) _ _ (c .before .before .before .before .before .before .before .before .before .before .before .pre .1) (c .before .before .before .before .before .before .before .domain-errors .ensures) in (c .before .before .before .before .before .before .before .before .before .before .before .pre .0 .opened, c .before .before .before .before .before .before .before .before .before .before .before .pre .0 .within, omega (arith, unknown-small (c .before .before .before .before .before .before .before .before .before .before .before .pre .0) (c .before .before .before .before .unknown .result) (c .before .before .before .before .unknown .ensures .0)), r .long, omega (arith, r .few))
+unknown-error-requires c κs =
+    let p = c .before .before .before .before .before .before .before .before .before .before .before .pre in
+    let r = room-then (unknown-more (p .0) (c .before .before .before .before .unknown .result) (c .before .before .before .before .unknown .ensures .0) (c .before .before .is-reserved .result) (c .before .is-time .result) (c .before .before .is-reserved .ensures) (c .before .is-time .ensures)) _ _ (p .1) (c .before .before .before .before .before .before .before .domain-errors .ensures) in
+    (p .0 .opened, p .0 .within, omega (arith, unknown-small (p .0) (c .before .before .before .before .unknown .result) (c .before .before .before .before .unknown .ensures .0)), r .long, omega (arith, r .few))
 
 same-length : tie.Need-same-length
 same-length c = search needs

@@ -36,37 +36,66 @@ keyword-errors-below t =
 
 keyword-errors-returns : (t : ℕ) → keyword-errors-lts.Need-returns (node-reads.Asked, node-reads.Learnt, keyword-errors-below t, keyword-errors.Post, error-unless-reads.Asked, error-unless-reads.Learnt) (keyword-errors-at t) keyword-errors.Post
 unfolding keywordErrors
-keyword-errors-returns t c = let a = c .before .before .before .pre .1 .0 in rw (args-end a (c .if1 .taken)) (lists-none _ _)
+keyword-errors-returns t c =
+    let a = c .before .before .before .pre .1 .0 in
+    rw (args-end a (c .if1 .taken)) (lists-none _ _)
 
 keyword-errors-sub-last : (t : ℕ) → keyword-errors-lts.Need-sub-last (node-reads.Asked, node-reads.Learnt, keyword-errors-below t, keyword-errors.Post, error-unless-reads.Asked, error-unless-reads.Learnt) (keyword-errors-at t) keyword-errors.Post
-keyword-errors-sub-last t c = let a = c .before .before .before .pre .1 .0 in let l = arg-last a (c .if1 .left) in omega (arith, l .two)
+keyword-errors-sub-last t c =
+    let a = c .before .before .before .pre .1 .0 in
+    let l = arg-last a (c .if1 .left) in
+    omega (arith, l .two)
 
 keyword-errors-node-requires : (t : ℕ) → keyword-errors-lts.Need-node-requires (node-reads.Asked, node-reads.Learnt, keyword-errors-below t, keyword-errors.Post, error-unless-reads.Asked, error-unless-reads.Learnt) (keyword-errors-at t) keyword-errors.Post
-keyword-errors-node-requires t c κs = let a = c .before .before .before .pre .1 .0 in let n = arg-node a (c .if1 .left) in (n .opened, (n .within, omega arith))
+keyword-errors-node-requires t c κs =
+    let a = c .before .before .before .pre .1 .0 in
+    let n = arg-node a (c .if1 .left) in
+    (n .opened, (n .within, omega arith))
 
 keyword-errors-sub-keyword-errors : (t : ℕ) → keyword-errors-lts.Need-sub-keyword-errors (node-reads.Asked, node-reads.Learnt, keyword-errors-below t, keyword-errors.Post, error-unless-reads.Asked, error-unless-reads.Learnt) (keyword-errors-at t) keyword-errors.Post
-keyword-errors-sub-keyword-errors t c = let a = c .before .before .before .before .pre .1 .0 in let l = arg-last a (c .before .if1 .left) in omega (arith, c .node .ensures .0, l .within)
+keyword-errors-sub-keyword-errors t c =
+    let a = c .before .before .before .before .pre .1 .0 in
+    let l = arg-last a (c .before .if1 .left) in
+    omega (arith, c .node .ensures .0, l .within)
 
 keyword-errors-sub-keyword-errors-2 : (t : ℕ) → keyword-errors-lts.Need-sub-keyword-errors-2 (node-reads.Asked, node-reads.Learnt, keyword-errors-below t, keyword-errors.Post, error-unless-reads.Asked, error-unless-reads.Learnt) (keyword-errors-at t) keyword-errors.Post
 keyword-errors-sub-keyword-errors-2 t c = omega arith
 
 keyword-errors-sub-keyword-errors-3 : (t : ℕ) → keyword-errors-lts.Need-sub-keyword-errors-3 (node-reads.Asked, node-reads.Learnt, keyword-errors-below t, keyword-errors.Post, error-unless-reads.Asked, error-unless-reads.Learnt) (keyword-errors-at t) keyword-errors.Post
-keyword-errors-sub-keyword-errors-3 t c = let a = c .before .before .before .before .pre .1 .0 in let l = arg-last a (c .before .if1 .left) in omega (arith, c .node .ensures .0, l .le)
+keyword-errors-sub-keyword-errors-3 t c =
+    let a = c .before .before .before .before .pre .1 .0 in
+    let l = arg-last a (c .before .if1 .left) in
+    omega (arith, c .node .ensures .0, l .le)
 
 keyword-errors-keyword-errors-requires : (t : ℕ) → keyword-errors-lts.Need-keyword-errors-requires (node-reads.Asked, node-reads.Learnt, keyword-errors-below t, keyword-errors.Post, error-unless-reads.Asked, error-unless-reads.Learnt) (keyword-errors-at t) keyword-errors.Post
-keyword-errors-keyword-errors-requires t c κs = let a = c .before .before .before .before .before .pre .1 .0 in (omega arith, (args-rest a (c .before .before .if1 .left) (c .before .node .result) (c .before .node .ensures .0), room-first (built-in-more a (c .before .before .if1 .left) _ refl (c .before .node .result) (c .before .node .ensures .0)) (c .before .before .before .before .before .pre .1 .1)))
+keyword-errors-keyword-errors-requires t c κs =
+    let p = c .before .before .before .before .before .pre in
+    let a = p .1 .0 in
+    (omega arith, (args-rest a (c .before .before .if1 .left) (c .before .node .result) (c .before .node .ensures .0), room-first (built-in-more a (c .before .before .if1 .left) _ refl (c .before .node .result) (c .before .node .ensures .0)) (p .1 .1)))
 
 keyword-errors-node-requires-2 : (t : ℕ) → keyword-errors-lts.Need-node-requires-2 (node-reads.Asked, node-reads.Learnt, keyword-errors-below t, keyword-errors.Post, error-unless-reads.Asked, error-unless-reads.Learnt) (keyword-errors-at t) keyword-errors.Post
-keyword-errors-node-requires-2 t c κs = let a = c .before .before .before .before .before .before .before .before .pre .1 .0 in let n = arg-node a (c .before .before .before .before .before .if1 .left) in (n .opened, (n .within, omega arith))
+keyword-errors-node-requires-2 t c κs =
+    let a = c .before .before .before .before .before .before .before .before .pre .1 .0 in
+    let n = arg-node a (c .before .before .before .before .before .if1 .left) in
+    (n .opened, (n .within, omega arith))
 
 keyword-errors-error-unless-requires : (t : ℕ) → keyword-errors-lts.Need-error-unless-requires (node-reads.Asked, node-reads.Learnt, keyword-errors-below t, keyword-errors.Post, error-unless-reads.Asked, error-unless-reads.Learnt) (keyword-errors-at t) keyword-errors.Post
-keyword-errors-error-unless-requires t c κs = let a = c .before .before .before .before .before .before .before .before .before .before .pre .1 .0 in let n = arg-node a (c .before .before .before .before .before .before .before .if1 .left) in let e = built-in-more a (c .before .before .before .before .before .before .before .if1 .left) (c .before .node2 .result) (c .before .node2 .ensures .0) (c .before .before .before .before .before .before .node .result) (c .before .before .before .before .before .before .node .ensures .0) in let r = room-then e _ _ (c .before .before .before .before .before .before .before .before .before .before .pre .1 .1) (c .before .before .before .before .keyword-errors .ensures) in (n, omega (arith, c .before .node2 .ensures .1), r .long, omega (arith, r .few))
+keyword-errors-error-unless-requires t c κs =
+    let p = c .before .before .before .before .before .before .before .before .before .before .pre in
+    let a = p .1 .0 in
+    let n = arg-node a (c .before .before .before .before .before .before .before .if1 .left) in
+    let e = built-in-more a (c .before .before .before .before .before .before .before .if1 .left) (c .before .node2 .result) (c .before .node2 .ensures .0) (c .before .before .before .before .before .before .node .result) (c .before .before .before .before .before .before .node .ensures .0) in
+    let r = room-then e _ _ (p .1 .1) (c .before .before .before .before .keyword-errors .ensures) in
+    (n, omega (arith, c .before .node2 .ensures .1), r .long, omega (arith, r .few))
 
 keyword-errors-same-length : (t : ℕ) → keyword-errors-lts.Need-same-length (node-reads.Asked, node-reads.Learnt, keyword-errors-below t, keyword-errors.Post, error-unless-reads.Asked, error-unless-reads.Learnt) (keyword-errors-at t) keyword-errors.Post
 keyword-errors-same-length t c = omega arith
 
 keyword-errors-returns-2 : (t : ℕ) → keyword-errors-lts.Need-returns-2 (node-reads.Asked, node-reads.Learnt, keyword-errors-below t, keyword-errors.Post, error-unless-reads.Asked, error-unless-reads.Learnt) (keyword-errors-at t) keyword-errors.Post
-keyword-errors-returns-2 t c = let a = c .before .before .before .before .before .before .before .before .before .before .before .before .before .pre .1 .0 in let e = built-in-more a (c .before .before .before .before .before .before .before .before .before .before .if1 .left) (c .before .before .before .before .node2 .result) (c .before .before .before .before .node2 .ensures .0) (c .before .before .before .before .before .before .before .before .before .node .result) (c .before .before .before .before .before .before .before .before .before .node .ensures .0) in lists-then e _ _ _ _ _ _ (c .before .before .before .before .before .before .before .keyword-errors .ensures) (c .before .before .error-unless .ensures)
+keyword-errors-returns-2 t c =
+    let a = c .before .before .before .before .before .before .before .before .before .before .before .before .before .pre .1 .0 in
+    let e = built-in-more a (c .before .before .before .before .before .before .before .before .before .before .if1 .left) (c .before .before .before .before .node2 .result) (c .before .before .before .before .node2 .ensures .0) (c .before .before .before .before .before .before .before .before .before .node .result) (c .before .before .before .before .before .before .before .before .before .node .ensures .0) in
+    lists-then e _ _ _ _ _ _ (c .before .before .before .before .before .before .before .keyword-errors .ensures) (c .before .before .error-unless .ensures)
 
 pub +keyword-errors-spec : {M : Type 1} → statement M
 +keyword-errors-spec = close μ-keyword-errors λ t. keyword-errors-lts.spec (node-reads.Asked, node-reads.Learnt, keyword-errors-below t, keyword-errors.Post, error-unless-reads.Asked, error-unless-reads.Learnt)

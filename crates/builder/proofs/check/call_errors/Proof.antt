@@ -13,7 +13,9 @@ node-requires-2 : tie.Need-node-requires-2
 node-requires-2 c κs = search needs
 
 element-copy-out-numbered-rule : tie.Need-element-copy-out-numbered-rule
-element-copy-out-numbered-rule c = let q = c .before .before .before .before .pre .1 in omega (arith, c .before .node .ensures .0, call-small q)
+element-copy-out-numbered-rule c =
+    let q = c .before .before .before .before .pre .1 in
+    omega (arith, c .before .node .ensures .0, call-small q)
 
 numbered-rule-requires : tie.Need-numbered-rule-requires
 numbered-rule-requires c κs = search needs
@@ -25,10 +27,15 @@ add-error-unless : tie.Need-add-error-unless
 add-error-unless c = search needs
 
 error-unless-requires : tie.Need-error-unless-requires
-error-unless-requires c κs = let q = c .before .before .before .before .before .before .before .before .pre .1 in (call-node q, omega (arith, c .before .before .before .before .before .node .ensures .0, call-small q), c .before .before .before .before .before .before .before .before .pre .2 .long, omega (arith, c .before .before .before .before .before .before .before .before .pre .2 .few))
+error-unless-requires c κs =
+    let p = c .before .before .before .before .before .before .before .before .pre in
+    let q = p .1 in
+    (call-node q, omega (arith, c .before .before .before .before .before .node .ensures .0, call-small q), p .2 .long, omega (arith, p .2 .few))
 
 element-copy-out-is-built-in : tie.Need-element-copy-out-is-built-in
-element-copy-out-is-built-in c = let q = c .before .before .before .before .before .before .before .before .before .before .before .pre .1 in omega (arith, c .before .before .before .before .before .before .before .before .node .ensures .0, call-small q)
+element-copy-out-is-built-in c =
+    let q = c .before .before .before .before .before .before .before .before .before .before .before .pre .1 in
+    omega (arith, c .before .before .before .before .before .before .before .before .node .ensures .0, call-small q)
 
 is-built-in-requires : tie.Need-is-built-in-requires
 is-built-in-requires c κs = search needs
@@ -37,25 +44,43 @@ node-requires-3 : tie.Need-node-requires-3
 node-requires-3 c κs = search needs
 
 sub-keyword-errors : tie.Need-sub-keyword-errors
-sub-keyword-errors c = let q = c .before .before .before .before .before .before .before .before .before .before .before .before .before .before .before .pre .1 in omega (arith, c .node3 .ensures .0, call-sized q)
+sub-keyword-errors c =
+    let q = c .before .before .before .before .before .before .before .before .before .before .before .before .before .before .before .pre .1 in
+    omega (arith, c .node3 .ensures .0, call-sized q)
 
 keyword-errors-requires : tie.Need-keyword-errors-requires
-keyword-errors-requires c κs = let q = c .before .before .before .before .before .before .before .before .before .before .before .before .before .before .before .before .pre .1 in let e = call-built-in q (c .before .before .before .before .before .before .before .before .before .before .before .before .before .node .result) (c .before .before .before .before .before .before .before .before .before .before .before .before .before .node .ensures .0) (c .before .before .before .before .before .before .before .before .before .before .before .before .before .before .before .before .pre .0) (c .before .before .before .before .before .before .before .before .before .before .numbered-rule .result) (c .before .before .before .before .before .before .before .before .before .rule-allows .result) (c .before .before .before .before .before .before .before .before .before .before .before .before .node2 .result) (c .before .before .before .before .before .before .before .before .before .before .numbered-rule .ensures) (c .before .before .before .before .before .before .before .before .before .rule-allows .ensures) (c .before .before .before .before .before .before .before .before .before .before .before .before .node2 .ensures .0) (c .before .before .before .is-built-in .result) (c .before .before .before .is-built-in .ensures) (c .before .node3 .result) (c .before .before .if1 .taken) (c .before .node3 .ensures .0) in (call-args q (c .before .before .before .before .before .before .before .before .before .before .before .before .node2 .result) (c .before .node3 .result) (c .before .before .before .before .before .before .before .before .before .before .before .before .node2 .ensures .0) (c .before .node3 .ensures .0), room-then e _ _ (c .before .before .before .before .before .before .before .before .before .before .before .before .before .before .before .before .pre .2) (c .before .before .before .before .before .before .before .error-unless .ensures))
+keyword-errors-requires c κs =
+    let p = c .before .before .before .before .before .before .before .before .before .before .before .before .before .before .before .before .pre in
+    let q = p .1 in
+    let e = call-built-in q (c .before .before .before .before .before .before .before .before .before .before .before .before .before .node .result) (c .before .before .before .before .before .before .before .before .before .before .before .before .before .node .ensures .0) (p .0) (c .before .before .before .before .before .before .before .before .before .before .numbered-rule .result) (c .before .before .before .before .before .before .before .before .before .rule-allows .result) (c .before .before .before .before .before .before .before .before .before .before .before .before .node2 .result) (c .before .before .before .before .before .before .before .before .before .before .numbered-rule .ensures) (c .before .before .before .before .before .before .before .before .before .rule-allows .ensures) (c .before .before .before .before .before .before .before .before .before .before .before .before .node2 .ensures .0) (c .before .before .before .is-built-in .result) (c .before .before .before .is-built-in .ensures) (c .before .node3 .result) (c .before .before .if1 .taken) (c .before .node3 .ensures .0) in
+    (call-args q (c .before .before .before .before .before .before .before .before .before .before .before .before .node2 .result) (c .before .node3 .result) (c .before .before .before .before .before .before .before .before .before .before .before .before .node2 .ensures .0) (c .before .node3 .ensures .0), room-then e _ _ (p .2) (c .before .before .before .before .before .before .before .error-unless .ensures))
 
 same-length : tie.Need-same-length
 same-length c = search needs
 
 returns : tie.Need-returns
-returns c = let q = c .before .before .before .before .before .before .before .before .before .before .before .before .before .before .before .before .before .before .before .pre .1 in let e = call-built-in q (c .before .before .before .before .before .before .before .before .before .before .before .before .before .before .before .before .node .result) (c .before .before .before .before .before .before .before .before .before .before .before .before .before .before .before .before .node .ensures .0) (c .before .before .before .before .before .before .before .before .before .before .before .before .before .before .before .before .before .before .before .pre .0) (c .before .before .before .before .before .before .before .before .before .before .before .before .before .numbered-rule .result) (c .before .before .before .before .before .before .before .before .before .before .before .before .rule-allows .result) (c .before .before .before .before .before .before .before .before .before .before .before .before .before .before .before .node2 .result) (c .before .before .before .before .before .before .before .before .before .before .before .before .before .numbered-rule .ensures) (c .before .before .before .before .before .before .before .before .before .before .before .before .rule-allows .ensures) (c .before .before .before .before .before .before .before .before .before .before .before .before .before .before .before .node2 .ensures .0) (c .before .before .before .before .before .before .is-built-in .result) (c .before .before .before .before .before .before .is-built-in .ensures) (c .before .before .before .before .node3 .result) (c .before .before .before .before .before .if1 .taken) (c .before .before .before .before .node3 .ensures .0) in lists-then e _ _ _ _ _ _ (c .before .before .before .before .before .before .before .before .before .before .error-unless .ensures) (c .before .before .keyword-errors .ensures)
+returns c =
+    let p = c .before .before .before .before .before .before .before .before .before .before .before .before .before .before .before .before .before .before .before .pre in
+    let q = p .1 in
+    let e = call-built-in q (c .before .before .before .before .before .before .before .before .before .before .before .before .before .before .before .before .node .result) (c .before .before .before .before .before .before .before .before .before .before .before .before .before .before .before .before .node .ensures .0) (p .0) (c .before .before .before .before .before .before .before .before .before .before .before .before .before .numbered-rule .result) (c .before .before .before .before .before .before .before .before .before .before .before .before .rule-allows .result) (c .before .before .before .before .before .before .before .before .before .before .before .before .before .before .before .node2 .result) (c .before .before .before .before .before .before .before .before .before .before .before .before .before .numbered-rule .ensures) (c .before .before .before .before .before .before .before .before .before .before .before .before .rule-allows .ensures) (c .before .before .before .before .before .before .before .before .before .before .before .before .before .before .before .node2 .ensures .0) (c .before .before .before .before .before .before .is-built-in .result) (c .before .before .before .before .before .before .is-built-in .ensures) (c .before .before .before .before .node3 .result) (c .before .before .before .before .before .if1 .taken) (c .before .before .before .before .node3 .ensures .0) in
+    lists-then e _ _ _ _ _ _ (c .before .before .before .before .before .before .before .before .before .before .error-unless .ensures) (c .before .before .keyword-errors .ensures)
 
 variable-errors-requires : tie.Need-variable-errors-requires
-variable-errors-requires c κs = let q = c .before .before .before .before .before .before .before .before .before .before .before .before .before .before .before .pre .1 in let e = call-other q (c .before .before .before .before .before .before .before .before .before .before .before .before .node .result) (c .before .before .before .before .before .before .before .before .before .before .before .before .node .ensures .0) (c .before .before .before .before .before .before .before .before .before .before .before .before .before .before .before .pre .0) (c .before .before .before .before .before .before .before .before .before .numbered-rule .result) (c .before .before .before .before .before .before .before .before .rule-allows .result) (c .before .before .before .before .before .before .before .before .before .before .before .node2 .result) (c .before .before .before .before .before .before .before .before .before .numbered-rule .ensures) (c .before .before .before .before .before .before .before .before .rule-allows .ensures) (c .before .before .before .before .before .before .before .before .before .before .before .node2 .ensures .0) (c .before .before .is-built-in .result) (c .before .before .is-built-in .ensures) (c .before .if1 .left) in (c .before .before .before .before .before .before .before .before .before .before .before .before .before .before .before .pre .0 .scoped, q, room-then e _ _ (c .before .before .before .before .before .before .before .before .before .before .before .before .before .before .before .pre .2) (c .before .before .before .before .before .before .error-unless .ensures))
+variable-errors-requires c κs =
+    let p = c .before .before .before .before .before .before .before .before .before .before .before .before .before .before .before .pre in
+    let q = p .1 in
+    let e = call-other q (c .before .before .before .before .before .before .before .before .before .before .before .before .node .result) (c .before .before .before .before .before .before .before .before .before .before .before .before .node .ensures .0) (p .0) (c .before .before .before .before .before .before .before .before .before .numbered-rule .result) (c .before .before .before .before .before .before .before .before .rule-allows .result) (c .before .before .before .before .before .before .before .before .before .before .before .node2 .result) (c .before .before .before .before .before .before .before .before .before .numbered-rule .ensures) (c .before .before .before .before .before .before .before .before .rule-allows .ensures) (c .before .before .before .before .before .before .before .before .before .before .before .node2 .ensures .0) (c .before .before .is-built-in .result) (c .before .before .is-built-in .ensures) (c .before .if1 .left) in
+    (p .0 .scoped, q, room-then e _ _ (p .2) (c .before .before .before .before .before .before .error-unless .ensures))
 
 same-length-2 : tie.Need-same-length-2
 same-length-2 c = search needs
 
 returns-2 : tie.Need-returns-2
-returns-2 c = let q = c .before .before .before .before .before .before .before .before .before .before .before .before .before .before .before .before .before .before .pre .1 in let e = call-other q (c .before .before .before .before .before .before .before .before .before .before .before .before .before .before .before .node .result) (c .before .before .before .before .before .before .before .before .before .before .before .before .before .before .before .node .ensures .0) (c .before .before .before .before .before .before .before .before .before .before .before .before .before .before .before .before .before .before .pre .0) (c .before .before .before .before .before .before .before .before .before .before .before .before .numbered-rule .result) (c .before .before .before .before .before .before .before .before .before .before .before .rule-allows .result) (c .before .before .before .before .before .before .before .before .before .before .before .before .before .before .node2 .result) (c .before .before .before .before .before .before .before .before .before .before .before .before .numbered-rule .ensures) (c .before .before .before .before .before .before .before .before .before .before .before .rule-allows .ensures) (c .before .before .before .before .before .before .before .before .before .before .before .before .before .before .node2 .ensures .0) (c .before .before .before .before .before .is-built-in .result) (c .before .before .before .before .before .is-built-in .ensures) (c .before .before .before .before .if1 .left) in lists-then e _ _ _ _ _ _ (c .before .before .before .before .before .before .before .before .before .error-unless .ensures) (c .before .before .variable-errors .ensures)
+returns-2 c =
+    let p = c .before .before .before .before .before .before .before .before .before .before .before .before .before .before .before .before .before .before .pre in
+    let q = p .1 in
+    let e = call-other q (c .before .before .before .before .before .before .before .before .before .before .before .before .before .before .before .node .result) (c .before .before .before .before .before .before .before .before .before .before .before .before .before .before .before .node .ensures .0) (p .0) (c .before .before .before .before .before .before .before .before .before .before .before .before .numbered-rule .result) (c .before .before .before .before .before .before .before .before .before .before .before .rule-allows .result) (c .before .before .before .before .before .before .before .before .before .before .before .before .before .before .node2 .result) (c .before .before .before .before .before .before .before .before .before .before .before .before .numbered-rule .ensures) (c .before .before .before .before .before .before .before .before .before .before .before .rule-allows .ensures) (c .before .before .before .before .before .before .before .before .before .before .before .before .before .before .node2 .ensures .0) (c .before .before .before .before .before .is-built-in .result) (c .before .before .before .before .before .is-built-in .ensures) (c .before .before .before .before .if1 .left) in
+    lists-then e _ _ _ _ _ _ (c .before .before .before .before .before .before .before .before .before .error-unless .ensures) (c .before .before .variable-errors .ensures)
 
 pub call-errors-spec : {M : Type 1} → statement M
 call-errors-spec =

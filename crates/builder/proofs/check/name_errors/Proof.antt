@@ -12,19 +12,28 @@ mul-error-unless : tie.Need-mul-error-unless
 mul-error-unless c = search needs
 
 element-copy-out-error-unless : tie.Need-element-copy-out-error-unless
-element-copy-out-error-unless c = let q = c .before .before .before .pre .1 in omega (arith, c .node .ensures .0, name-small q (c .before .before .before .pre .2))
+element-copy-out-error-unless c =
+    let p = c .before .before .before .pre in
+    let q = p .1 in
+    omega (arith, c .node .ensures .0, name-small q (p .2))
 
 add-error-unless : tie.Need-add-error-unless
 add-error-unless c = search needs
 
 error-unless-requires : tie.Need-error-unless-requires
-error-unless-requires c κs = let q = c .before .before .before .before .before .pre .1 in (expr-node q, omega (arith, c .before .before .node .ensures .0, name-small q (c .before .before .before .before .before .pre .2)), c .before .before .before .before .before .pre .3 .long, omega (arith, c .before .before .before .before .before .pre .3 .few))
+error-unless-requires c κs =
+    let p = c .before .before .before .before .before .pre in
+    let q = p .1 in
+    (expr-node q, omega (arith, c .before .before .node .ensures .0, name-small q (p .2)), p .3 .long, omega (arith, p .3 .few))
 
 same-length : tie.Need-same-length
 same-length c = search needs
 
 returns : tie.Need-returns
-returns c = let q = c .before .before .before .before .before .before .before .before .pre .1 in rw (name-error q (c .before .before .before .before .before .before .before .before .pre .2) (c .before .before .before .before .before .before .before .before .pre .0) (c .before .before .before .before .before .node .result) (c .before .before .before .before .before .node .ensures .0)) (c .before .before .error-unless .ensures)
+returns c =
+    let p = c .before .before .before .before .before .before .before .before .pre in
+    let q = p .1 in
+    rw (name-error q (p .2) (p .0) (c .before .before .before .before .before .node .result) (c .before .before .before .before .before .node .ensures .0)) (c .before .before .error-unless .ensures)
 
 pub name-errors-spec : {M : Type 1} → statement M
 name-errors-spec =

@@ -27,7 +27,9 @@ same-length c = search needs
 
 returns : tie.Need-returns
 unfolding spanFrom
-returns c = let p = rw (c .before .before .before .before .before .node .ensures .0, c .before .before .before .before .node2 .ensures .0) at (c .before .before .put-error .ensures) in p
+returns c =
+    let p = rw (c .before .before .before .before .before .node .ensures .0, c .before .before .before .before .node2 .ensures .0) at (c .before .before .put-error .ensures) in
+    p
 
 pub node-error-spec : {M : Type 1} → statement M
 node-error-spec =

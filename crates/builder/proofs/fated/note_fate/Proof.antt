@@ -15,9 +15,11 @@ stmt-of-requires-2 : tie.Need-stmt-of-requires-2
 stmt-of-requires-2 c κs = search needs
 
 returns : tie.Need-returns
-returns c = let a = c .before .before .before .before .before .before .before .args in
+returns c =
+    let p = c .before .before .before .before .before .before .before .pre in
+    let a = c .before .before .before .before .before .before .before .args in
     let rs = section 8 (a .z .stmts) (stmtsAt (a .z)) (a .area .now) in
-    fate-beyond rs (a .i) (omega (arith, length-section 8 (a .z .stmts) (stmtsAt (a .z)) (a .area .now), c .before .before .before .before .before .before .before .pre .2)) (a .held .now) (a .first .now) (a .conditions .now) (c .before .before .before .before .before .before .before .pre .3) (omega (arith, c .before .stmt-of2 .ensures .0, c .if1 .taken))
+    fate-beyond rs (a .i) (omega (arith, length-section 8 (a .z .stmts) (stmtsAt (a .z)) (a .area .now), p .2)) (a .held .now) (a .first .now) (a .conditions .now) (p .3) (omega (arith, c .before .stmt-of2 .ensures .0, c .if1 .taken))
 
 add-held : tie.Need-add-held
 add-held c = search needs
@@ -35,9 +37,11 @@ same-length : tie.Need-same-length
 same-length c = search needs
 
 returns-2 : tie.Need-returns-2
-returns-2 c = let a = c .before .before .before .before .before .before .before .before .args in
+returns-2 c =
+    let p = c .before .before .before .before .before .before .before .before .pre in
+    let a = c .before .before .before .before .before .before .before .before .args in
     let rs = section 8 (a .z .stmts) (stmtsAt (a .z)) (a .area .now) in
-    fate-held rs (a .i) (omega (arith, length-section 8 (a .z .stmts) (stmtsAt (a .z)) (a .area .now), c .before .before .before .before .before .before .before .before .pre .2)) (a .held .now) (a .first .now) (a .conditions .now) (c .before .before .before .before .before .before .before .before .pre .3) (c .before .before .stmt-of2 .result) (c .before .before .stmt-of2 .ensures .0) (omega arith) (sym (c .before .before .before .stmt-of .ensures .0) ∙ c .if2 .taken)
+    fate-held rs (a .i) (omega (arith, length-section 8 (a .z .stmts) (stmtsAt (a .z)) (a .area .now), p .2)) (a .held .now) (a .first .now) (a .conditions .now) (p .3) (c .before .before .stmt-of2 .result) (c .before .before .stmt-of2 .ensures .0) (omega arith) (sym (c .before .before .before .stmt-of .ensures .0) ∙ c .if2 .taken)
 
 add-first : tie.Need-add-first
 add-first c = search needs
@@ -58,10 +62,12 @@ slice-read-conditions : tie.Need-slice-read-conditions
 slice-read-conditions c = search needs
 
 add-conditions : tie.Need-add-conditions
-add-conditions c = let a = c .before .before .before .before .before .before .before .before .before .before .args in
+add-conditions c =
+    let p = c .before .before .before .before .before .before .before .before .before .before .pre in
+    let a = c .before .before .before .before .before .before .before .before .before .before .args in
     let rs = section 8 (a .z .stmts) (stmtsAt (a .z)) (a .area .now) in
     let n = length-section 8 (a .z .stmts) (stmtsAt (a .z)) (a .area .now) in
-    omega (arith, n, c .before .before .before .before .before .before .before .before .before .before .pre .0 .stmts, conditions-few rs (a .i) (omega (arith, n, c .before .before .before .before .before .before .before .before .before .before .pre .2)) (a .held .now) (a .first .now) (a .conditions .now) (c .before .before .before .before .before .before .before .before .before .before .pre .3) (c .before .before .before .before .stmt-of2 .result) (c .before .before .before .before .stmt-of2 .ensures .0) (omega arith))
+    omega (arith, n, p .0 .stmts, conditions-few rs (a .i) (omega (arith, n, p .2)) (a .held .now) (a .first .now) (a .conditions .now) (p .3) (c .before .before .before .before .stmt-of2 .result) (c .before .before .before .before .stmt-of2 .ensures .0) (omega arith))
 
 mul-conditions-2 : tie.Need-mul-conditions-2
 mul-conditions-2 c = search needs
@@ -76,14 +82,18 @@ same-length-3 : tie.Need-same-length-3
 same-length-3 c = search needs
 
 returns-3 : tie.Need-returns-3
-returns-3 c = let a = c .before .before .before .before .before .before .before .before .before .before .args in
+returns-3 c =
+    let p = c .before .before .before .before .before .before .before .before .before .before .pre in
+    let a = c .before .before .before .before .before .before .before .before .before .before .args in
     let rs = section 8 (a .z .stmts) (stmtsAt (a .z)) (a .area .now) in
-    fate-first rs (a .i) (omega (arith, length-section 8 (a .z .stmts) (stmtsAt (a .z)) (a .area .now), c .before .before .before .before .before .before .before .before .before .before .pre .2)) (a .held .now) (a .first .now) (a .conditions .now) (c .before .before .before .before .before .before .before .before .before .before .pre .3) (c .before .before .before .before .stmt-of2 .result) (c .before .before .before .before .stmt-of2 .ensures .0) (omega arith) (sym (c .before .before .before .before .before .stmt-of .ensures .0) ∙ c .before .if3 .taken)
+    fate-first rs (a .i) (omega (arith, length-section 8 (a .z .stmts) (stmtsAt (a .z)) (a .area .now), p .2)) (a .held .now) (a .first .now) (a .conditions .now) (p .3) (c .before .before .before .before .stmt-of2 .result) (c .before .before .before .before .stmt-of2 .ensures .0) (omega arith) (sym (c .before .before .before .before .before .stmt-of .ensures .0) ∙ c .before .if3 .taken)
 
 returns-4 : tie.Need-returns-4
-returns-4 c = let a = c .before .before .before .before .before .before .before .before .before .args in
+returns-4 c =
+    let p = c .before .before .before .before .before .before .before .before .before .pre in
+    let a = c .before .before .before .before .before .before .before .before .before .args in
     let rs = section 8 (a .z .stmts) (stmtsAt (a .z)) (a .area .now) in
-    fate-other rs (a .i) (omega (arith, length-section 8 (a .z .stmts) (stmtsAt (a .z)) (a .area .now), c .before .before .before .before .before .before .before .before .before .pre .2)) (a .held .now) (a .first .now) (a .conditions .now) (c .before .before .before .before .before .before .before .before .before .pre .3) (λ e. c .before .if2 .left (c .before .before .before .before .stmt-of .ensures .0 ∙ e)) (λ e. c .if3 .left (c .before .before .before .before .stmt-of .ensures .0 ∙ e))
+    fate-other rs (a .i) (omega (arith, length-section 8 (a .z .stmts) (stmtsAt (a .z)) (a .area .now), p .2)) (a .held .now) (a .first .now) (a .conditions .now) (p .3) (λ e. c .before .if2 .left (c .before .before .before .before .stmt-of .ensures .0 ∙ e)) (λ e. c .if3 .left (c .before .before .before .before .stmt-of .ensures .0 ∙ e))
 
 pub note-fate-spec : {M : Type 1} → statement M
 note-fate-spec =

@@ -21,8 +21,10 @@ sub-i : tie.Need-sub-i Inv-loop μ-loop
 sub-i c = omega arith
 
 note-fate-requires : tie.Need-note-fate-requires Inv-loop μ-loop
-note-fate-requires c κs = let e : c .before .before .before .before .loop .i - 1 + 1 ≡ c .before .before .before .before .loop .i = omega arith in
-    (c .before .before .before .before .before .before .before .before .before .pre .0, c .before .before .before .before .before .before .before .before .before .pre .1, omega (arith, c .before .before .before .before .loop .inv .0), rw e (c .before .before .before .before .loop .inv .1))
+note-fate-requires c κs =
+    let p = c .before .before .before .before .before .before .before .before .before .pre in
+    let e : c .before .before .before .before .loop .i - 1 + 1 ≡ c .before .before .before .before .loop .i = omega arith in
+    (p .0, p .1, omega (arith, c .before .before .before .before .loop .inv .0), rw e (c .before .before .before .before .loop .inv .1))
 
 loop-less : tie.Need-loop-less Inv-loop μ-loop
 loop-less c = omega arith
@@ -40,7 +42,8 @@ same-length-3 : tie.Need-same-length-3 Inv-loop μ-loop
 same-length-3 c = c .before .loop .inv .1 .conditions-long ∙ sym (c .before .before .before .before .before .before .pre .2 .conditions-long)
 
 returns : tie.Need-returns Inv-loop μ-loop
-returns c = let a = c .before .before .before .before .before .before .args in
+returns c =
+    let a = c .before .before .before .before .before .before .args in
     fates-all (section 8 (a .z .stmts) (stmtsAt (a .z)) (a .area .now)) _ _ _ (c .before .loop .i) (omega arith) (c .before .loop .inv .1)
 
 pub note-fates-spec : {M : Type 1} → statement M

@@ -36,7 +36,9 @@ same-length c = search needs
 
 returns : tie.Need-returns
 unfolding stmtsAt varsAt depsAt
-returns c = fate-put (c .before .before .before .before .before .before .before .before .before .before .args .z .stmts) (stmtsAt (c .before .before .before .before .before .before .before .before .before .before .args .z)) (c .before .before .before .before .before .before .before .before .before .before .args .i) (c .before .before .before .before .before .before .before .before .before .before .args .area .now) _ _ _ _ (c .before .before .before .before .before .before .before .before .before .before .args .fate) (c .before .before .before .before .before .before .before .before .before .before .args .v) (omega arith) (omega arith) (λ j. omega (arith, c .before .before .before .before .before .before .before .before .before .slice-known .given j)) (omega (arith, c .before .before .before .before .before .before .before .before .stmts-at .ensures)) (omega (arith, c .before .before .before .before .before .before .before .before .stmts-at .ensures)) (c .before .before .before .before .before .before .put-word .ensures) (c .before .before .put-word2 .ensures)
+returns c =
+    let a = c .before .before .before .before .before .before .before .before .before .before .args in
+    fate-put (a .z .stmts) (stmtsAt (a .z)) (a .i) (a .area .now) _ _ _ _ (a .fate) (a .v) (omega arith) (omega arith) (λ j. omega (arith, c .before .before .before .before .before .before .before .before .before .slice-known .given j)) (omega (arith, c .before .before .before .before .before .before .before .before .stmts-at .ensures)) (omega (arith, c .before .before .before .before .before .before .before .before .stmts-at .ensures)) (c .before .before .before .before .before .before .put-word .ensures) (c .before .before .put-word2 .ensures)
 
 pub put-fate-spec : {M : Type 1} → statement M
 put-fate-spec =

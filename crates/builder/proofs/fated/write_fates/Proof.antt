@@ -28,14 +28,18 @@ loop-less c = omega arith
 
 loop-again : tie.Need-loop-again Inv-loop μ-loop
 unfolding stmtsAt varsAt depsAt
-loop-again c = let l : stmtsAt (c .before .before .before .before .before .before .before .before .before .before .args .z) + 32 * c .before .before .before .before .before .before .before .before .before .before .args .z .stmts ≤ length (c .before .before .before .before .before .before .loop .area) = omega (arith, c .before .before .before .before .before .before .loop .inv .2) in
-    (omega arith, c .before .before .write-fate .ensures .1, c .before .before .write-fate .kept .0 ∙ c .before .before .before .before .before .before .loop .inv .2, sym (rest-more (c .before .before .before .before .before .before .before .before .before .before .args .z .stmts) (stmtsAt (c .before .before .before .before .before .before .before .before .before .before .args .z)) (take (c .before .before .before .before .before .before .before .before .before .before .args .queued) (c .before .before .before .before .before .before .before .before .before .before .args .states .now)) (c .before .before .before .before .before .before .before .before .before .before .args .roles .now) (c .before .before .before .before .before .before .loop .area) _ (c .before .before .before .before .before .before .loop .i) (c .before .before .before .before .before .before .loop .paired) _ (omega arith) (omega arith) l (c .before .before .write-fate .ensures .0) (c .before .before .write-fate .ensures .2)) ∙ c .before .before .before .before .before .before .loop .inv .3)
+loop-again c =
+    let a = c .before .before .before .before .before .before .before .before .before .before .args in
+    let l : stmtsAt (a .z) + 32 * a .z .stmts ≤ length (c .before .before .before .before .before .before .loop .area) = omega (arith, c .before .before .before .before .before .before .loop .inv .2) in
+    (omega arith, c .before .before .write-fate .ensures .1, c .before .before .write-fate .kept .0 ∙ c .before .before .before .before .before .before .loop .inv .2, sym (rest-more (a .z .stmts) (stmtsAt (a .z)) (take (a .queued) (a .states .now)) (a .roles .now) (c .before .before .before .before .before .before .loop .area) _ (c .before .before .before .before .before .before .loop .i) (c .before .before .before .before .before .before .loop .paired) _ (omega arith) (omega arith) l (c .before .before .write-fate .ensures .0) (c .before .before .write-fate .ensures .2)) ∙ c .before .before .before .before .before .before .loop .inv .3)
 
 same-length : tie.Need-same-length Inv-loop μ-loop
 same-length c = c .before .before .loop .inv .2
 
 returns : tie.Need-returns Inv-loop μ-loop
-returns c = sym (rest-none (c .before .before .before .before .before .before .args .z .stmts) (stmtsAt (c .before .before .before .before .before .before .args .z)) (take (c .before .before .before .before .before .before .args .queued) (c .before .before .before .before .before .before .args .states .now)) (c .before .before .before .before .before .before .args .roles .now) (c .before .before .loop .area) (c .before .before .loop .i) (c .before .before .loop .paired) (omega arith)) ∙ c .before .before .loop .inv .3 ∙ rest-all (c .before .before .before .before .before .before .args .z .stmts) (stmtsAt (c .before .before .before .before .before .before .args .z)) (take (c .before .before .before .before .before .before .args .queued) (c .before .before .before .before .before .before .args .states .now)) (c .before .before .before .before .before .before .args .roles .now) (c .before .before .before .before .before .before .args .area .now)
+returns c =
+    let a = c .before .before .before .before .before .before .args in
+    sym (rest-none (a .z .stmts) (stmtsAt (a .z)) (take (a .queued) (a .states .now)) (a .roles .now) (c .before .before .loop .area) (c .before .before .loop .i) (c .before .before .loop .paired) (omega arith)) ∙ c .before .before .loop .inv .3 ∙ rest-all (a .z .stmts) (stmtsAt (a .z)) (take (a .queued) (a .states .now)) (a .roles .now) (a .area .now)
 
 pub write-fates-spec : {M : Type 1} → statement M
 write-fates-spec =

@@ -26,7 +26,7 @@ use Rattle.builder.proofs.flatten.write_stmt_nodes.Kinds as write-stmt-
 use Rattle.builder.proofs.flatten.+write_nodes+write_stmt_nodes.Lts-write_stmt_nodes as write-stmt-nodes-lts
 use Rattle.ast.proofs.records.model.Reads as model-reads
 use Rattle.ast.proofs.records.stmt.Reads as stmt-reads
-use Rattle.builder.proofs.flatten.find_replacements.Reads as find-replacements-reads
+use Rattle.builder.proofs.replacements.find_replacements.Reads as find-replacements-reads
 use Rattle.builder.proofs.flatten.write_own.Reads as write-own-reads
 use Rattle.builder.proofs.flatten.+write_nodes+write_stmt_nodes.{statement}
 use Rattle.builder.proofs.flatten.+write_nodes+write_stmt_nodes.Tie.{close}
@@ -68,26 +68,43 @@ abbrev write-nodes-μ-loop : write-nodes-lts.MeasureT-loop
 write-nodes-μ-loop f s calls rows₀ k m level out₀ done first count total₀ i₀ rows out total i = count - i
 
 write-nodes-returns : (t : ℕ) → write-nodes-lts.Need-returns (model-reads.Asked, model-reads.Learnt, write-stmt-nodes-below t, write-stmt-nodes.Post) (write-nodes-at t) write-nodes.Post write-nodes-Inv-loop write-nodes-μ-loop
-write-nodes-returns t c = let e = nothing-put (c .before .before .before .before .args .out .now) (c .before .before .before .before .args .done) _ (flat-zero (fileIn (c .before .before .before .before .args .f .now) (c .before .before .before .before .args .s)) (levelsOf (contentsIn (c .before .before .before .before .args .f .now) (c .before .before .before .before .args .s) .nodes) (c .before .before .before .before .args .rows .now) (c .before .before .before .before .args .level)) (c .before .before .before .before .args .k) (c .before .before .before .before .args .m) (c .if1 .taken)) in (e .0, e .1, (refl, refl, c .before .before .before .before .pre .1 .3 .2))
+write-nodes-returns t c =
+    let a = c .before .before .before .before .args in
+    let e = nothing-put (a .out .now) (a .done) _ (flat-zero (fileIn (a .f .now) (a .s)) (levelsOf (contentsIn (a .f .now) (a .s) .nodes) (a .rows .now) (a .level)) (a .k) (a .m) (c .if1 .taken)) in
+    (e .0, e .1, (refl, refl, c .before .before .before .before .pre .1 .3 .2))
 
 write-nodes-model-requires : (t : ℕ) → write-nodes-lts.Need-model-requires (model-reads.Asked, model-reads.Learnt, write-stmt-nodes-below t, write-stmt-nodes.Post) (write-nodes-at t) write-nodes.Post write-nodes-Inv-loop write-nodes-μ-loop
-write-nodes-model-requires t c κs = (c .before .before .before .before .pre .1 .0, (c .before .before .before .before .pre .1 .2, omega arith))
+write-nodes-model-requires t c κs =
+    let p = c .before .before .before .before .pre in
+    (p .1 .0, (p .1 .2, omega arith))
 
 write-nodes-model-requires-2 : (t : ℕ) → write-nodes-lts.Need-model-requires-2 (model-reads.Asked, model-reads.Learnt, write-stmt-nodes-below t, write-stmt-nodes.Post) (write-nodes-at t) write-nodes.Post write-nodes-Inv-loop write-nodes-μ-loop
-write-nodes-model-requires-2 t c κs = (c .before .before .before .before .before .pre .1 .0, (c .before .before .before .before .before .pre .1 .2, omega arith))
+write-nodes-model-requires-2 t c κs =
+    let p = c .before .before .before .before .before .pre in
+    (p .1 .0, (p .1 .2, omega arith))
 
 write-nodes-loop-holds : (t : ℕ) → write-nodes-lts.Need-loop-holds (model-reads.Asked, model-reads.Learnt, write-stmt-nodes-below t, write-stmt-nodes.Post) (write-nodes-at t) write-nodes.Post write-nodes-Inv-loop write-nodes-μ-loop
-write-nodes-loop-holds t c = putting-start (c .before .before .before .before .before .before .args .f .now) (c .before .before .before .before .before .before .args .s) (c .before .before .before .before .before .before .args .k) (c .before .before .before .before .before .before .args .m) (c .before .before .before .before .before .before .args .rows .now) (c .before .before .before .before .before .before .args .level) (c .before .before .before .before .before .before .args .out .now) (c .before .before .before .before .before .before .args .done) (c .before .before .if1 .left) (c .before .before .before .before .before .before .pre .1 .3 .2)
+write-nodes-loop-holds t c =
+    let a = c .before .before .before .before .before .before .args in
+    putting-start (a .f .now) (a .s) (a .k) (a .m) (a .rows .now) (a .level) (a .out .now) (a .done) (c .before .before .if1 .left) (c .before .before .before .before .before .before .pre .1 .3 .2)
 
 write-nodes-sub-write-stmt-nodes : (t : ℕ) → write-nodes-lts.Need-sub-write-stmt-nodes (model-reads.Asked, model-reads.Learnt, write-stmt-nodes-below t, write-stmt-nodes.Post) (write-nodes-at t) write-nodes.Post write-nodes-Inv-loop write-nodes-μ-loop
 write-nodes-sub-write-stmt-nodes t c = omega (arith, c .before .before .before .before .before .if1 .left)
 
 write-nodes-add-write-stmt-nodes : (t : ℕ) → write-nodes-lts.Need-add-write-stmt-nodes (model-reads.Asked, model-reads.Learnt, write-stmt-nodes-below t, write-stmt-nodes.Post) (write-nodes-at t) write-nodes.Post write-nodes-Inv-loop write-nodes-μ-loop
-write-nodes-add-write-stmt-nodes t c = omega (arith, model-is (c .before .before .before .before .before .before .before .before .before .args .f .now) (c .before .before .before .before .before .before .before .before .before .args .s) (c .before .before .before .before .before .before .before .before .before .pre .1 .0) (c .before .before .before .before .before .before .before .before .before .args .m) (c .before .before .before .before .before .before .before .before .before .pre .1 .2) .stmts-within, c .before .before .before .before .model .ensures .0, c .before .before .before .model2 .ensures .0, c .before .before .before .before .before .before .before .before .before .pre .1 .0 .laid .within .stmts)
+write-nodes-add-write-stmt-nodes t c =
+    let a = c .before .before .before .before .before .before .before .before .before .args in
+    let p = c .before .before .before .before .before .before .before .before .before .pre in
+    omega (arith, model-is (a .f .now) (a .s) (p .1 .0) (a .m) (p .1 .2) .stmts-within, c .before .before .before .before .model .ensures .0, c .before .before .before .model2 .ensures .0, p .1 .0 .laid .within .stmts)
 
 write-nodes-write-stmt-nodes-requires : (t : ℕ) → write-nodes-lts.Need-write-stmt-nodes-requires (model-reads.Asked, model-reads.Learnt, write-stmt-nodes-below t, write-stmt-nodes.Post) (write-nodes-at t) write-nodes.Post write-nodes-Inv-loop write-nodes-μ-loop
-write-nodes-write-stmt-nodes-requires t c κs = let p = c .before .before .before .before .before .before .before .before .before .before .pre .1 in let v = c .before .before .before .loop .inv in let z = putting-room (c .before .before .before .before .before .before .before .before .before .before .args .f .now) (c .before .before .before .before .before .before .before .before .before .before .args .s) (c .before .before .before .before .before .before .before .before .before .before .args .k) (c .before .before .before .before .before .before .before .before .before .before .args .m) (c .before .before .before .before .before .before .before .before .before .before .args .rows .now) (c .before .before .before .before .before .before .before .before .before .before .args .level) (c .before .before .before .before .before .before .before .before .before .before .args .out .now) (c .before .before .before .before .before .before .before .before .before .before .args .done) (c .before .before .before .before .before .before .before .before .before .before .pre .1 .0) (c .before .before .before .before .before .before .before .before .before .before .pre .1 .2) (c .before .before .before .before .before .before .before .before .before .before .pre .1 .4 .1) _ _ _ _ v _ (omega (arith, c .before .before .loop-test .taken, c .before .before .before .before .model2 .ensures .0)) (c .before .before .before .before .before .model .ensures .0) in
-    (omega (arith, c .before .before .before .before .before .before .before .before .before .before .pre .0, c .before .before .before .before .before .before .if1 .left), (p .0, p .1, omega (arith, model-is (c .before .before .before .before .before .before .before .before .before .before .args .f .now) (c .before .before .before .before .before .before .before .before .before .before .args .s) (c .before .before .before .before .before .before .before .before .before .before .pre .1 .0) (c .before .before .before .before .before .before .before .before .before .before .args .m) (c .before .before .before .before .before .before .before .before .before .before .pre .1 .2) .stmts-within, c .before .before .before .before .before .model .ensures .0, c .before .before .before .before .model2 .ensures .0), (omega (arith, p .3 .0, c .before .before .before .before .before .before .if1 .left), omega (arith, p .3 .1, v .long, c .before .before .before .before .before .before .if1 .left), v .fit), (omega (arith, z, p .4 .0), omega (arith, z, p .4 .1, v .room))))
+write-nodes-write-stmt-nodes-requires t c κs =
+    let a = c .before .before .before .before .before .before .before .before .before .before .args in
+    let pre = c .before .before .before .before .before .before .before .before .before .before .pre in
+    let p = pre .1 in
+    let v = c .before .before .before .loop .inv in
+    let z = putting-room (a .f .now) (a .s) (a .k) (a .m) (a .rows .now) (a .level) (a .out .now) (a .done) (pre .1 .0) (pre .1 .2) (pre .1 .4 .1) _ _ _ _ v _ (omega (arith, c .before .before .loop-test .taken, c .before .before .before .before .model2 .ensures .0)) (c .before .before .before .before .before .model .ensures .0) in
+    (omega (arith, pre .0, c .before .before .before .before .before .before .if1 .left), (p .0, p .1, omega (arith, model-is (a .f .now) (a .s) (pre .1 .0) (a .m) (pre .1 .2) .stmts-within, c .before .before .before .before .before .model .ensures .0, c .before .before .before .before .model2 .ensures .0), (omega (arith, p .3 .0, c .before .before .before .before .before .before .if1 .left), omega (arith, p .3 .1, v .long, c .before .before .before .before .before .before .if1 .left), v .fit), (omega (arith, z, p .4 .0), omega (arith, z, p .4 .1, v .room))))
 
 write-nodes-add-i : (t : ℕ) → write-nodes-lts.Need-add-i (model-reads.Asked, model-reads.Learnt, write-stmt-nodes-below t, write-stmt-nodes.Post) (write-nodes-at t) write-nodes.Post write-nodes-Inv-loop write-nodes-μ-loop
 write-nodes-add-i t c = omega arith
@@ -96,7 +113,10 @@ write-nodes-loop-less : (t : ℕ) → write-nodes-lts.Need-loop-less (model-read
 write-nodes-loop-less t c = omega arith
 
 write-nodes-loop-again : (t : ℕ) → write-nodes-lts.Need-loop-again (model-reads.Asked, model-reads.Learnt, write-stmt-nodes-below t, write-stmt-nodes.Post) (write-nodes-at t) write-nodes.Post write-nodes-Inv-loop write-nodes-μ-loop
-write-nodes-loop-again t c = putting-step (c .before .before .before .before .before .before .before .before .before .before .before .before .before .before .before .args .f .now) (c .before .before .before .before .before .before .before .before .before .before .before .before .before .before .before .args .s) (c .before .before .before .before .before .before .before .before .before .before .before .before .before .before .before .args .k) (c .before .before .before .before .before .before .before .before .before .before .before .before .before .before .before .args .m) (c .before .before .before .before .before .before .before .before .before .before .before .before .before .before .before .args .rows .now) (c .before .before .before .before .before .before .before .before .before .before .before .before .before .before .before .args .level) (c .before .before .before .before .before .before .before .before .before .before .before .before .before .before .before .args .out .now) (c .before .before .before .before .before .before .before .before .before .before .before .before .before .before .before .args .done) (c .before .before .before .before .before .before .before .before .before .before .before .before .before .before .before .pre .1 .0) (c .before .before .before .before .before .before .before .before .before .before .before .before .before .before .before .pre .1 .2) (c .before .before .before .before .before .before .before .before .before .before .before .before .before .before .before .pre .1 .4 .1) _ _ _ _ (c .before .before .before .before .before .before .before .before .loop .inv) _ (omega (arith, c .before .before .before .before .before .before .before .loop-test .taken, c .before .before .before .before .before .before .before .before .before .model2 .ensures .0)) (c .before .before .before .before .before .before .before .before .before .before .model .ensures .0) _ _ _ (c .before .before .before .before .write-stmt-nodes .ensures)
+write-nodes-loop-again t c =
+    let a = c .before .before .before .before .before .before .before .before .before .before .before .before .before .before .before .args in
+    let p = c .before .before .before .before .before .before .before .before .before .before .before .before .before .before .before .pre in
+    putting-step (a .f .now) (a .s) (a .k) (a .m) (a .rows .now) (a .level) (a .out .now) (a .done) (p .1 .0) (p .1 .2) (p .1 .4 .1) _ _ _ _ (c .before .before .before .before .before .before .before .before .loop .inv) _ (omega (arith, c .before .before .before .before .before .before .before .loop-test .taken, c .before .before .before .before .before .before .before .before .before .model2 .ensures .0)) (c .before .before .before .before .before .before .before .before .before .before .model .ensures .0) _ _ _ (c .before .before .before .before .write-stmt-nodes .ensures)
 
 write-nodes-same-length : (t : ℕ) → write-nodes-lts.Need-same-length (model-reads.Asked, model-reads.Learnt, write-stmt-nodes-below t, write-stmt-nodes.Post) (write-nodes-at t) write-nodes.Post write-nodes-Inv-loop write-nodes-μ-loop
 write-nodes-same-length t c = c .before .loop .inv .long
@@ -105,13 +125,23 @@ write-nodes-same-length-2 : (t : ℕ) → write-nodes-lts.Need-same-length-2 (mo
 write-nodes-same-length-2 t c = c .before .loop .inv .room
 
 write-nodes-returns-2 : (t : ℕ) → write-nodes-lts.Need-returns-2 (model-reads.Asked, model-reads.Learnt, write-stmt-nodes-below t, write-stmt-nodes.Post) (write-nodes-at t) write-nodes.Post write-nodes-Inv-loop write-nodes-μ-loop
-write-nodes-returns-2 t c = let v = c .before .loop .inv in let e = putting-end (c .before .before .before .before .before .before .before .before .args .f .now) (c .before .before .before .before .before .before .before .before .args .s) (c .before .before .before .before .before .before .before .before .args .k) (c .before .before .before .before .before .before .before .before .args .m) (c .before .before .before .before .before .before .before .before .args .rows .now) (c .before .before .before .before .before .before .before .before .args .level) (c .before .before .before .before .before .before .before .before .args .out .now) (c .before .before .before .before .before .before .before .before .args .done) (c .before .before .before .before .before .before .before .before .pre .1 .0) (c .before .before .before .before .before .before .before .before .pre .1 .2) (c .before .before .before .before .before .before .before .before .pre .1 .4 .1) _ _ _ _ v (omega (arith, c .before .before .model2 .ensures .0)) in (e .0, e .1, (v .long, v .kept, v .fit))
+write-nodes-returns-2 t c =
+    let a = c .before .before .before .before .before .before .before .before .args in
+    let p = c .before .before .before .before .before .before .before .before .pre in
+    let v = c .before .loop .inv in
+    let e = putting-end (a .f .now) (a .s) (a .k) (a .m) (a .rows .now) (a .level) (a .out .now) (a .done) (p .1 .0) (p .1 .2) (p .1 .4 .1) _ _ _ _ v (omega (arith, c .before .before .model2 .ensures .0)) in
+    (e .0, e .1, (v .long, v .kept, v .fit))
 
 write-stmt-nodes-stmt-requires : (t : ℕ) → write-stmt-nodes-lts.Need-stmt-requires (stmt-reads.Asked, stmt-reads.Learnt, write-own-reads.Asked, write-own-reads.Learnt, find-replacements-reads.Asked, find-replacements-reads.Learnt, write-nodes-below t, write-nodes.Post) (write-stmt-nodes-at t) write-stmt-nodes.Post
-write-stmt-nodes-stmt-requires t c κs = (c .before .before .before .pre .1 .0, (c .before .before .before .pre .1 .2, omega arith))
+write-stmt-nodes-stmt-requires t c κs =
+    let p = c .before .before .before .pre in
+    (p .1 .0, (p .1 .2, omega arith))
 
 write-stmt-nodes-write-own-requires : (t : ℕ) → write-stmt-nodes-lts.Need-write-own-requires (stmt-reads.Asked, stmt-reads.Learnt, write-own-reads.Asked, write-own-reads.Learnt, find-replacements-reads.Asked, find-replacements-reads.Learnt, write-nodes-below t, write-nodes.Post) (write-stmt-nodes-at t) write-stmt-nodes.Post
-write-stmt-nodes-write-own-requires t c κs = let p = c .before .before .before .before .before .before .before .pre .1 in (p .0, (p .2, λ e. c .before .before .if1 .taken (c .before .before .before .stmt .ensures .0 ∙ e)), (omega (arith, p .3 .0), omega (arith, p .3 .1), p .3 .2), ((λ j. flatten (fileIn (c .before .before .before .before .before .before .before .args .f .now) (c .before .before .before .before .before .before .before .args .s)) (c .before .before .before .before .before .before .before .args .k) j), p .4))
+write-stmt-nodes-write-own-requires t c κs =
+    let a = c .before .before .before .before .before .before .before .args in
+    let p = c .before .before .before .before .before .before .before .pre .1 in
+    (p .0, (p .2, λ e. c .before .before .if1 .taken (c .before .before .before .stmt .ensures .0 ∙ e)), (omega (arith, p .3 .0), omega (arith, p .3 .1), p .3 .2), ((λ j. flatten (fileIn (a .f .now) (a .s)) (a .k) j), p .4))
 
 write-stmt-nodes-same-length : (t : ℕ) → write-stmt-nodes-lts.Need-same-length (stmt-reads.Asked, stmt-reads.Learnt, write-own-reads.Asked, write-own-reads.Learnt, find-replacements-reads.Asked, find-replacements-reads.Learnt, write-nodes-below t, write-nodes.Post) (write-stmt-nodes-at t) write-stmt-nodes.Post
 write-stmt-nodes-same-length t c = search needs
@@ -120,37 +150,63 @@ write-stmt-nodes-same-length-2 : (t : ℕ) → write-stmt-nodes-lts.Need-same-le
 write-stmt-nodes-same-length-2 t c = search needs
 
 write-stmt-nodes-returns : (t : ℕ) → write-stmt-nodes-lts.Need-returns (stmt-reads.Asked, stmt-reads.Learnt, write-own-reads.Asked, write-own-reads.Learnt, find-replacements-reads.Asked, find-replacements-reads.Learnt, write-nodes-below t, write-nodes.Post) (write-stmt-nodes-at t) write-stmt-nodes.Post
-write-stmt-nodes-returns t c = let e = c .before .before .write-own .ensures (λ j. flatten (fileIn (c .before .before .before .before .before .before .before .before .before .before .args .f .now) (c .before .before .before .before .before .before .before .before .before .before .args .s)) (c .before .before .before .before .before .before .before .before .before .before .args .k) j) in (e .0, e .1, (refl, refl, c .before .before .before .before .before .before .before .before .before .before .pre .1 .3 .2))
+write-stmt-nodes-returns t c =
+    let a = c .before .before .before .before .before .before .before .before .before .before .args in
+    let e = c .before .before .write-own .ensures (λ j. flatten (fileIn (a .f .now) (a .s)) (a .k) j) in
+    (e .0, e .1, (refl, refl, c .before .before .before .before .before .before .before .before .before .before .pre .1 .3 .2))
 
 write-stmt-nodes-element-copy-out-c : (t : ℕ) → write-stmt-nodes-lts.Need-element-copy-out-c (stmt-reads.Asked, stmt-reads.Learnt, write-own-reads.Asked, write-own-reads.Learnt, find-replacements-reads.Asked, find-replacements-reads.Learnt, write-nodes-below t, write-nodes.Post) (write-stmt-nodes-at t) write-stmt-nodes.Post
-write-stmt-nodes-element-copy-out-c t c = omega (arith, c .before .before .before .before .before .pre .1 .2, c .before .before .before .before .before .pre .1 .0 .laid .within .stmts)
+write-stmt-nodes-element-copy-out-c t c =
+    let p = c .before .before .before .before .before .pre in
+    omega (arith, p .1 .2, p .1 .0 .laid .within .stmts)
 
 write-stmt-nodes-cast-c : (t : ℕ) → write-stmt-nodes-lts.Need-cast-c (stmt-reads.Asked, stmt-reads.Learnt, write-own-reads.Asked, write-own-reads.Learnt, find-replacements-reads.Asked, find-replacements-reads.Learnt, write-nodes-below t, write-nodes.Post) (write-stmt-nodes-at t) write-stmt-nodes.Post
-write-stmt-nodes-cast-c t c = omega (arith, called-within (c .before .before .before .before .before .before .args .f .now) (c .before .before .before .before .before .before .args .s) (c .before .before .before .before .before .before .pre .1 .0) (c .before .before .before .before .before .before .args .q) (c .before .before .before .before .before .before .pre .1 .2) (c .before .before .before .before .before .before .args .calls .now) (c .before .before .before .before .before .before .pre .1 .1) _ refl (sym (c .before .before .stmt .ensures .0) ∙ c .before .if1 .left), c .before .before .before .before .before .before .pre .1 .0 .laid .within .models)
+write-stmt-nodes-cast-c t c =
+    let a = c .before .before .before .before .before .before .args in
+    let p = c .before .before .before .before .before .before .pre in
+    omega (arith, called-within (a .f .now) (a .s) (p .1 .0) (a .q) (p .1 .2) (a .calls .now) (p .1 .1) _ refl (sym (c .before .before .stmt .ensures .0) ∙ c .before .if1 .left), p .1 .0 .laid .within .models)
 
 write-stmt-nodes-returns-2 : (t : ℕ) → write-stmt-nodes-lts.Need-returns-2 (stmt-reads.Asked, stmt-reads.Learnt, write-own-reads.Asked, write-own-reads.Learnt, find-replacements-reads.Asked, find-replacements-reads.Learnt, write-nodes-below t, write-nodes.Post) (write-stmt-nodes-at t) write-stmt-nodes.Post
-write-stmt-nodes-returns-2 t c = let e = nothing-put (c .before .before .before .before .before .before .before .args .out .now) (c .before .before .before .before .before .before .before .args .done) _ (brought-none (c .before .before .before .before .before .before .before .args .f .now) (c .before .before .before .before .before .before .before .args .s) (c .before .before .before .before .before .before .before .pre .1 .0) (c .before .before .before .before .before .before .before .args .q) (c .before .before .before .before .before .before .before .pre .1 .2) (sym (c .before .before .before .stmt .ensures .0) ∙ c .before .before .if1 .left) (levelsOf (contentsIn (c .before .before .before .before .before .before .before .args .f .now) (c .before .before .before .before .before .before .before .args .s) .nodes) (c .before .before .before .before .before .before .before .args .rows .now) (c .before .before .before .before .before .before .before .args .level)) (c .before .before .before .before .before .before .before .args .calls .now) (c .before .before .before .before .before .before .before .pre .1 .1) _ refl (c .before .before .before .before .before .before .before .args .k) (either-zero (getD (c .before .before .before .before .before .before .before .args .calls .now) (c .before .before .before .before .before .before .before .args .q) 0) (c .before .before .before .before .before .before .before .args .k) (c .if2 .taken))) in (e .0, e .1, (refl, refl, c .before .before .before .before .before .before .before .pre .1 .3 .2))
+write-stmt-nodes-returns-2 t c =
+    let a = c .before .before .before .before .before .before .before .args in
+    let p = c .before .before .before .before .before .before .before .pre in
+    let e = nothing-put (a .out .now) (a .done) _ (brought-none (a .f .now) (a .s) (p .1 .0) (a .q) (p .1 .2) (sym (c .before .before .before .stmt .ensures .0) ∙ c .before .before .if1 .left) (levelsOf (contentsIn (a .f .now) (a .s) .nodes) (a .rows .now) (a .level)) (a .calls .now) (p .1 .1) _ refl (a .k) (either-zero (getD (a .calls .now) (a .q) 0) (a .k) (c .if2 .taken))) in
+    (e .0, e .1, (refl, refl, p .1 .3 .2))
 
 write-stmt-nodes-sub-find-replacements : (t : ℕ) → write-stmt-nodes-lts.Need-sub-find-replacements (stmt-reads.Asked, stmt-reads.Learnt, write-own-reads.Asked, write-own-reads.Learnt, find-replacements-reads.Asked, find-replacements-reads.Learnt, write-nodes-below t, write-nodes.Post) (write-stmt-nodes-at t) write-stmt-nodes.Post
-write-stmt-nodes-sub-find-replacements t c = omega (arith, (neither-zero (getD (c .before .before .before .before .before .before .before .args .calls .now) (c .before .before .before .before .before .before .before .args .q) 0) (c .before .before .before .before .before .before .before .args .k) (c .if2 .left) .0))
+write-stmt-nodes-sub-find-replacements t c =
+    let a = c .before .before .before .before .before .before .before .args in
+    omega (arith, (neither-zero (getD (a .calls .now) (a .q) 0) (a .k) (c .if2 .left) .0))
 
 write-stmt-nodes-stmt-requires-2 : (t : ℕ) → write-stmt-nodes-lts.Need-stmt-requires-2 (stmt-reads.Asked, stmt-reads.Learnt, write-own-reads.Asked, write-own-reads.Learnt, find-replacements-reads.Asked, find-replacements-reads.Learnt, write-nodes-below t, write-nodes.Post) (write-stmt-nodes-at t) write-stmt-nodes.Post
-write-stmt-nodes-stmt-requires-2 t c κs = (c .before .before .before .before .before .before .before .pre .1 .0, (c .before .before .before .before .before .before .before .pre .1 .2, omega arith))
+write-stmt-nodes-stmt-requires-2 t c κs =
+    let p = c .before .before .before .before .before .before .before .pre in
+    (p .1 .0, (p .1 .2, omega arith))
 
 write-stmt-nodes-find-replacements-requires :
     (t : ℕ) → write-stmt-nodes-lts.Need-find-replacements-requires (stmt-reads.Asked, stmt-reads.Learnt, write-own-reads.Asked, write-own-reads.Learnt, find-replacements-reads.Asked, find-replacements-reads.Learnt, write-nodes-below t, write-nodes.Post) (write-stmt-nodes-at t) write-stmt-nodes.Post
-write-stmt-nodes-find-replacements-requires t c κs = let p = c .before .before .before .before .before .before .before .before .before .pre .1 in (p .0, called-some (c .before .before .before .before .before .before .before .before .before .args .f .now) (c .before .before .before .before .before .before .before .before .before .args .s) (c .before .before .before .before .before .before .before .before .before .pre .1 .0) (c .before .before .before .before .before .before .before .before .before .args .q) (c .before .before .before .before .before .before .before .before .before .pre .1 .2) (c .before .before .before .before .before .before .before .before .before .args .calls .now) (c .before .before .before .before .before .before .before .before .before .pre .1 .1) _ refl (sym (c .before .before .before .before .before .stmt .ensures .0) ∙ c .before .before .before .before .if1 .left) (neither-zero (getD (c .before .before .before .before .before .before .before .before .before .args .calls .now) (c .before .before .before .before .before .before .before .before .before .args .q) 0) (c .before .before .before .before .before .before .before .before .before .args .k) (c .before .before .if2 .left) .0) .1, rw (c .before .stmt2 .ensures .0) (submodel-call (c .before .before .before .before .before .before .before .before .before .args .f .now) (c .before .before .before .before .before .before .before .before .before .args .s) (c .before .before .before .before .before .before .before .before .before .pre .1 .0) (c .before .before .before .before .before .before .before .before .before .args .q) (c .before .before .before .before .before .before .before .before .before .pre .1 .2) (sym (c .before .before .before .before .before .stmt .ensures .0) ∙ c .before .before .before .before .if1 .left)), (omega (arith, p .3 .0), omega (arith, p .3 .1), p .3 .2))
+write-stmt-nodes-find-replacements-requires t c κs =
+    let a = c .before .before .before .before .before .before .before .before .before .args in
+    let pre = c .before .before .before .before .before .before .before .before .before .pre in
+    let p = pre .1 in
+    (p .0, called-some (a .f .now) (a .s) (pre .1 .0) (a .q) (pre .1 .2) (a .calls .now) (pre .1 .1) _ refl (sym (c .before .before .before .before .before .stmt .ensures .0) ∙ c .before .before .before .before .if1 .left) (neither-zero (getD (a .calls .now) (a .q) 0) (a .k) (c .before .before .if2 .left) .0) .1, rw (c .before .stmt2 .ensures .0) (submodel-call (a .f .now) (a .s) (pre .1 .0) (a .q) (pre .1 .2) (sym (c .before .before .before .before .before .stmt .ensures .0) ∙ c .before .before .before .before .if1 .left)), (omega (arith, p .3 .0), omega (arith, p .3 .1), p .3 .2))
 
 write-stmt-nodes-sub-write-nodes : (t : ℕ) → write-stmt-nodes-lts.Need-sub-write-nodes (stmt-reads.Asked, stmt-reads.Learnt, write-own-reads.Asked, write-own-reads.Learnt, find-replacements-reads.Asked, find-replacements-reads.Learnt, write-nodes-below t, write-nodes.Post) (write-stmt-nodes-at t) write-stmt-nodes.Post
-write-stmt-nodes-sub-write-nodes t c = omega (arith, (neither-zero (getD (c .before .before .before .before .before .before .before .before .before .before .before .before .before .args .calls .now) (c .before .before .before .before .before .before .before .before .before .before .before .before .before .args .q) 0) (c .before .before .before .before .before .before .before .before .before .before .before .before .before .args .k) (c .before .before .before .before .before .before .if2 .left) .0))
+write-stmt-nodes-sub-write-nodes t c =
+    let a = c .before .before .before .before .before .before .before .before .before .before .before .before .before .args in
+    omega (arith, (neither-zero (getD (a .calls .now) (a .q) 0) (a .k) (c .before .before .before .before .before .before .if2 .left) .0))
 
 write-stmt-nodes-add-write-nodes : (t : ℕ) → write-stmt-nodes-lts.Need-add-write-nodes (stmt-reads.Asked, stmt-reads.Learnt, write-own-reads.Asked, write-own-reads.Learnt, find-replacements-reads.Asked, find-replacements-reads.Learnt, write-nodes-below t, write-nodes.Post) (write-stmt-nodes-at t) write-stmt-nodes.Post
 write-stmt-nodes-add-write-nodes t c = omega (arith, c .before .before .before .before .before .before .before .before .before .before .before .before .before .pre .1 .3 .0)
 
 write-stmt-nodes-write-nodes-requires : (t : ℕ) → write-stmt-nodes-lts.Need-write-nodes-requires (stmt-reads.Asked, stmt-reads.Learnt, write-own-reads.Asked, write-own-reads.Learnt, find-replacements-reads.Asked, find-replacements-reads.Learnt, write-nodes-below t, write-nodes.Post) (write-stmt-nodes-at t) write-stmt-nodes.Post
-write-stmt-nodes-write-nodes-requires t c κs = let p = c .before .before .before .before .before .before .before .before .before .before .before .before .before .before .pre .1 in let g = c .before .before .before .before .find-replacements .ensures in
-    let z = ap (sumOf flatSize) (deeper (c .before .before .before .before .before .before .before .before .before .before .before .before .before .before .args .f .now) (c .before .before .before .before .before .before .before .before .before .before .before .before .before .before .args .s) (c .before .before .before .before .before .before .before .before .before .before .before .before .before .before .pre .1 .0) (c .before .before .before .before .before .before .before .before .before .before .before .before .before .before .args .q) (c .before .before .before .before .before .before .before .before .before .before .before .before .before .before .pre .1 .2) (sym (c .before .before .before .before .before .before .before .before .before .before .stmt .ensures .0) ∙ c .before .before .before .before .before .before .before .before .before .if1 .left) (levelsOf (contentsIn (c .before .before .before .before .before .before .before .before .before .before .before .before .before .before .args .f .now) (c .before .before .before .before .before .before .before .before .before .before .before .before .before .before .args .s) .nodes) (c .before .before .before .before .before .before .before .before .before .before .before .before .before .before .args .rows .now) (c .before .before .before .before .before .before .before .before .before .before .before .before .before .before .args .level)) (c .before .before .before .before .before .before .before .before .before .before .before .before .before .before .args .calls .now) (c .before .before .before .before .before .before .before .before .before .before .before .before .before .before .pre .1 .1) _ refl (c .before .before .before .before .before .before .before .before .before .before .before .before .before .before .args .rows .now) _ (c .before .before .before .before .before .before .before .before .before .before .before .before .before .before .args .level) (c .before .before .before .before .before .before .before .before .before .before .before .before .before .before .args .k) _ (neither-zero (getD (c .before .before .before .before .before .before .before .before .before .before .before .before .before .before .args .calls .now) (c .before .before .before .before .before .before .before .before .before .before .before .before .before .before .args .q) 0) (c .before .before .before .before .before .before .before .before .before .before .before .before .before .before .args .k) (c .before .before .before .before .before .before .before .if2 .left) .0) refl (c .before .before .before .before .before .before .stmt2 .ensures .0) (g .0 .1) (g .1)) in
-    (omega (arith, c .before .before .before .before .before .before .before .before .before .before .before .before .before .before .pre .0), (p .0, p .1, called-some (c .before .before .before .before .before .before .before .before .before .before .before .before .before .before .args .f .now) (c .before .before .before .before .before .before .before .before .before .before .before .before .before .before .args .s) (c .before .before .before .before .before .before .before .before .before .before .before .before .before .before .pre .1 .0) (c .before .before .before .before .before .before .before .before .before .before .before .before .before .before .args .q) (c .before .before .before .before .before .before .before .before .before .before .before .before .before .before .pre .1 .2) (c .before .before .before .before .before .before .before .before .before .before .before .before .before .before .args .calls .now) (c .before .before .before .before .before .before .before .before .before .before .before .before .before .before .pre .1 .1) _ refl (sym (c .before .before .before .before .before .before .before .before .before .before .stmt .ensures .0) ∙ c .before .before .before .before .before .before .before .before .before .if1 .left) (neither-zero (getD (c .before .before .before .before .before .before .before .before .before .before .before .before .before .before .args .calls .now) (c .before .before .before .before .before .before .before .before .before .before .before .before .before .before .args .q) 0) (c .before .before .before .before .before .before .before .before .before .before .before .before .before .before .args .k) (c .before .before .before .before .before .before .before .if2 .left) .0) .1, (omega (arith, p .3 .0), omega (arith, p .3 .1, g .0 .0), g .0 .2), (omega (arith, z, p .4 .0), omega (arith, z, p .4 .1))))
+write-stmt-nodes-write-nodes-requires t c κs =
+    let a = c .before .before .before .before .before .before .before .before .before .before .before .before .before .before .args in
+    let pre = c .before .before .before .before .before .before .before .before .before .before .before .before .before .before .pre in
+    let p = pre .1 in
+    let g = c .before .before .before .before .find-replacements .ensures in
+    let z = ap (sumOf flatSize) (deeper (a .f .now) (a .s) (pre .1 .0) (a .q) (pre .1 .2) (sym (c .before .before .before .before .before .before .before .before .before .before .stmt .ensures .0) ∙ c .before .before .before .before .before .before .before .before .before .if1 .left) (levelsOf (contentsIn (a .f .now) (a .s) .nodes) (a .rows .now) (a .level)) (a .calls .now) (pre .1 .1) _ refl (a .rows .now) _ (a .level) (a .k) _ (neither-zero (getD (a .calls .now) (a .q) 0) (a .k) (c .before .before .before .before .before .before .before .if2 .left) .0) refl (c .before .before .before .before .before .before .stmt2 .ensures .0) (g .0 .1) (g .1)) in
+    (omega (arith, pre .0), (p .0, p .1, called-some (a .f .now) (a .s) (pre .1 .0) (a .q) (pre .1 .2) (a .calls .now) (pre .1 .1) _ refl (sym (c .before .before .before .before .before .before .before .before .before .before .stmt .ensures .0) ∙ c .before .before .before .before .before .before .before .before .before .if1 .left) (neither-zero (getD (a .calls .now) (a .q) 0) (a .k) (c .before .before .before .before .before .before .before .if2 .left) .0) .1, (omega (arith, p .3 .0), omega (arith, p .3 .1, g .0 .0), g .0 .2), (omega (arith, z, p .4 .0), omega (arith, z, p .4 .1))))
 
 write-stmt-nodes-same-length-3 : (t : ℕ) → write-stmt-nodes-lts.Need-same-length-3 (stmt-reads.Asked, stmt-reads.Learnt, write-own-reads.Asked, write-own-reads.Learnt, find-replacements-reads.Asked, find-replacements-reads.Learnt, write-nodes-below t, write-nodes.Post) (write-stmt-nodes-at t) write-stmt-nodes.Post
 write-stmt-nodes-same-length-3 t c = search needs
@@ -159,9 +215,14 @@ write-stmt-nodes-same-length-4 : (t : ℕ) → write-stmt-nodes-lts.Need-same-le
 write-stmt-nodes-same-length-4 t c = search needs
 
 write-stmt-nodes-returns-3 : (t : ℕ) → write-stmt-nodes-lts.Need-returns-3 (stmt-reads.Asked, stmt-reads.Learnt, write-own-reads.Asked, write-own-reads.Learnt, find-replacements-reads.Asked, find-replacements-reads.Learnt, write-nodes-below t, write-nodes.Post) (write-stmt-nodes-at t) write-stmt-nodes.Post
-write-stmt-nodes-returns-3 t c = let p = c .before .before .before .before .before .before .before .before .before .before .before .before .before .before .before .before .before .before .before .pre .1 in let g = c .before .before .before .before .before .before .before .before .before .find-replacements .ensures in let h = c .before .before .before .before .write-nodes .ensures in
-    let e = deeper (c .before .before .before .before .before .before .before .before .before .before .before .before .before .before .before .before .before .before .before .args .f .now) (c .before .before .before .before .before .before .before .before .before .before .before .before .before .before .before .before .before .before .before .args .s) (c .before .before .before .before .before .before .before .before .before .before .before .before .before .before .before .before .before .before .before .pre .1 .0) (c .before .before .before .before .before .before .before .before .before .before .before .before .before .before .before .before .before .before .before .args .q) (c .before .before .before .before .before .before .before .before .before .before .before .before .before .before .before .before .before .before .before .pre .1 .2) (sym (c .before .before .before .before .before .before .before .before .before .before .before .before .before .before .before .stmt .ensures .0) ∙ c .before .before .before .before .before .before .before .before .before .before .before .before .before .before .if1 .left) (levelsOf (contentsIn (c .before .before .before .before .before .before .before .before .before .before .before .before .before .before .before .before .before .before .before .args .f .now) (c .before .before .before .before .before .before .before .before .before .before .before .before .before .before .before .before .before .before .before .args .s) .nodes) (c .before .before .before .before .before .before .before .before .before .before .before .before .before .before .before .before .before .before .before .args .rows .now) (c .before .before .before .before .before .before .before .before .before .before .before .before .before .before .before .before .before .before .before .args .level)) (c .before .before .before .before .before .before .before .before .before .before .before .before .before .before .before .before .before .before .before .args .calls .now) (c .before .before .before .before .before .before .before .before .before .before .before .before .before .before .before .before .before .before .before .pre .1 .1) _ refl (c .before .before .before .before .before .before .before .before .before .before .before .before .before .before .before .before .before .before .before .args .rows .now) _ (c .before .before .before .before .before .before .before .before .before .before .before .before .before .before .before .before .before .before .before .args .level) (c .before .before .before .before .before .before .before .before .before .before .before .before .before .before .before .before .before .before .before .args .k) _ (neither-zero (getD (c .before .before .before .before .before .before .before .before .before .before .before .before .before .before .before .before .before .before .before .args .calls .now) (c .before .before .before .before .before .before .before .before .before .before .before .before .before .before .before .before .before .before .before .args .q) 0) (c .before .before .before .before .before .before .before .before .before .before .before .before .before .before .before .before .before .before .before .args .k) (c .before .before .before .before .before .before .before .before .before .before .before .before .if2 .left) .0) refl (c .before .before .before .before .before .before .before .before .before .before .before .stmt2 .ensures .0) (g .0 .1) (g .1) in
-    (h .0 ∙ ap (λ (x : List Flat). c .before .before .before .before .before .before .before .before .before .before .before .before .before .before .before .before .before .before .before .args .done + sumOf flatSize x) e, h .1 ∙ ap (λ (x : List Flat). put (c .before .before .before .before .before .before .before .before .before .before .before .before .before .before .before .before .before .before .before .args .out .now) (32 * c .before .before .before .before .before .before .before .before .before .before .before .before .before .before .before .before .before .before .before .args .done) (encode (each flatNodes x))) e, (h .2 .0 ∙ g .0 .0, kept-less _ _ (256 * (c .before .before .before .before .before .before .before .before .before .before .before .before .before .before .before .before .before .before .before .args .level + 1)) (256 * c .before .before .before .before .before .before .before .before .before .before .before .before .before .before .before .before .before .before .before .args .level) (omega arith) (h .2 .1) ∙ g .0 .1, h .2 .2))
+write-stmt-nodes-returns-3 t c =
+    let a = c .before .before .before .before .before .before .before .before .before .before .before .before .before .before .before .before .before .before .before .args in
+    let pre = c .before .before .before .before .before .before .before .before .before .before .before .before .before .before .before .before .before .before .before .pre in
+    let p = pre .1 in
+    let g = c .before .before .before .before .before .before .before .before .before .find-replacements .ensures in
+    let h = c .before .before .before .before .write-nodes .ensures in
+    let e = deeper (a .f .now) (a .s) (pre .1 .0) (a .q) (pre .1 .2) (sym (c .before .before .before .before .before .before .before .before .before .before .before .before .before .before .before .stmt .ensures .0) ∙ c .before .before .before .before .before .before .before .before .before .before .before .before .before .before .if1 .left) (levelsOf (contentsIn (a .f .now) (a .s) .nodes) (a .rows .now) (a .level)) (a .calls .now) (pre .1 .1) _ refl (a .rows .now) _ (a .level) (a .k) _ (neither-zero (getD (a .calls .now) (a .q) 0) (a .k) (c .before .before .before .before .before .before .before .before .before .before .before .before .if2 .left) .0) refl (c .before .before .before .before .before .before .before .before .before .before .before .stmt2 .ensures .0) (g .0 .1) (g .1) in
+    (h .0 ∙ ap (λ (x : List Flat). a .done + sumOf flatSize x) e, h .1 ∙ ap (λ (x : List Flat). put (a .out .now) (32 * a .done) (encode (each flatNodes x))) e, (h .2 .0 ∙ g .0 .0, kept-less _ _ (256 * (a .level + 1)) (256 * a .level) (omega arith) (h .2 .1) ∙ g .0 .1, h .2 .2))
 
 pub +write-nodes+write-stmt-nodes-spec : {M : Type 1} → statement M
 +write-nodes+write-stmt-nodes-spec =

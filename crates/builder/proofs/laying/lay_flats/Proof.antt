@@ -21,8 +21,11 @@ add-lay-stmts : tie.Need-add-lay-stmts
 add-lay-stmts c = search needs
 
 lay-stmts-requires : tie.Need-lay-stmts-requires
-lay-stmts-requires c κs = let p = c .before .before .before .before .before .before .before .before .before .before .before .before .pre in let q = c .before .before .before .before .before .before .lay-nodes .ensures in
-    (p .0, p .1, p .2, (q .1, q .2), (p .4 .0, p .4 .1, room-behind (c .before .before .before .before .before .before .before .before .before .before .before .before .args .own .now) _ (flatsOf (fileIn (c .before .before .before .before .before .before .before .before .before .before .before .before .args .f .now) (c .before .before .before .before .before .before .before .before .before .before .before .before .args .s)) (c .before .before .before .before .before .before .before .before .before .before .before .before .args .m)) (c .before .before .before .before .before .before .before .before .before .before .before .before .args .n) (q .0) (p .4 .0) (p .4 .2) (p .4 .3)))
+lay-stmts-requires c κs =
+    let a = c .before .before .before .before .before .before .before .before .before .before .before .before .args in
+    let p = c .before .before .before .before .before .before .before .before .before .before .before .before .pre in
+    let q = c .before .before .before .before .before .before .lay-nodes .ensures in
+    (p .0, p .1, p .2, (q .1, q .2), (p .4 .0, p .4 .1, room-behind (a .own .now) _ (flatsOf (fileIn (a .f .now) (a .s)) (a .m)) (a .n) (q .0) (p .4 .0) (p .4 .2) (p .4 .3)))
 
 same-length : tie.Need-same-length
 same-length c = search needs
@@ -31,7 +34,9 @@ same-length-2 : tie.Need-same-length-2
 same-length-2 c = search needs
 
 returns : tie.Need-returns
-returns c = c .before .before .before .before .lay-stmts .ensures ∙ ap (λ (d : List ℕ). put d (40 + 32 * c .before .before .before .before .before .before .before .before .before .before .before .before .before .before .before .before .before .args .n) (encode (unfated 0 (flatsOf (fileIn (c .before .before .before .before .before .before .before .before .before .before .before .before .before .before .before .before .before .args .f .now) (c .before .before .before .before .before .before .before .before .before .before .before .before .before .before .before .before .before .args .s)) (c .before .before .before .before .before .before .before .before .before .before .before .before .before .before .before .before .before .args .m))))) (c .before .before .before .before .before .before .before .before .before .before .before .lay-nodes .ensures .0)
+returns c =
+    let a = c .before .before .before .before .before .before .before .before .before .before .before .before .before .before .before .before .before .args in
+    c .before .before .before .before .lay-stmts .ensures ∙ ap (λ (d : List ℕ). put d (40 + 32 * a .n) (encode (unfated 0 (flatsOf (fileIn (a .f .now) (a .s)) (a .m))))) (c .before .before .before .before .before .before .before .before .before .before .before .lay-nodes .ensures .0)
 
 pub lay-flats-spec : {M : Type 1} → statement M
 lay-flats-spec =

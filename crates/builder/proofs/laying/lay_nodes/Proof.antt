@@ -13,8 +13,11 @@ part-write-nodes-end : tie.Need-part-write-nodes-end
 part-write-nodes-end c = search needs
 
 write-nodes-requires : tie.Need-write-nodes-requires
-write-nodes-requires c κs = let p = c .before .before .before .before .before .pre in let r = rows-room (c .before .before .before .before .before .args .f .now) (c .before .before .before .before .before .args .s) (c .before .before .before .before .before .args .rows .now) (c .before .before .before .before .before .args .m) (p .0) (p .3 .0) in
-    (p .0, p .1, p .2, (r .0, r .1, p .3 .1), nodes-room (c .before .before .before .before .before .args .f .now) (c .before .before .before .before .before .args .s) (c .before .before .before .before .before .args .rows .now) (c .before .before .before .before .before .args .m) (c .before .before .before .before .before .args .own .now) (p .4 .0) (p .4 .1))
+write-nodes-requires c κs =
+    let a = c .before .before .before .before .before .args in
+    let p = c .before .before .before .before .before .pre in
+    let r = rows-room (a .f .now) (a .s) (a .rows .now) (a .m) (p .0) (p .3 .0) in
+    (p .0, p .1, p .2, (r .0, r .1, p .3 .1), nodes-room (a .f .now) (a .s) (a .rows .now) (a .m) (a .own .now) (p .4 .0) (p .4 .1))
 
 same-length : tie.Need-same-length
 same-length c = search needs
@@ -23,7 +26,10 @@ same-length-2 : tie.Need-same-length-2
 same-length-2 c = search needs
 
 returns : tie.Need-returns
-returns c = let p = c .before .before .before .before .before .before .before .before .before .before .pre in nodes-laid (c .before .before .before .before .before .before .before .before .before .before .args .f .now) (c .before .before .before .before .before .before .before .before .before .before .args .s) (c .before .before .before .before .before .before .before .before .before .before .args .rows .now) (c .before .before .before .before .before .before .before .before .before .before .args .m) (c .before .before .before .before .before .before .before .before .before .before .args .own .now) _ (c .before .before .before .before .write-nodes .last .1 .1 .1 .0) _ (p .4 .1) (p .3 .0) (c .before .before .before .before .write-nodes .ensures)
+returns c =
+    let a = c .before .before .before .before .before .before .before .before .before .before .args in
+    let p = c .before .before .before .before .before .before .before .before .before .before .pre in
+    nodes-laid (a .f .now) (a .s) (a .rows .now) (a .m) (a .own .now) _ (c .before .before .before .before .write-nodes .last .1 .1 .1 .0) _ (p .4 .1) (p .3 .0) (c .before .before .before .before .write-nodes .ensures)
 
 pub lay-nodes-spec : {M : Type 1} → statement M
 lay-nodes-spec =

@@ -13,8 +13,11 @@ part-write-stmts-end : tie.Need-part-write-stmts-end
 part-write-stmts-end c = search needs
 
 write-stmts-requires : tie.Need-write-stmts-requires
-write-stmts-requires c κs = let p = c .before .before .before .before .before .pre in let r = rows-room (c .before .before .before .before .before .args .f .now) (c .before .before .before .before .before .args .s) (c .before .before .before .before .before .args .rows .now) (c .before .before .before .before .before .args .m) (p .0) (p .3 .0) in
-    (p .0, p .1, p .2, (r .0, r .1, p .3 .1), stmts-room (c .before .before .before .before .before .args .f .now) (c .before .before .before .before .before .args .s) (c .before .before .before .before .before .args .rows .now) (c .before .before .before .before .before .args .m) (c .before .before .before .before .before .args .own .now) (c .before .before .before .before .before .args .at) (p .4 .0) (p .4 .1) (p .4 .2))
+write-stmts-requires c κs =
+    let a = c .before .before .before .before .before .args in
+    let p = c .before .before .before .before .before .pre in
+    let r = rows-room (a .f .now) (a .s) (a .rows .now) (a .m) (p .0) (p .3 .0) in
+    (p .0, p .1, p .2, (r .0, r .1, p .3 .1), stmts-room (a .f .now) (a .s) (a .rows .now) (a .m) (a .own .now) (a .at) (p .4 .0) (p .4 .1) (p .4 .2))
 
 same-length : tie.Need-same-length
 same-length c = search needs
@@ -23,7 +26,10 @@ same-length-2 : tie.Need-same-length-2
 same-length-2 c = search needs
 
 returns : tie.Need-returns
-returns c = let p = c .before .before .before .before .before .before .before .before .before .before .pre in stmts-laid (c .before .before .before .before .before .before .before .before .before .before .args .f .now) (c .before .before .before .before .before .before .before .before .before .before .args .s) (c .before .before .before .before .before .before .before .before .before .before .args .rows .now) (c .before .before .before .before .before .before .before .before .before .before .args .m) (c .before .before .before .before .before .before .before .before .before .before .args .own .now) _ (c .before .before .before .before .before .before .before .before .before .before .args .at) _ _ (p .4 .2) (c .before .before .before .before .write-stmts .ensures .0)
+returns c =
+    let a = c .before .before .before .before .before .before .before .before .before .before .args in
+    let p = c .before .before .before .before .before .before .before .before .before .before .pre in
+    stmts-laid (a .f .now) (a .s) (a .rows .now) (a .m) (a .own .now) _ (a .at) _ _ (p .4 .2) (c .before .before .before .before .write-stmts .ensures .0)
 
 pub lay-stmts-spec : {M : Type 1} → statement M
 lay-stmts-spec =

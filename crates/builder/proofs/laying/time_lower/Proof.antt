@@ -13,7 +13,9 @@ same-length : tie.Need-same-length
 same-length c = search needs
 
 returns : tie.Need-returns
-returns c = time-read (c .before .before .before .before .before .before .before .before .before .args .f .now) (c .before .before .before .before .before .before .before .before .before .args .s) (c .before .before .before .before .before .before .before .before .before .args .m) (c .before .before .before .before .before .before .before .before .before .args .name) (c .before .before .before .before .before .before .before .before .before .args .own .now) _ _ (c .before .before .before .before .before .before .before .before .before .pre .4) (c .before .before .before .before .put-last-bounds .ensures) (c .record-bits .ensures)
+returns c =
+    let a = c .before .before .before .before .before .before .before .before .before .args in
+    time-read (a .f .now) (a .s) (a .m) (a .name) (a .own .now) _ _ (c .before .before .before .before .before .before .before .before .before .pre .4) (c .before .before .before .before .put-last-bounds .ensures) (c .record-bits .ensures)
 
 pub time-lower-spec : {M : Type 1} → statement M
 time-lower-spec =

@@ -8,7 +8,10 @@ forbidden-requires : tie.Need-forbidden-requires
 forbidden-requires c κs = search needs
 
 returns : tie.Need-returns
-returns c = (measured-forbidden (fileIn (c .before .before .before .before .args .f .now) (c .before .before .before .before .args .s)) (c .before .before .before .before .args .m) _ (c .before .forbidden .ensures) (c .if1 .taken), c .before .before .before .before .pre .4, c .before .before .before .before .pre .5)
+returns c =
+    let a = c .before .before .before .before .args in
+    let p = c .before .before .before .before .pre in
+    (measured-forbidden (fileIn (a .f .now) (a .s)) (a .m) _ (c .before .forbidden .ensures) (c .if1 .taken), p .4, p .5)
 
 size-requires : tie.Need-size-requires
 size-requires c κs = search needs
@@ -17,7 +20,9 @@ same-length : tie.Need-same-length
 same-length c = search needs
 
 returns-2 : tie.Need-returns-2
-returns-2 c = (measured-size (fileIn (c .before .before .before .before .before .before .before .before .args .f .now) (c .before .before .before .before .before .before .before .before .args .s)) (c .before .before .before .before .before .before .before .before .args .m) _ _ (c .before .before .before .before .before .forbidden .ensures) (c .before .before .before .before .if1 .left) (c .before .before .size .ensures .0), c .before .before .size .ensures .1, c .before .before .size .ensures .2)
+returns-2 c =
+    let a = c .before .before .before .before .before .before .before .before .args in
+    (measured-size (fileIn (a .f .now) (a .s)) (a .m) _ _ (c .before .before .before .before .before .forbidden .ensures) (c .before .before .before .before .if1 .left) (c .before .before .size .ensures .0), c .before .before .size .ensures .1, c .before .before .size .ensures .2)
 
 pub measure-spec : {M : Type 1} → statement M
 measure-spec = tie.close (tie.spec forbidden-requires returns size-requires same-length returns-2)

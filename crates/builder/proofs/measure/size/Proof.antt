@@ -15,7 +15,10 @@ instances-requires : tie.Need-instances-requires
 instances-requires c κs = search needs
 
 returns : tie.Need-returns
-returns c = (over-instances (fileIn (c .before .before .before .before .args .f .now) (c .before .before .before .before .args .s)) (c .before .before .before .before .args .m) (c .before .before .before .before .args .s .counts .models) (models-long (c .before .before .before .before .args .f .now) (c .before .before .before .before .args .s)) _ (c .before .instances .ensures) (c .if1 .taken), c .before .before .before .before .pre .3, c .before .before .before .before .pre .4)
+returns c =
+    let a = c .before .before .before .before .args in
+    let p = c .before .before .before .before .pre in
+    (over-instances (fileIn (a .f .now) (a .s)) (a .m) (a .s .counts .models) (models-long (a .f .now) (a .s)) _ (c .before .instances .ensures) (c .if1 .taken), p .3, p .4)
 
 add-flat-stmts : tie.Need-add-flat-stmts
 add-flat-stmts c = search needs
@@ -24,25 +27,36 @@ flat-stmts-requires : tie.Need-flat-stmts-requires
 flat-stmts-requires c κs = search needs
 
 returns-2 : tie.Need-returns-2
-returns-2 c = (over-stmts (fileIn (c .before .before .before .before .before .before .args .f .now) (c .before .before .before .before .before .before .args .s)) (c .before .before .before .before .before .before .args .m) (c .before .before .before .before .before .before .args .s .counts .models) (models-long (c .before .before .before .before .before .before .args .f .now) (c .before .before .before .before .before .before .args .s)) _ (c .before .before .before .instances .ensures) _ (c .before .flat-stmts .ensures) (c .if2 .taken), c .before .before .before .before .before .before .pre .3, c .before .before .before .before .before .before .pre .4)
+returns-2 c =
+    let a = c .before .before .before .before .before .before .args in
+    let p = c .before .before .before .before .before .before .pre in
+    (over-stmts (fileIn (a .f .now) (a .s)) (a .m) (a .s .counts .models) (models-long (a .f .now) (a .s)) _ (c .before .before .before .instances .ensures) _ (c .before .flat-stmts .ensures) (c .if2 .taken), p .3, p .4)
 
 add-flat-nodes : tie.Need-add-flat-nodes
 add-flat-nodes c = search needs
 
 flat-nodes-requires : tie.Need-flat-nodes-requires
-flat-nodes-requires c κs = let p = c .before .before .before .before .before .before .before .pre in let r = rows-room (c .before .before .before .before .before .before .before .args .f .now) (c .before .before .before .before .before .before .before .args .s) (c .before .before .before .before .before .before .before .args .rows .now) (c .before .before .before .before .before .before .before .args .m) (p .0) (p .3) in (p .0, p .1, p .2, (r .0, r .1, p .4))
+flat-nodes-requires c κs =
+    let a = c .before .before .before .before .before .before .before .args in
+    let p = c .before .before .before .before .before .before .before .pre in
+    let r = rows-room (a .f .now) (a .s) (a .rows .now) (a .m) (p .0) (p .3) in
+    (p .0, p .1, p .2, (r .0, r .1, p .4))
 
 same-length : tie.Need-same-length
 same-length c = search needs
 
 returns-3 : tie.Need-returns-3
-returns-3 c = (over-nodes (fileIn (c .before .before .before .before .before .before .before .before .before .before .before .args .f .now) (c .before .before .before .before .before .before .before .before .before .before .before .args .s)) (c .before .before .before .before .before .before .before .before .before .before .before .args .m) (c .before .before .before .before .before .before .before .before .before .before .before .args .s .counts .models) (models-long (c .before .before .before .before .before .before .before .before .before .before .before .args .f .now) (c .before .before .before .before .before .before .before .before .before .before .before .args .s)) _ (c .before .before .before .before .before .before .before .before .instances .ensures) _ (c .before .before .before .before .before .before .flat-stmts .ensures) (contentsIn (c .before .before .before .before .before .before .before .before .before .before .before .args .f .now) (c .before .before .before .before .before .before .before .before .before .before .before .args .s) .nodes) (c .before .before .before .before .before .before .before .before .before .before .before .args .rows .now) _ (c .before .before .before .flat-nodes .ensures .0) (c .if3 .taken), omega (arith, c .before .before .before .flat-nodes .ensures .1 .0, c .before .before .before .before .before .before .before .before .before .before .before .pre .3), c .before .before .before .flat-nodes .ensures .1 .2)
+returns-3 c =
+    let a = c .before .before .before .before .before .before .before .before .before .before .before .args in
+    (over-nodes (fileIn (a .f .now) (a .s)) (a .m) (a .s .counts .models) (models-long (a .f .now) (a .s)) _ (c .before .before .before .before .before .before .before .before .instances .ensures) _ (c .before .before .before .before .before .before .flat-stmts .ensures) (contentsIn (a .f .now) (a .s) .nodes) (a .rows .now) _ (c .before .before .before .flat-nodes .ensures .0) (c .if3 .taken), omega (arith, c .before .before .before .flat-nodes .ensures .1 .0, c .before .before .before .before .before .before .before .before .before .before .before .pre .3), c .before .before .before .flat-nodes .ensures .1 .2)
 
 same-length-2 : tie.Need-same-length-2
 same-length-2 c = search needs
 
 returns-4 : tie.Need-returns-4
-returns-4 c = (sized (fileIn (c .before .before .before .before .before .before .before .before .before .before .before .args .f .now) (c .before .before .before .before .before .before .before .before .before .before .before .args .s)) (c .before .before .before .before .before .before .before .before .before .before .before .args .m) (c .before .before .before .before .before .before .before .before .before .before .before .args .s .counts .models) (models-long (c .before .before .before .before .before .before .before .before .before .before .before .args .f .now) (c .before .before .before .before .before .before .before .before .before .before .before .args .s)) _ (c .before .before .before .before .before .before .before .before .instances .ensures) _ (c .before .before .before .before .before .before .flat-stmts .ensures) (contentsIn (c .before .before .before .before .before .before .before .before .before .before .before .args .f .now) (c .before .before .before .before .before .before .before .before .before .before .before .args .s) .nodes) (c .before .before .before .before .before .before .before .before .before .before .before .args .rows .now) _ (c .before .before .before .flat-nodes .ensures .0) (c .before .before .before .before .before .before .before .if1 .left) (c .before .before .before .before .before .if2 .left) (c .if3 .left), omega (arith, c .before .before .before .flat-nodes .ensures .1 .0, c .before .before .before .before .before .before .before .before .before .before .before .pre .3), c .before .before .before .flat-nodes .ensures .1 .2)
+returns-4 c =
+    let a = c .before .before .before .before .before .before .before .before .before .before .before .args in
+    (sized (fileIn (a .f .now) (a .s)) (a .m) (a .s .counts .models) (models-long (a .f .now) (a .s)) _ (c .before .before .before .before .before .before .before .before .instances .ensures) _ (c .before .before .before .before .before .before .flat-stmts .ensures) (contentsIn (a .f .now) (a .s) .nodes) (a .rows .now) _ (c .before .before .before .flat-nodes .ensures .0) (c .before .before .before .before .before .before .before .if1 .left) (c .before .before .before .before .before .if2 .left) (c .if3 .left), omega (arith, c .before .before .before .flat-nodes .ensures .1 .0, c .before .before .before .before .before .before .before .before .before .before .before .pre .3), c .before .before .before .flat-nodes .ensures .1 .2)
 
 pub size-spec : {M : Type 1} → statement M
 size-spec =

@@ -28,7 +28,9 @@ add-result : tie.Need-add-result Inv-loop μ-loop
 add-result c = omega (arith, c .before .before .before .before .before .before .pre .laid .within .models)
 
 returns : tie.Need-returns Inv-loop μ-loop
-returns c = sym (ap plusOne (c .before .before .before .before .loop .inv .1) ∙ find-yes (c .before .before .before .before .before .before .args .f .now) (c .before .before .before .before .before .before .args .s) (isNamed (c .before .before .before .before .before .before .args .f .now) (c .before .before .before .before .before .before .args .s) _) (c .before .before .before .before .loop .m) (omega arith) (named-test (c .before .before .before .before .before .before .args .f .now) (c .before .before .before .before .before .before .args .s) (c .before .before .before .before .before .before .args .name) (c .before .before .before .before .loop .m) (omega arith) ∙ ap (λ (k : ℕ). eqb (c .before .before .before .before .before .before .args .name) k) (sym (c .before .model .ensures .0)) ∙ eq-eqb _ _ (c .if2 .taken)))
+returns c =
+    let a = c .before .before .before .before .before .before .args in
+    sym (ap plusOne (c .before .before .before .before .loop .inv .1) ∙ find-yes (a .f .now) (a .s) (isNamed (a .f .now) (a .s) _) (c .before .before .before .before .loop .m) (omega arith) (named-test (a .f .now) (a .s) (a .name) (c .before .before .before .before .loop .m) (omega arith) ∙ ap (λ (k : ℕ). eqb (a .name) k) (sym (c .before .model .ensures .0)) ∙ eq-eqb _ _ (c .if2 .taken)))
 
 add-m : tie.Need-add-m Inv-loop μ-loop
 add-m c = omega (arith, c .before .before .before .before .before .before .pre .laid .within .models)
@@ -37,11 +39,15 @@ loop-less : tie.Need-loop-less Inv-loop μ-loop
 loop-less c = omega arith
 
 loop-again : tie.Need-loop-again Inv-loop μ-loop
-loop-again c = (omega arith, c .before .before .before .before .loop .inv .1 ∙ find-no (c .before .before .before .before .before .before .args .f .now) (c .before .before .before .before .before .before .args .s) (isNamed (c .before .before .before .before .before .before .args .f .now) (c .before .before .before .before .before .before .args .s) _) (c .before .before .before .before .loop .m) (omega arith) (named-test (c .before .before .before .before .before .before .args .f .now) (c .before .before .before .before .before .before .args .s) (c .before .before .before .before .before .before .args .name) (c .before .before .before .before .loop .m) (omega arith) ∙ ap (λ (k : ℕ). eqb (c .before .before .before .before .before .before .args .name) k) (sym (c .before .model .ensures .0)) ∙ ne-eqb _ _ (c .if2 .left)))
+loop-again c =
+    let a = c .before .before .before .before .before .before .args in
+    (omega arith, c .before .before .before .before .loop .inv .1 ∙ find-no (a .f .now) (a .s) (isNamed (a .f .now) (a .s) _) (c .before .before .before .before .loop .m) (omega arith) (named-test (a .f .now) (a .s) (a .name) (c .before .before .before .before .loop .m) (omega arith) ∙ ap (λ (k : ℕ). eqb (a .name) k) (sym (c .before .model .ensures .0)) ∙ ne-eqb _ _ (c .if2 .left)))
 
 returns-2 : tie.Need-returns-2 Inv-loop μ-loop
 unfolding plusOne
-returns-2 c = sym (ap plusOne (c .before .before .loop .inv .1 ∙ find-end (c .before .before .before .before .args .f .now) (c .before .before .before .before .args .s) (isNamed (c .before .before .before .before .args .f .now) (c .before .before .before .before .args .s) _) (c .before .before .loop .m) (omega arith)))
+returns-2 c =
+    let a = c .before .before .before .before .args in
+    sym (ap plusOne (c .before .before .loop .inv .1 ∙ find-end (a .f .now) (a .s) (isNamed (a .f .now) (a .s) _) (c .before .before .loop .m) (omega arith)))
 
 pub find-model-spec : {M : Type 1} → statement M
 find-model-spec =

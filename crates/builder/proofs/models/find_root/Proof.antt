@@ -26,7 +26,11 @@ model-requires : tie.Need-model-requires Inv-loop μ-loop
 model-requires c κs = (c .before .before .before .before .before .pre, (omega arith, omega arith))
 
 name-text-requires : tie.Need-name-text-requires Inv-loop μ-loop
-name-text-requires c κs = let n = model-is (c .before .before .before .before .before .before .args .f .now) (c .before .before .before .before .before .before .args .s) (c .before .before .before .before .before .before .pre) (c .before .before .before .loop .m) (omega arith) .name-below in (c .before .before .before .before .before .before .pre, omega (arith, c .model .ensures .0))
+name-text-requires c κs =
+    let a = c .before .before .before .before .before .before .args in
+    let p = c .before .before .before .before .before .before .pre in
+    let n = model-is (a .f .now) (a .s) p (c .before .before .before .loop .m) (omega arith) .name-below in
+    (p, omega (arith, c .model .ensures .0))
 
 same-bytes-requires : tie.Need-same-bytes-requires Inv-loop μ-loop
 same-bytes-requires c κs = search needs
@@ -35,7 +39,9 @@ add-result : tie.Need-add-result Inv-loop μ-loop
 add-result c = omega (arith, c .before .before .before .before .before .before .before .before .before .pre .laid .within .models)
 
 returns : tie.Need-returns Inv-loop μ-loop
-returns c = sym (ap plusOne (c .before .before .before .before .before .before .loop .inv .1) ∙ find-yes (c .before .before .before .before .before .before .before .before .before .args .f .now) (c .before .before .before .before .before .before .before .before .before .args .s) (isRoot (c .before .before .before .before .before .before .before .before .before .args .f .now) (c .before .before .before .before .before .before .before .before .before .args .s) _) (c .before .before .before .before .before .before .loop .m) (omega arith) (root-test (c .before .before .before .before .before .before .before .before .before .args .f .now) (c .before .before .before .before .before .before .before .before .before .args .s) (c .before .before .before .before .before .before .before .before .before .args .root .now) (c .before .before .before .before .before .before .loop .m) (omega arith) ∙ ap (sameText (c .before .before .before .before .before .before .before .before .before .args .root .now)) (ap (textOf (fileIn (c .before .before .before .before .before .before .before .before .before .args .f .now) (c .before .before .before .before .before .before .before .before .before .args .s) .names)) (sym (c .before .before .before .model .ensures .0)) ∙ sym (c .before .before .name-text .ensures)) ∙ sym (c .before .same-bytes .ensures) ∙ c .if2 .taken))
+returns c =
+    let a = c .before .before .before .before .before .before .before .before .before .args in
+    sym (ap plusOne (c .before .before .before .before .before .before .loop .inv .1) ∙ find-yes (a .f .now) (a .s) (isRoot (a .f .now) (a .s) _) (c .before .before .before .before .before .before .loop .m) (omega arith) (root-test (a .f .now) (a .s) (a .root .now) (c .before .before .before .before .before .before .loop .m) (omega arith) ∙ ap (sameText (a .root .now)) (ap (textOf (fileIn (a .f .now) (a .s) .names)) (sym (c .before .before .before .model .ensures .0)) ∙ sym (c .before .before .name-text .ensures)) ∙ sym (c .before .same-bytes .ensures) ∙ c .if2 .taken))
 
 add-m : tie.Need-add-m Inv-loop μ-loop
 add-m c = omega (arith, c .before .before .before .before .before .before .before .before .before .pre .laid .within .models)
@@ -44,11 +50,15 @@ loop-less : tie.Need-loop-less Inv-loop μ-loop
 loop-less c = omega arith
 
 loop-again : tie.Need-loop-again Inv-loop μ-loop
-loop-again c = (omega arith, c .before .before .before .before .before .before .loop .inv .1 ∙ find-no (c .before .before .before .before .before .before .before .before .before .args .f .now) (c .before .before .before .before .before .before .before .before .before .args .s) (isRoot (c .before .before .before .before .before .before .before .before .before .args .f .now) (c .before .before .before .before .before .before .before .before .before .args .s) _) (c .before .before .before .before .before .before .loop .m) (omega arith) (root-test (c .before .before .before .before .before .before .before .before .before .args .f .now) (c .before .before .before .before .before .before .before .before .before .args .s) (c .before .before .before .before .before .before .before .before .before .args .root .now) (c .before .before .before .before .before .before .loop .m) (omega arith) ∙ ap (sameText (c .before .before .before .before .before .before .before .before .before .args .root .now)) (ap (textOf (fileIn (c .before .before .before .before .before .before .before .before .before .args .f .now) (c .before .before .before .before .before .before .before .before .before .args .s) .names)) (sym (c .before .before .before .model .ensures .0)) ∙ sym (c .before .before .name-text .ensures)) ∙ sym (c .before .same-bytes .ensures) ∙ c .if2 .left))
+loop-again c =
+    let a = c .before .before .before .before .before .before .before .before .before .args in
+    (omega arith, c .before .before .before .before .before .before .loop .inv .1 ∙ find-no (a .f .now) (a .s) (isRoot (a .f .now) (a .s) _) (c .before .before .before .before .before .before .loop .m) (omega arith) (root-test (a .f .now) (a .s) (a .root .now) (c .before .before .before .before .before .before .loop .m) (omega arith) ∙ ap (sameText (a .root .now)) (ap (textOf (fileIn (a .f .now) (a .s) .names)) (sym (c .before .before .before .model .ensures .0)) ∙ sym (c .before .before .name-text .ensures)) ∙ sym (c .before .same-bytes .ensures) ∙ c .if2 .left))
 
 returns-2 : tie.Need-returns-2 Inv-loop μ-loop
 unfolding plusOne
-returns-2 c = sym (ap plusOne (c .before .before .loop .inv .1 ∙ find-end (c .before .before .before .before .before .args .f .now) (c .before .before .before .before .before .args .s) (isRoot (c .before .before .before .before .before .args .f .now) (c .before .before .before .before .before .args .s) _) (c .before .before .loop .m) (omega arith)))
+returns-2 c =
+    let a = c .before .before .before .before .before .args in
+    sym (ap plusOne (c .before .before .loop .inv .1 ∙ find-end (a .f .now) (a .s) (isRoot (a .f .now) (a .s) _) (c .before .before .loop .m) (omega arith)))
 
 pub find-root-spec : {M : Type 1} → statement M
 find-root-spec =

@@ -49,7 +49,9 @@ loop-again : tie.Need-loop-again Inv-loop μ-loop
 loop-again c = (omega arith, c .before .before .before .before .before .loop .inv .1 ∙ class-here (c .before .before .before .before .before .before .before .before .before .args .name .now) (c .before .before .before .before .before .loop .i) (c .before .before .before .before .loop-test .taken) ∙ rw (sym (c .before .is-text .ensures) ∙ c .if1 .left))
 
 returns-2 : tie.Need-returns-2 Inv-loop μ-loop
-returns-2 c = let z : c .before .loop .i ≡ 18 = omega arith in sym (c .before .loop .inv .1 ∙ class-end (c .before .before .before .before .before .args .name .now) (c .before .loop .i) (c .loop-test .left) ∙ z)
+returns-2 c =
+    let z : c .before .loop .i ≡ 18 = omega arith in
+    sym (c .before .loop .inv .1 ∙ class-end (c .before .before .before .before .before .args .name .now) (c .before .loop .i) (c .loop-test .left) ∙ z)
 
 pub class-of-spec : {M : Type 1} → statement M
 class-of-spec =

@@ -21,10 +21,17 @@ part-result-start : tie.Need-part-result-start
 part-result-start c = search needs
 
 part-result-end : tie.Need-part-result-end
-part-result-end c = let w = name-within (c .before .before .before .args .f .now) (c .before .before .before .args .s) (c .before .before .before .pre .0) (c .before .before .before .args .n) (c .before .before .before .pre .1) in omega (arith, c .before .name .ensures .0, c .name2 .ensures .0, ranges (c .before .before .before .args .f .now) (c .before .before .before .args .s) (c .before .before .before .pre .0) .text)
+part-result-end c =
+    let a = c .before .before .before .args in
+    let p = c .before .before .before .pre in
+    let w = name-within (a .f .now) (a .s) (p .0) (a .n) (p .1) in
+    omega (arith, c .before .name .ensures .0, c .name2 .ensures .0, ranges (a .f .now) (a .s) (p .0) .text)
 
 returns : tie.Need-returns
-returns c = name-part (c .before .before .before .before .args .f .now) (c .before .before .before .before .args .s) (c .before .before .before .before .pre .0) (c .before .before .before .before .args .n) (c .before .before .name .result) (c .before .name2 .result) (c .before .before .before .before .pre .1) (c .before .before .name .ensures .0) (c .before .name2 .ensures .0)
+returns c =
+    let a = c .before .before .before .before .args in
+    let p = c .before .before .before .before .pre in
+    name-part (a .f .now) (a .s) (p .0) (a .n) (c .before .before .name .result) (c .before .name2 .result) (p .1) (c .before .before .name .ensures .0) (c .before .name2 .ensures .0)
 
 pub name-text-spec : {M : Type 1} → statement M
 name-text-spec =

@@ -42,7 +42,9 @@ loop-again : tie.Need-loop-again Inv-loop μ-loop
 loop-again c = (omega arith, filled-more 256 _ (c .before .before .before .before .before .loop .n) _ _ (omega (arith, c .before .before .before .before .before .before .before .pre .laid .within .names)) (c .rule-number .ensures ∙ ap ruleNumber (c .before .function-rule .ensures ∙ ap ruleOf (c .before .before .name-text .ensures))) (c .before .before .before .before .before .loop .inv .1))
 
 returns : tie.Need-returns Inv-loop μ-loop
-returns c = record { rule = λ k h. c .before .before .loop .inv .1 .entry k (omega (arith, names-long (c .before .before .before .before .args .f .now) (c .before .before .before .before .args .s))) }
+returns c =
+    let a = c .before .before .before .before .args in
+    record { rule = λ k h. c .before .before .loop .inv .1 .entry k (omega (arith, names-long (a .f .now) (a .s))) }
 
 pub rules-spec : {M : Type 1} → statement M
 rules-spec =

@@ -38,10 +38,11 @@ loop-less c = omega arith
 -- src/lib.rt:26:5
 loop-again : tie.Need-loop-again Inv-loop μ-loop
 loop-again c =
+    let a = c .before .before .before .args in
     let inv = c .before .before .loop .inv in
     let l : c .before .before .loop .i < length (c .before .before .loop .area) = omega arith in
-    let k : c .before .before .loop .i < length (c .before .before .before .args .own .now) = omega arith in
-    (omega arith, simp length-set (inv .1), copy-step _ _ _ l k (inv .2), drop-step (c .before .before .loop .area) (c .before .before .before .args .area .now) (c .before .before .loop .i) _ (inv .3))
+    let k : c .before .before .loop .i < length (a .own .now) = omega arith in
+    (omega arith, simp length-set (inv .1), copy-step _ _ _ l k (inv .2), drop-step (c .before .before .loop .area) (a .area .now) (c .before .before .loop .i) _ (inv .3))
 
 -- src/lib.rt:21:1
 same-length : tie.Need-same-length Inv-loop μ-loop
@@ -50,9 +51,10 @@ same-length c = c .before .loop .inv .1
 -- src/lib.rt:21:1
 returns : tie.Need-returns Inv-loop μ-loop
 returns c =
+    let a = c .before .before .args in
     let inv = c .before .loop .inv in
-    let k : c .before .loop .i ≡ c .before .before .args .n = omega arith in
-    copied (c .before .before .args .area .now) (c .before .before .args .own .now) (c .before .loop .area) (c .before .before .args .n) (c .before .before .pre .0) (rw k at (inv .2)) (rw k at (inv .3))
+    let k : c .before .loop .i ≡ a .n = omega arith in
+    copied (a .area .now) (a .own .now) (c .before .loop .area) (a .n) (c .before .before .pre .0) (rw k at (inv .2)) (rw k at (inv .3))
 
 pub copy-spec : {M : Type 1} → statement M
 copy-spec =

@@ -21,7 +21,10 @@ same-length c = search needs
 
 -- src/output.rt:47:9
 returns : tie.Need-returns
-returns c = let e = not-handed (c .before .before .before .before .before .before .before .args .own .now) (c .before .before .before .before .before .before .before .args .area .now) (c .before .before .before .before .before .before .before .args .area .now) (c .before .before .before .before .before .before .before .args .area .now) (c .before .before .before .before .before .before .before .args .used) (c .before .before .before .before .before .before .before .pre .0) (c .before .before .before .before .if1 .taken) in (c .before .before .refuse .ensures .0 ∙ ap told (sym e), c .before .before .refuse .ensures .1 ∙ ap (resultArea (length (c .before .before .before .before .before .before .before .args .area .now))) (sym e))
+returns c =
+    let a = c .before .before .before .before .before .before .before .args in
+    let e = not-handed (a .own .now) (a .area .now) (a .area .now) (a .area .now) (a .used) (c .before .before .before .before .before .before .before .pre .0) (c .before .before .before .before .if1 .taken) in
+    (c .before .before .refuse .ensures .0 ∙ ap told (sym e), c .before .before .refuse .ensures .1 ∙ ap (resultArea (length (a .area .now))) (sym e))
 
 -- src/output.rt:49:5
 copy-requires : tie.Need-copy-requires
@@ -41,7 +44,9 @@ same-length-2 c = search needs
 
 -- src/output.rt:42:1
 returns-2 : tie.Need-returns-2
-returns-2 c = handed (c .before .before .before .before .before .before .before .before .before .before .before .args .own .now) (c .before .before .before .before .before .before .before .before .before .before .before .args .area .now) _ _ (c .before .before .before .before .before .before .before .before .before .before .before .args .used) (c .before .before .before .before .before .before .before .before .before .before .before .pre .0) (c .before .before .before .before .before .before .before .before .if1 .left) (c .before .before .before .before .before .before .copy .ensures) (c .before .before .before .before .before .before .copy .kept .1 .1 .0) (c .before .before .clear .ensures)
+returns-2 c =
+    let a = c .before .before .before .before .before .before .before .before .before .before .before .args in
+    handed (a .own .now) (a .area .now) _ _ (a .used) (c .before .before .before .before .before .before .before .before .before .before .before .pre .0) (c .before .before .before .before .before .before .before .before .if1 .left) (c .before .before .before .before .before .before .copy .ensures) (c .before .before .before .before .before .before .copy .kept .1 .1 .0) (c .before .before .clear .ensures)
 
 pub hand-out-spec : {M : Type 1} → statement M
 hand-out-spec =

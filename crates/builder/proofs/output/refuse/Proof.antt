@@ -16,7 +16,9 @@ same-length c = search needs
 
 -- src/output.rt:34:1
 returns : tie.Need-returns
-returns c = cleared (c .before .before .before .before .before .args .area .now) _ (c .before .before .before .before .before .args .number) (c .before .before .clear .ensures)
+returns c =
+    let a = c .before .before .before .before .before .args in
+    cleared (a .area .now) _ (a .number) (c .before .before .clear .ensures)
 
 pub refuse-spec : {M : Type 1} → statement M
 refuse-spec = tie.close (tie.spec clear-requires same-length returns)

@@ -31,7 +31,9 @@ shared-slice-read-if1 c = omega arith
 
 -- src/pairing.rt:17:13
 returns : tie.Need-returns Inv-loop μ-loop
-returns c = sym (c .before .before .before .loop .inv .2 ∙ member-here (c .before .before .before .before .args .roles .now) (c .before .before .before .before .args .n) (omega arith) (c .before .before .before .before .args .role) (c .before .before .before .loop .j) (omega arith) ∙ rw (eq-eqb _ _ (c .if1 .taken)) refl)
+returns c =
+    let a = c .before .before .before .before .args in
+    sym (c .before .before .before .loop .inv .2 ∙ member-here (a .roles .now) (a .n) (omega arith) (a .role) (c .before .before .before .loop .j) (omega arith) ∙ rw (eq-eqb _ _ (c .if1 .taken)) refl)
 
 -- src/pairing.rt:19:9
 add-j : tie.Need-add-j Inv-loop μ-loop
@@ -43,11 +45,15 @@ loop-less c = omega arith
 
 -- src/pairing.rt:15:5
 loop-again : tie.Need-loop-again Inv-loop μ-loop
-loop-again c = (omega arith, omega arith, c .before .before .before .loop .inv .2 ∙ member-here (c .before .before .before .before .args .roles .now) (c .before .before .before .before .args .n) (omega arith) (c .before .before .before .before .args .role) (c .before .before .before .loop .j) (omega arith) ∙ rw (ne-eqb _ _ (c .if1 .left)) refl)
+loop-again c =
+    let a = c .before .before .before .before .args in
+    (omega arith, omega arith, c .before .before .before .loop .inv .2 ∙ member-here (a .roles .now) (a .n) (omega arith) (a .role) (c .before .before .before .loop .j) (omega arith) ∙ rw (ne-eqb _ _ (c .if1 .left)) refl)
 
 -- src/pairing.rt:10:1
 returns-2 : tie.Need-returns-2 Inv-loop μ-loop
-returns-2 c = sym (c .before .loop .inv .2 ∙ member-end (c .before .before .args .roles .now) (c .before .before .args .n) (omega arith) (c .before .before .args .role) (c .before .loop .j) (omega arith))
+returns-2 c =
+    let a = c .before .before .args in
+    sym (c .before .loop .inv .2 ∙ member-end (a .roles .now) (a .n) (omega arith) (a .role) (c .before .loop .j) (omega arith))
 
 pub has-role-spec : {M : Type 1} → statement M
 has-role-spec =

@@ -19,7 +19,9 @@ no-states-requires : tie.Need-no-states-requires Inv-loop μ-loop
 no-states-requires c κs = search needs
 
 loop-holds : tie.Need-loop-holds Inv-loop μ-loop
-loop-holds c = (omega arith, omega (arith, c .no-states .ensures .0), c .no-states .ensures .1, rw (c .no-states .ensures .0) (sym (lacking-none (take (c .before .before .before .args .n) (c .before .before .before .args .roles .now)) (c .before .before .before .args .starts .now))))
+loop-holds c =
+    let a = c .before .before .before .args in
+    (omega arith, omega (arith, c .no-states .ensures .0), c .no-states .ensures .1, rw (c .no-states .ensures .0) (sym (lacking-none (take (a .n) (a .roles .now)) (a .starts .now))))
 
 lacks-requires : tie.Need-lacks-requires Inv-loop μ-loop
 lacks-requires c κs = (c .before .before .before .before .before .pre .0, omega arith, omega arith)
@@ -43,15 +45,19 @@ loop-less : tie.Need-loop-less Inv-loop μ-loop
 loop-less c = omega arith
 
 loop-again : tie.Need-loop-again Inv-loop μ-loop
-loop-again c = let z : c .before .before .before .loop .v % 4294967296 ≡ c .before .before .before .loop .v = omega arith in
+loop-again c =
+    let a = c .before .before .before .before .before .before .before .args in
+    let z : c .before .before .before .loop .v % 4294967296 ≡ c .before .before .before .loop .v = omega arith in
     let inv = c .before .before .before .loop .inv in
     ⊎-elim
-    (λ w. rw (w .1) (omega arith, omega arith, simp length-set (inv .2), rw z (taken-in (take (c .before .before .before .before .before .before .before .args .n) (c .before .before .before .before .before .before .before .args .roles .now)) (c .before .before .before .before .before .before .before .args .starts .now) (c .before .before .before .loop .v) (c .before .before .before .loop .q .count) (c .before .before .before .loop .q .states) (sym (c .before .lacks .ensures) ∙ w .0 .taken) (omega arith) (inv .3))))
-    (λ w. rw (w .1) (omega arith, omega arith, inv .2, inv .3 ∙ sym (kept-out (take (c .before .before .before .before .before .before .before .args .n) (c .before .before .before .before .before .before .before .args .roles .now)) (c .before .before .before .before .before .before .before .args .starts .now) (c .before .before .before .loop .v) (sym (c .before .lacks .ensures) ∙ w .0 .left))))
+    (λ w. rw (w .1) (omega arith, omega arith, simp length-set (inv .2), rw z (taken-in (take (a .n) (a .roles .now)) (a .starts .now) (c .before .before .before .loop .v) (c .before .before .before .loop .q .count) (c .before .before .before .loop .q .states) (sym (c .before .lacks .ensures) ∙ w .0 .taken) (omega arith) (inv .3))))
+    (λ w. rw (w .1) (omega arith, omega arith, inv .2, inv .3 ∙ sym (kept-out (take (a .n) (a .roles .now)) (a .starts .now) (c .before .before .before .loop .v) (sym (c .before .lacks .ensures) ∙ w .0 .left))))
     (c .if1 .came)
 
 returns : tie.Need-returns Inv-loop μ-loop
-returns c = let e : c .before .loop .v ≡ c .before .before .before .before .before .args .vars = omega arith in (omega (arith, c .before .loop .inv .1), c .before .loop .inv .2, rw (← e) (c .before .loop .inv .3))
+returns c =
+    let e : c .before .loop .v ≡ c .before .before .before .before .before .args .vars = omega arith in
+    (omega (arith, c .before .loop .inv .1), c .before .loop .inv .2, rw (← e) (c .before .loop .inv .3))
 
 pub lacking-spec : {M : Type 1} → statement M
 lacking-spec =

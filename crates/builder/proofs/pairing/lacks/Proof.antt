@@ -48,7 +48,10 @@ has-role-requires c κs = search needs
 -- src/pairing.rt:59:1
 returns : tie.Need-returns
 unfolding lacksIn
-returns c = let z : (2 * (c .before .before .before .before .before .args .v) + 2) % 4294967296 ≡ 2 * (c .before .before .before .before .before .args .v) + 2 = omega arith in rw (c .has-role .ensures, z) refl
+returns c =
+    let a = c .before .before .before .before .before .args in
+    let z : (2 * (a .v) + 2) % 4294967296 ≡ 2 * (a .v) + 2 = omega arith in
+    rw (c .has-role .ensures, z) refl
 
 pub lacks-spec : {M : Type 1} → statement M
 lacks-spec =

@@ -48,11 +48,16 @@ loop-less c = omega arith
 
 -- src/pairing.rt:38:5
 loop-again : tie.Need-loop-again Inv-loop μ-loop
-loop-again c = let t = times-here (c .before .before .before .before .before .args .roles .now) (c .before .before .before .before .before .args .n) (omega arith) (eqb 0) (c .before .before .before .loop .i) (omega arith) in (omega arith, omega (arith, c .none-flag .ensures .1), omega (arith, t, c .none-flag .ensures .0, c .before .before .before .loop .inv .2))
+loop-again c =
+    let a = c .before .before .before .before .before .args in
+    let t = times-here (a .roles .now) (a .n) (omega arith) (eqb 0) (c .before .before .before .loop .i) (omega arith) in
+    (omega arith, omega (arith, c .none-flag .ensures .1), omega (arith, t, c .none-flag .ensures .0, c .before .before .before .loop .inv .2))
 
 -- src/pairing.rt:32:1
 returns : tie.Need-returns Inv-loop μ-loop
-returns c = omega (arith, c .before .loop .inv .2, times-end (c .before .before .before .args .roles .now) (c .before .before .before .args .n) (omega arith) (eqb 0) (c .before .loop .i) (omega arith))
+returns c =
+    let a = c .before .before .before .args in
+    omega (arith, c .before .loop .inv .2, times-end (a .roles .now) (a .n) (omega arith) (eqb 0) (c .before .loop .i) (omega arith))
 
 pub left-count-spec : {M : Type 1} → statement M
 left-count-spec =

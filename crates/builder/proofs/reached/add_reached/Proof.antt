@@ -55,7 +55,9 @@ loop-less : tie.Need-loop-less Inv-loop μ-loop
 loop-less c = omega arith
 
 loop-again : tie.Need-loop-again Inv-loop μ-loop
-loop-again c = let a = c .before .before .before .before .before .before .before .args in (omega arith, added-more (a .a) (a .new .now) (λ y. eqb (getD (a .old .now) (32 * a .c + y) 0) 1) (c .before .before .before .before .loop .b) (c .either .result) (c .before .before .before .before .loop .new) (omega arith) (c .either .ensures) (c .before .before .before .before .loop .inv .1))
+loop-again c =
+    let a = c .before .before .before .before .before .before .before .args in
+    (omega arith, added-more (a .a) (a .new .now) (λ y. eqb (getD (a .old .now) (32 * a .c + y) 0) 1) (c .before .before .before .before .loop .b) (c .either .result) (c .before .before .before .before .loop .new) (omega arith) (c .either .ensures) (c .before .before .before .before .loop .inv .1))
 
 mul-new-2 : tie.Need-mul-new-2 Inv-loop μ-loop
 mul-new-2 c = omega arith
@@ -70,7 +72,10 @@ same-length : tie.Need-same-length Inv-loop μ-loop
 same-length c = length-set (c .before .loop .new) _ 1 ∙ c .before .loop .inv .1 .size
 
 returns : tie.Need-returns Inv-loop μ-loop
-returns c = let a = c .before .before .before .before .args in let e : c .before .loop .b ≡ a .models = omega arith in added-last (a .a) (a .new .now) (a .models) (a .c) (a .old .now) (c .before .loop .new) (c .before .before .before .before .pre .3) (omega arith) (rw e at (c .before .loop .inv .1))
+returns c =
+    let a = c .before .before .before .before .args in
+    let e : c .before .loop .b ≡ a .models = omega arith in
+    added-last (a .a) (a .new .now) (a .models) (a .c) (a .old .now) (c .before .loop .new) (c .before .before .before .before .pre .3) (omega arith) (rw e at (c .before .loop .inv .1))
 
 pub add-reached-spec : {M : Type 1} → statement M
 add-reached-spec =

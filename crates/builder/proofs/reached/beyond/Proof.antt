@@ -20,34 +20,60 @@ node-requires : tie.Need-node-requires Inv-loop μ-loop
 node-requires c κs = (c .before .pre .0, (c .before .pre .1, omega arith))
 
 loop-holds : tie.Need-loop-holds Inv-loop μ-loop
-loop-holds c = (sizeAt (contentsIn (c .before .before .args .f .now) (c .before .before .args .s) .nodes) (c .before .before .args .call) - 1, omega (arith, c .before .before .pre .1), rw (c .node .ensures .0) (call-args (c .before .before .args .f .now) (c .before .before .args .s) (c .before .before .pre .0) (c .before .before .args .call) (c .before .before .pre .1) (c .before .before .pre .2)), rw (c .node .ensures .0))
+loop-holds c =
+    let a = c .before .before .args in
+    let p = c .before .before .pre in
+    (sizeAt (contentsIn (a .f .now) (a .s) .nodes) (a .call) - 1, omega (arith, p .1), rw (c .node .ensures .0) (call-args (a .f .now) (a .s) (p .0) (a .call) (p .1) (p .2)), rw (c .node .ensures .0))
 
 sub-left : tie.Need-sub-left Inv-loop μ-loop
 sub-left c = omega arith
 
 sub-node : tie.Need-sub-node Inv-loop μ-loop
-sub-node c = let a = arg-here (c .before .before .before .before .args .f .now) (c .before .before .before .before .args .s) (c .before .before .before .before .pre .0) (c .before .loop .end) (c .before .loop .left) (c .before .loop .inv .0) (c .before .loop .inv .1) (c .before .loop .inv .2) (c .loop-test .taken) in omega (arith, a .two)
+sub-node c =
+    let args = c .before .before .before .before .args in
+    let a = arg-here (args .f .now) (args .s) (c .before .before .before .before .pre .0) (c .before .loop .end) (c .before .loop .left) (c .before .loop .inv .0) (c .before .loop .inv .1) (c .before .loop .inv .2) (c .loop-test .taken) in
+    omega (arith, a .two)
 
 node-requires-2 : tie.Need-node-requires-2 Inv-loop μ-loop
-node-requires-2 c κs = let a = arg-here (c .before .before .before .before .args .f .now) (c .before .before .before .before .args .s) (c .before .before .before .before .pre .0) (c .before .loop .end) (c .before .loop .left) (c .before .loop .inv .0) (c .before .loop .inv .1) (c .before .loop .inv .2) (c .loop-test .taken) in (c .before .before .before .before .pre .0, (omega (arith, a .two, c .before .loop .inv .1), omega arith))
+node-requires-2 c κs =
+    let args = c .before .before .before .before .args in
+    let p = c .before .before .before .before .pre in
+    let a = arg-here (args .f .now) (args .s) (p .0) (c .before .loop .end) (c .before .loop .left) (c .before .loop .inv .0) (c .before .loop .inv .1) (c .before .loop .inv .2) (c .loop-test .taken) in
+    (p .0, (omega (arith, a .two, c .before .loop .inv .1), omega arith))
 
 returns : tie.Need-returns Inv-loop μ-loop
-returns c = sym (c .before .before .before .loop .inv .3 ∙ beyond-here (c .before .before .before .before .before .before .args .f .now) (c .before .before .before .before .before .before .args .s) (c .before .before .before .before .before .before .pre .0) (c .before .before .before .loop .end) (c .before .before .before .loop .left) (c .before .before .before .loop .inv .0) (c .before .before .before .loop .inv .1) (c .before .before .before .loop .inv .2) (c .before .before .loop-test .taken) (c .before .before .before .before .before .before .args .n) ∙ rw (← c .before .node2 .ensures .0, c .if1 .taken, or-true))
+returns c =
+    let a = c .before .before .before .before .before .before .args in
+    sym (c .before .before .before .loop .inv .3 ∙ beyond-here (a .f .now) (a .s) (c .before .before .before .before .before .before .pre .0) (c .before .before .before .loop .end) (c .before .before .before .loop .left) (c .before .before .before .loop .inv .0) (c .before .before .before .loop .inv .1) (c .before .before .before .loop .inv .2) (c .before .before .loop-test .taken) (a .n) ∙ rw (← c .before .node2 .ensures .0, c .if1 .taken, or-true))
 
 sub-node-2 : tie.Need-sub-node-2 Inv-loop μ-loop
-sub-node-2 c = let a = arg-here (c .before .before .before .before .before .before .args .f .now) (c .before .before .before .before .before .before .args .s) (c .before .before .before .before .before .before .pre .0) (c .before .before .before .loop .end) (c .before .before .before .loop .left) (c .before .before .before .loop .inv .0) (c .before .before .before .loop .inv .1) (c .before .before .before .loop .inv .2) (c .before .before .loop-test .taken) in omega (arith, a .two)
+sub-node-2 c =
+    let args = c .before .before .before .before .before .before .args in
+    let a = arg-here (args .f .now) (args .s) (c .before .before .before .before .before .before .pre .0) (c .before .before .before .loop .end) (c .before .before .before .loop .left) (c .before .before .before .loop .inv .0) (c .before .before .before .loop .inv .1) (c .before .before .before .loop .inv .2) (c .before .before .loop-test .taken) in
+    omega (arith, a .two)
 
 node-requires-3 : tie.Need-node-requires-3 Inv-loop μ-loop
-node-requires-3 c κs = let a = arg-here (c .before .before .before .before .before .before .args .f .now) (c .before .before .before .before .before .before .args .s) (c .before .before .before .before .before .before .pre .0) (c .before .before .before .loop .end) (c .before .before .before .loop .left) (c .before .before .before .loop .inv .0) (c .before .before .before .loop .inv .1) (c .before .before .before .loop .inv .2) (c .before .before .loop-test .taken) in (c .before .before .before .before .before .before .pre .0, (omega (arith, a .two, c .before .before .before .loop .inv .1), omega arith))
+node-requires-3 c κs =
+    let args = c .before .before .before .before .before .before .args in
+    let p = c .before .before .before .before .before .before .pre in
+    let a = arg-here (args .f .now) (args .s) (p .0) (c .before .before .before .loop .end) (c .before .before .before .loop .left) (c .before .before .before .loop .inv .0) (c .before .before .before .loop .inv .1) (c .before .before .before .loop .inv .2) (c .before .before .loop-test .taken) in
+    (p .0, (omega (arith, a .two, c .before .before .before .loop .inv .1), omega arith))
 
 sub-end : tie.Need-sub-end Inv-loop μ-loop
-sub-end c = let a = arg-here (c .before .before .before .before .before .before .before .args .f .now) (c .before .before .before .before .before .before .before .args .s) (c .before .before .before .before .before .before .before .pre .0) (c .before .before .before .before .loop .end) (c .before .before .before .before .loop .left) (c .before .before .before .before .loop .inv .0) (c .before .before .before .before .loop .inv .1) (c .before .before .before .before .loop .inv .2) (c .before .before .before .loop-test .taken) in omega (arith, a .within, c .node3 .ensures .0)
+sub-end c =
+    let args = c .before .before .before .before .before .before .before .args in
+    let a = arg-here (args .f .now) (args .s) (c .before .before .before .before .before .before .before .pre .0) (c .before .before .before .before .loop .end) (c .before .before .before .before .loop .left) (c .before .before .before .before .loop .inv .0) (c .before .before .before .before .loop .inv .1) (c .before .before .before .before .loop .inv .2) (c .before .before .before .loop-test .taken) in
+    omega (arith, a .within, c .node3 .ensures .0)
 
 loop-less : tie.Need-loop-less Inv-loop μ-loop
 loop-less c = omega (arith, c .before .before .before .loop-test .taken)
 
 loop-again : tie.Need-loop-again Inv-loop μ-loop
-loop-again c = let a = arg-here (c .before .before .before .before .before .before .before .args .f .now) (c .before .before .before .before .before .before .before .args .s) (c .before .before .before .before .before .before .before .pre .0) (c .before .before .before .before .loop .end) (c .before .before .before .before .loop .left) (c .before .before .before .before .loop .inv .0) (c .before .before .before .before .loop .inv .1) (c .before .before .before .before .loop .inv .2) (c .before .before .before .loop-test .taken) in (c .before .before .before .before .loop .inv .0 - sizeAt (contentsIn (c .before .before .before .before .before .before .before .args .f .now) (c .before .before .before .before .before .before .before .args .s) .nodes) (c .before .before .before .before .loop .end - 1), omega (arith, c .before .before .before .before .loop .inv .1), rw (c .node3 .ensures .0) (a .rest), c .before .before .before .before .loop .inv .3 ∙ beyond-here (c .before .before .before .before .before .before .before .args .f .now) (c .before .before .before .before .before .before .before .args .s) (c .before .before .before .before .before .before .before .pre .0) (c .before .before .before .before .loop .end) (c .before .before .before .before .loop .left) (c .before .before .before .before .loop .inv .0) (c .before .before .before .before .loop .inv .1) (c .before .before .before .before .loop .inv .2) (c .before .before .before .loop-test .taken) (c .before .before .before .before .before .before .before .args .n) ∙ rw (← c .before .before .node2 .ensures .0, ← c .node3 .ensures .0, c .before .if1 .left) (or-false _))
+loop-again c =
+    let args = c .before .before .before .before .before .before .before .args in
+    let p = c .before .before .before .before .before .before .before .pre in
+    let a = arg-here (args .f .now) (args .s) (p .0) (c .before .before .before .before .loop .end) (c .before .before .before .before .loop .left) (c .before .before .before .before .loop .inv .0) (c .before .before .before .before .loop .inv .1) (c .before .before .before .before .loop .inv .2) (c .before .before .before .loop-test .taken) in
+    (c .before .before .before .before .loop .inv .0 - sizeAt (contentsIn (args .f .now) (args .s) .nodes) (c .before .before .before .before .loop .end - 1), omega (arith, c .before .before .before .before .loop .inv .1), rw (c .node3 .ensures .0) (a .rest), c .before .before .before .before .loop .inv .3 ∙ beyond-here (args .f .now) (args .s) (p .0) (c .before .before .before .before .loop .end) (c .before .before .before .before .loop .left) (c .before .before .before .before .loop .inv .0) (c .before .before .before .before .loop .inv .1) (c .before .before .before .before .loop .inv .2) (c .before .before .before .loop-test .taken) (args .n) ∙ rw (← c .before .before .node2 .ensures .0, ← c .node3 .ensures .0, c .before .if1 .left) (or-false _))
 
 returns-2 : tie.Need-returns-2 Inv-loop μ-loop
 returns-2 c = sym (c .before .loop .inv .3 ∙ beyond-done _ _ _ (c .before .loop .left) _ (c .loop-test .left))

@@ -16,13 +16,17 @@ abbrev μ-loop : tie.MeasureT-loop
 
 loop-holds : tie.Need-loop-holds Inv-loop μ-loop
 unfolding flatten.cyclic
-loop-holds c = (omega arith, ap (flatten.anyReached (fileIn (c .before .args .f .now) (c .before .args .s)) (c .before .args .root) (λ k. flatten.reached (fileIn (c .before .args .f .now) (c .before .args .s)) k k)) (long (c .before .args .f .now) (c .before .args .s) (c .before .pre .0) .file-models))
+loop-holds c =
+    let a = c .before .args in
+    (omega arith, ap (flatten.anyReached (fileIn (a .f .now) (a .s)) (a .root) (λ k. flatten.reached (fileIn (a .f .now) (a .s)) k k)) (long (a .f .now) (a .s) (c .before .pre .0) .file-models))
 
 sub-is-reached : tie.Need-sub-is-reached Inv-loop μ-loop
 sub-is-reached c = omega arith
 
 is-reached-requires : tie.Need-is-reached-requires Inv-loop μ-loop
-is-reached-requires c κs = (c .before .before .before .pre .0, c .before .before .before .pre .1, c .before .before .before .pre .2, omega arith)
+is-reached-requires c κs =
+    let p = c .before .before .before .pre in
+    (p .0, p .1, p .2, omega arith)
 
 sub-if1 : tie.Need-sub-if1 Inv-loop μ-loop
 sub-if1 c = omega arith
@@ -34,7 +38,10 @@ element-copy-out-if1 : tie.Need-element-copy-out-if1 Inv-loop μ-loop
 element-copy-out-if1 c = omega (arith, c .before .before .before .before .pre .0 .laid .within .models)
 
 returns : tie.Need-returns Inv-loop μ-loop
-returns c = sym (c .before .before .before .before .loop .inv .1 ∙ reached-by (fileIn (c .before .before .before .before .before .before .args .f .now) (c .before .before .before .before .before .before .args .s)) (c .before .before .before .before .before .before .args .root) (λ k. flatten.reached (fileIn (c .before .before .before .before .before .before .args .f .now) (c .before .before .before .before .before .before .args .s)) k k) (c .before .before .before .before .loop .m) _ _ (c .before .before .before .loop-test .taken) (c .before .before .is-reached .ensures) (itself-flag (c .before .before .before .before .before .before .args .f .now) (c .before .before .before .before .before .before .args .s) (c .before .before .before .before .before .before .pre .0) (c .before .before .before .before .before .before .args .table .now) (c .before .before .before .before .before .before .pre .1) (c .before .before .before .before .loop .m - 1) (omega arith)) ∙ rw (c .if1 .taken))
+returns c =
+    let a = c .before .before .before .before .before .before .args in
+    let p = c .before .before .before .before .before .before .pre in
+    sym (c .before .before .before .before .loop .inv .1 ∙ reached-by (fileIn (a .f .now) (a .s)) (a .root) (λ k. flatten.reached (fileIn (a .f .now) (a .s)) k k) (c .before .before .before .before .loop .m) _ _ (c .before .before .before .loop-test .taken) (c .before .before .is-reached .ensures) (itself-flag (a .f .now) (a .s) (p .0) (a .table .now) (p .1) (c .before .before .before .before .loop .m - 1) (omega arith)) ∙ rw (c .if1 .taken))
 
 sub-m : tie.Need-sub-m Inv-loop μ-loop
 sub-m c = omega arith
@@ -43,10 +50,15 @@ loop-less : tie.Need-loop-less Inv-loop μ-loop
 loop-less c = omega arith
 
 loop-again : tie.Need-loop-again Inv-loop μ-loop
-loop-again c = (omega arith, c .before .before .before .before .loop .inv .1 ∙ reached-by (fileIn (c .before .before .before .before .before .before .args .f .now) (c .before .before .before .before .before .before .args .s)) (c .before .before .before .before .before .before .args .root) (λ k. flatten.reached (fileIn (c .before .before .before .before .before .before .args .f .now) (c .before .before .before .before .before .before .args .s)) k k) (c .before .before .before .before .loop .m) _ _ (c .before .before .before .loop-test .taken) (c .before .before .is-reached .ensures) (itself-flag (c .before .before .before .before .before .before .args .f .now) (c .before .before .before .before .before .before .args .s) (c .before .before .before .before .before .before .pre .0) (c .before .before .before .before .before .before .args .table .now) (c .before .before .before .before .before .before .pre .1) (c .before .before .before .before .loop .m - 1) (omega arith)) ∙ rw (c .if1 .left))
+loop-again c =
+    let a = c .before .before .before .before .before .before .args in
+    let p = c .before .before .before .before .before .before .pre in
+    (omega arith, c .before .before .before .before .loop .inv .1 ∙ reached-by (fileIn (a .f .now) (a .s)) (a .root) (λ k. flatten.reached (fileIn (a .f .now) (a .s)) k k) (c .before .before .before .before .loop .m) _ _ (c .before .before .before .loop-test .taken) (c .before .before .is-reached .ensures) (itself-flag (a .f .now) (a .s) (p .0) (a .table .now) (p .1) (c .before .before .before .before .loop .m - 1) (omega arith)) ∙ rw (c .if1 .left))
 
 returns-2 : tie.Need-returns-2 Inv-loop μ-loop
-returns-2 c = sym (c .before .loop .inv .1 ∙ reached-done (fileIn (c .before .before .before .args .f .now) (c .before .before .before .args .s)) (c .before .before .before .args .root) (λ k. flatten.reached (fileIn (c .before .before .before .args .f .now) (c .before .before .before .args .s)) k k) (c .before .loop .m) (c .loop-test .left))
+returns-2 c =
+    let a = c .before .before .before .args in
+    sym (c .before .loop .inv .1 ∙ reached-done (fileIn (a .f .now) (a .s)) (a .root) (λ k. flatten.reached (fileIn (a .f .now) (a .s)) k k) (c .before .loop .m) (c .loop-test .left))
 
 pub cyclic-spec : {M : Type 1} → statement M
 cyclic-spec =

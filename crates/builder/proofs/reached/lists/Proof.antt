@@ -21,13 +21,20 @@ unfolding member
 loop-holds c = (omega arith, refl)
 
 add-dep : tie.Need-add-dep Inv-loop μ-loop
-add-dep c = omega (arith, c .before .before .before .pre .1, c .before .before .before .pre .0 .laid .within .deps)
+add-dep c =
+    let p = c .before .before .before .pre in
+    omega (arith, p .1, p .0 .laid .within .deps)
 
 dep-requires : tie.Need-dep-requires Inv-loop μ-loop
-dep-requires c κs = (c .before .before .before .pre .0, omega (arith, c .before .before .before .pre .1))
+dep-requires c κs =
+    let p = c .before .before .before .pre in
+    (p .0, omega (arith, p .1))
 
 returns : tie.Need-returns Inv-loop μ-loop
-returns c = sym (c .before .before .before .loop .inv .1 ∙ member-turn (c .before .before .before .before .before .args .f .now) (c .before .before .before .before .before .args .s) (c .before .before .before .before .before .pre .0) (c .before .before .before .before .before .args .first) (c .before .before .before .before .before .args .count) (c .before .before .before .loop .i) (c .before .before .before .before .before .pre .1) (c .before .before .before .before .before .args .name) (c .before .before .loop-test .taken) ∙ rw (eq-eqb _ _ (sym (c .if1 .taken) ∙ c .before .dep .ensures)))
+returns c =
+    let a = c .before .before .before .before .before .args in
+    let p = c .before .before .before .before .before .pre in
+    sym (c .before .before .before .loop .inv .1 ∙ member-turn (a .f .now) (a .s) (p .0) (a .first) (a .count) (c .before .before .before .loop .i) (p .1) (a .name) (c .before .before .loop-test .taken) ∙ rw (eq-eqb _ _ (sym (c .if1 .taken) ∙ c .before .dep .ensures)))
 
 add-i : tie.Need-add-i Inv-loop μ-loop
 add-i c = omega arith
@@ -36,10 +43,16 @@ loop-less : tie.Need-loop-less Inv-loop μ-loop
 loop-less c = omega arith
 
 loop-again : tie.Need-loop-again Inv-loop μ-loop
-loop-again c = (omega arith, c .before .before .before .loop .inv .1 ∙ member-turn (c .before .before .before .before .before .args .f .now) (c .before .before .before .before .before .args .s) (c .before .before .before .before .before .pre .0) (c .before .before .before .before .before .args .first) (c .before .before .before .before .before .args .count) (c .before .before .before .loop .i) (c .before .before .before .before .before .pre .1) (c .before .before .before .before .before .args .name) (c .before .before .loop-test .taken) ∙ rw (ne-eqb _ _ (λ z. c .if1 .left (c .before .dep .ensures ∙ sym z))))
+loop-again c =
+    let a = c .before .before .before .before .before .args in
+    let p = c .before .before .before .before .before .pre in
+    (omega arith, c .before .before .before .loop .inv .1 ∙ member-turn (a .f .now) (a .s) (p .0) (a .first) (a .count) (c .before .before .before .loop .i) (p .1) (a .name) (c .before .before .loop-test .taken) ∙ rw (ne-eqb _ _ (λ z. c .if1 .left (c .before .dep .ensures ∙ sym z))))
 
 returns-2 : tie.Need-returns-2 Inv-loop μ-loop
-returns-2 c = sym (c .before .loop .inv .1 ∙ member-done (c .before .before .before .args .f .now) (c .before .before .before .args .s) (c .before .before .before .pre .0) (c .before .before .before .args .first) (c .before .before .before .args .count) (c .before .loop .i) (c .before .before .before .pre .1) (c .before .before .before .args .name) (c .loop-test .left))
+returns-2 c =
+    let a = c .before .before .before .args in
+    let p = c .before .before .before .pre in
+    sym (c .before .loop .inv .1 ∙ member-done (a .f .now) (a .s) (p .0) (a .first) (a .count) (c .before .loop .i) (p .1) (a .name) (c .loop-test .left))
 
 pub lists-spec : {M : Type 1} → statement M
 lists-spec =

@@ -9,7 +9,10 @@ unknown-requires : tie.Need-unknown-requires
 unknown-requires c κs = search needs
 
 element-copy-out-class : tie.Need-element-copy-out-class
-element-copy-out-class c = omega (arith, unknown-is (c .before .before .args .f .now) (c .before .before .args .s) (c .before .before .pre .0) (c .before .before .args .u) (c .before .before .pre .2) .name-below, c .unknown .ensures .0, c .before .before .pre .0 .laid .within .names)
+element-copy-out-class c =
+    let a = c .before .before .args in
+    let p = c .before .before .pre in
+    omega (arith, unknown-is (a .f .now) (a .s) (p .0) (a .u) (p .2) .name-below, c .unknown .ensures .0, p .0 .laid .within .names)
 
 is-time-requires : tie.Need-is-time-requires
 is-time-requires c κs = search needs
@@ -24,10 +27,16 @@ unknown-requires-3 : tie.Need-unknown-requires-3
 unknown-requires-3 c κs = search needs
 
 lists-requires : tie.Need-lists-requires
-lists-requires c κs = (c .before .before .before .before .before .before .before .pre .0, omega (arith, unknown-is (c .before .before .before .before .before .before .before .args .f .now) (c .before .before .before .before .before .before .before .args .s) (c .before .before .before .before .before .before .before .pre .0) (c .before .before .before .before .before .before .before .args .u) (c .before .before .before .before .before .before .before .pre .2) .deps-within, c .before .unknown2 .ensures .0, c .unknown3 .ensures .0))
+lists-requires c κs =
+    let a = c .before .before .before .before .before .before .before .args in
+    let p = c .before .before .before .before .before .before .before .pre in
+    (p .0, omega (arith, unknown-is (a .f .now) (a .s) (p .0) (a .u) (p .2) .deps-within, c .before .unknown2 .ensures .0, c .unknown3 .ensures .0))
 
 returns : tie.Need-returns
-returns c = rw (c .before .before .before .before .is-time .ensures, c .before .before .before .is-reserved .ensures, c .lists .ensures) (lists-itself-is (c .before .before .before .before .before .before .before .before .args .f .now) (c .before .before .before .before .before .before .before .before .args .s) (c .before .before .before .before .before .before .before .before .pre .0) (c .before .before .before .before .before .before .before .before .args .classes .now) (c .before .before .before .before .before .before .before .before .pre .1) (c .before .before .before .before .before .before .before .before .args .u) (c .before .before .before .before .before .before .before .before .pre .2) (c .before .before .before .before .before .before .unknown .result) (c .before .before .unknown2 .result) (c .before .unknown3 .result) (c .before .before .before .before .before .before .unknown .ensures .0) (c .before .before .unknown2 .ensures .0) (c .before .unknown3 .ensures .0))
+returns c =
+    let a = c .before .before .before .before .before .before .before .before .args in
+    let p = c .before .before .before .before .before .before .before .before .pre in
+    rw (c .before .before .before .before .is-time .ensures, c .before .before .before .is-reserved .ensures, c .lists .ensures) (lists-itself-is (a .f .now) (a .s) (p .0) (a .classes .now) (p .1) (a .u) (p .2) (c .before .before .before .before .before .before .unknown .result) (c .before .before .unknown2 .result) (c .before .unknown3 .result) (c .before .before .before .before .before .before .unknown .ensures .0) (c .before .before .unknown2 .ensures .0) (c .before .unknown3 .ensures .0))
 
 pub lists-itself-spec : {M : Type 1} → statement M
 lists-itself-spec =

@@ -25,13 +25,22 @@ loop-holds : tie.Need-loop-holds Inv-loop μ-loop
 loop-holds c = (omega arith, refl)
 
 add-too-many : tie.Need-add-too-many Inv-loop μ-loop
-add-too-many c = omega (arith, stmts-below (c .before .before .before .before .before .args .f .now) (c .before .before .before .before .before .args .s) (c .before .before .before .before .before .pre .0) (c .before .before .before .before .before .args .m) (c .before .before .before .before .before .pre .2) (c .before .before .before .model .result) (c .before .before .model2 .result) (c .before .loop .i) (c .before .before .before .model .ensures .0) (c .before .before .model2 .ensures .0) (c .loop-test .taken), c .before .before .before .before .before .pre .0 .laid .within .stmts)
+add-too-many c =
+    let a = c .before .before .before .before .before .args in
+    let p = c .before .before .before .before .before .pre in
+    omega (arith, stmts-below (a .f .now) (a .s) (p .0) (a .m) (p .2) (c .before .before .before .model .result) (c .before .before .model2 .result) (c .before .loop .i) (c .before .before .before .model .ensures .0) (c .before .before .model2 .ensures .0) (c .loop-test .taken), p .0 .laid .within .stmts)
 
 too-many-requires : tie.Need-too-many-requires Inv-loop μ-loop
-too-many-requires c κs = (c .before .before .before .before .before .pre .0, c .before .before .before .before .before .pre .1, stmts-below (c .before .before .before .before .before .args .f .now) (c .before .before .before .before .before .args .s) (c .before .before .before .before .before .pre .0) (c .before .before .before .before .before .args .m) (c .before .before .before .before .before .pre .2) (c .before .before .before .model .result) (c .before .before .model2 .result) (c .before .loop .i) (c .before .before .before .model .ensures .0) (c .before .before .model2 .ensures .0) (c .loop-test .taken))
+too-many-requires c κs =
+    let a = c .before .before .before .before .before .args in
+    let p = c .before .before .before .before .before .pre in
+    (p .0, p .1, stmts-below (a .f .now) (a .s) (p .0) (a .m) (p .2) (c .before .before .before .model .result) (c .before .before .model2 .result) (c .before .loop .i) (c .before .before .before .model .ensures .0) (c .before .before .model2 .ensures .0) (c .loop-test .taken))
 
 returns : tie.Need-returns Inv-loop μ-loop
-returns c = sym (c .before .before .before .loop .inv .1 ∙ stmts-turn (c .before .before .before .before .before .before .before .args .f .now) (c .before .before .before .before .before .before .before .args .s) (c .before .before .before .before .before .before .before .pre .0) (c .before .before .before .before .before .before .before .args .m) (c .before .before .before .before .before .before .before .pre .2) (c .before .before .before .before .before .model .result) (c .before .before .before .before .model2 .result) (c .before .before .before .loop .i) (c .before .before .before .before .before .model .ensures .0) (c .before .before .before .before .model2 .ensures .0) (flatten.stmtBeyond (fileIn (c .before .before .before .before .before .before .before .args .f .now) (c .before .before .before .before .before .before .before .args .s))) (c .before .before .loop-test .taken) ∙ rw (sym (c .before .too-many .ensures) ∙ c .if1 .taken))
+returns c =
+    let a = c .before .before .before .before .before .before .before .args in
+    let p = c .before .before .before .before .before .before .before .pre in
+    sym (c .before .before .before .loop .inv .1 ∙ stmts-turn (a .f .now) (a .s) (p .0) (a .m) (p .2) (c .before .before .before .before .before .model .result) (c .before .before .before .before .model2 .result) (c .before .before .before .loop .i) (c .before .before .before .before .before .model .ensures .0) (c .before .before .before .before .model2 .ensures .0) (flatten.stmtBeyond (fileIn (a .f .now) (a .s))) (c .before .before .loop-test .taken) ∙ rw (sym (c .before .too-many .ensures) ∙ c .if1 .taken))
 
 add-i : tie.Need-add-i Inv-loop μ-loop
 add-i c = omega arith
@@ -40,10 +49,16 @@ loop-less : tie.Need-loop-less Inv-loop μ-loop
 loop-less c = omega arith
 
 loop-again : tie.Need-loop-again Inv-loop μ-loop
-loop-again c = (omega arith, c .before .before .before .loop .inv .1 ∙ stmts-turn (c .before .before .before .before .before .before .before .args .f .now) (c .before .before .before .before .before .before .before .args .s) (c .before .before .before .before .before .before .before .pre .0) (c .before .before .before .before .before .before .before .args .m) (c .before .before .before .before .before .before .before .pre .2) (c .before .before .before .before .before .model .result) (c .before .before .before .before .model2 .result) (c .before .before .before .loop .i) (c .before .before .before .before .before .model .ensures .0) (c .before .before .before .before .model2 .ensures .0) (flatten.stmtBeyond (fileIn (c .before .before .before .before .before .before .before .args .f .now) (c .before .before .before .before .before .before .before .args .s))) (c .before .before .loop-test .taken) ∙ rw (sym (c .before .too-many .ensures) ∙ c .if1 .left))
+loop-again c =
+    let a = c .before .before .before .before .before .before .before .args in
+    let p = c .before .before .before .before .before .before .before .pre in
+    (omega arith, c .before .before .before .loop .inv .1 ∙ stmts-turn (a .f .now) (a .s) (p .0) (a .m) (p .2) (c .before .before .before .before .before .model .result) (c .before .before .before .before .model2 .result) (c .before .before .before .loop .i) (c .before .before .before .before .before .model .ensures .0) (c .before .before .before .before .model2 .ensures .0) (flatten.stmtBeyond (fileIn (a .f .now) (a .s))) (c .before .before .loop-test .taken) ∙ rw (sym (c .before .too-many .ensures) ∙ c .if1 .left))
 
 returns-2 : tie.Need-returns-2 Inv-loop μ-loop
-returns-2 c = sym (c .before .loop .inv .1 ∙ stmts-done (c .before .before .before .before .before .args .f .now) (c .before .before .before .before .before .args .s) (c .before .before .before .before .before .pre .0) (c .before .before .before .before .before .args .m) (c .before .before .before .before .before .pre .2) (c .before .before .before .model .result) (c .before .before .model2 .result) (c .before .loop .i) (c .before .before .before .model .ensures .0) (c .before .before .model2 .ensures .0) (flatten.stmtBeyond (fileIn (c .before .before .before .before .before .args .f .now) (c .before .before .before .before .before .args .s))) (c .loop-test .left))
+returns-2 c =
+    let a = c .before .before .before .before .before .args in
+    let p = c .before .before .before .before .before .pre in
+    sym (c .before .loop .inv .1 ∙ stmts-done (a .f .now) (a .s) (p .0) (a .m) (p .2) (c .before .before .before .model .result) (c .before .before .model2 .result) (c .before .loop .i) (c .before .before .before .model .ensures .0) (c .before .before .model2 .ensures .0) (flatten.stmtBeyond (fileIn (a .f .now) (a .s))) (c .loop-test .left))
 
 pub model-too-many-spec : {M : Type 1} → statement M
 model-too-many-spec =

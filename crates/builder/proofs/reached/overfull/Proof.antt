@@ -17,22 +17,30 @@ abbrev μ-loop : tie.MeasureT-loop
 
 loop-holds : tie.Need-loop-holds Inv-loop μ-loop
 unfolding flatten.overfull
-loop-holds c = (omega arith, ap (flatten.anyReached (fileIn (c .before .args .f .now) (c .before .args .s)) (c .before .args .root) (λ k. any (flatten.stmtBeyond (fileIn (c .before .args .f .now) (c .before .args .s))) (flatten.modelAt (fileIn (c .before .args .f .now) (c .before .args .s)) k .stmts))) (long (c .before .args .f .now) (c .before .args .s) (c .before .pre .0) .file-models))
+loop-holds c =
+    let a = c .before .args in
+    (omega arith, ap (flatten.anyReached (fileIn (a .f .now) (a .s)) (a .root) (λ k. any (flatten.stmtBeyond (fileIn (a .f .now) (a .s))) (flatten.modelAt (fileIn (a .f .now) (a .s)) k .stmts))) (long (a .f .now) (a .s) (c .before .pre .0) .file-models))
 
 sub-is-reached : tie.Need-sub-is-reached Inv-loop μ-loop
 sub-is-reached c = omega arith
 
 is-reached-requires : tie.Need-is-reached-requires Inv-loop μ-loop
-is-reached-requires c κs = (c .before .before .before .pre .0, c .before .before .before .pre .2, c .before .before .before .pre .3, omega arith)
+is-reached-requires c κs =
+    let p = c .before .before .before .pre in
+    (p .0, p .2, p .3, omega arith)
 
 sub-model-too-many : tie.Need-sub-model-too-many Inv-loop μ-loop
 sub-model-too-many c = omega arith
 
 model-too-many-requires : tie.Need-model-too-many-requires Inv-loop μ-loop
-model-too-many-requires c κs = (c .before .before .before .before .pre .0, c .before .before .before .before .pre .1, omega arith)
+model-too-many-requires c κs =
+    let p = c .before .before .before .before .pre in
+    (p .0, p .1, omega arith)
 
 returns : tie.Need-returns Inv-loop μ-loop
-returns c = sym (c .before .before .before .before .loop .inv .1 ∙ reached-by (fileIn (c .before .before .before .before .before .before .args .f .now) (c .before .before .before .before .before .before .args .s)) (c .before .before .before .before .before .before .args .root) (λ k. any (flatten.stmtBeyond (fileIn (c .before .before .before .before .before .before .args .f .now) (c .before .before .before .before .before .before .args .s))) (flatten.modelAt (fileIn (c .before .before .before .before .before .before .args .f .now) (c .before .before .before .before .before .before .args .s)) k .stmts)) (c .before .before .before .before .loop .m) _ _ (c .before .before .before .loop-test .taken) (c .before .before .is-reached .ensures) (c .before .model-too-many .ensures) ∙ rw (c .if1 .taken))
+returns c =
+    let a = c .before .before .before .before .before .before .args in
+    sym (c .before .before .before .before .loop .inv .1 ∙ reached-by (fileIn (a .f .now) (a .s)) (a .root) (λ k. any (flatten.stmtBeyond (fileIn (a .f .now) (a .s))) (flatten.modelAt (fileIn (a .f .now) (a .s)) k .stmts)) (c .before .before .before .before .loop .m) _ _ (c .before .before .before .loop-test .taken) (c .before .before .is-reached .ensures) (c .before .model-too-many .ensures) ∙ rw (c .if1 .taken))
 
 sub-m : tie.Need-sub-m Inv-loop μ-loop
 sub-m c = omega arith
@@ -41,10 +49,14 @@ loop-less : tie.Need-loop-less Inv-loop μ-loop
 loop-less c = omega arith
 
 loop-again : tie.Need-loop-again Inv-loop μ-loop
-loop-again c = (omega arith, c .before .before .before .before .loop .inv .1 ∙ reached-by (fileIn (c .before .before .before .before .before .before .args .f .now) (c .before .before .before .before .before .before .args .s)) (c .before .before .before .before .before .before .args .root) (λ k. any (flatten.stmtBeyond (fileIn (c .before .before .before .before .before .before .args .f .now) (c .before .before .before .before .before .before .args .s))) (flatten.modelAt (fileIn (c .before .before .before .before .before .before .args .f .now) (c .before .before .before .before .before .before .args .s)) k .stmts)) (c .before .before .before .before .loop .m) _ _ (c .before .before .before .loop-test .taken) (c .before .before .is-reached .ensures) (c .before .model-too-many .ensures) ∙ rw (c .if1 .left))
+loop-again c =
+    let a = c .before .before .before .before .before .before .args in
+    (omega arith, c .before .before .before .before .loop .inv .1 ∙ reached-by (fileIn (a .f .now) (a .s)) (a .root) (λ k. any (flatten.stmtBeyond (fileIn (a .f .now) (a .s))) (flatten.modelAt (fileIn (a .f .now) (a .s)) k .stmts)) (c .before .before .before .before .loop .m) _ _ (c .before .before .before .loop-test .taken) (c .before .before .is-reached .ensures) (c .before .model-too-many .ensures) ∙ rw (c .if1 .left))
 
 returns-2 : tie.Need-returns-2 Inv-loop μ-loop
-returns-2 c = sym (c .before .loop .inv .1 ∙ reached-done (fileIn (c .before .before .before .args .f .now) (c .before .before .before .args .s)) (c .before .before .before .args .root) (λ k. any (flatten.stmtBeyond (fileIn (c .before .before .before .args .f .now) (c .before .before .before .args .s))) (flatten.modelAt (fileIn (c .before .before .before .args .f .now) (c .before .before .before .args .s)) k .stmts)) (c .before .loop .m) (c .loop-test .left))
+returns-2 c =
+    let a = c .before .before .before .args in
+    sym (c .before .loop .inv .1 ∙ reached-done (fileIn (a .f .now) (a .s)) (a .root) (λ k. any (flatten.stmtBeyond (fileIn (a .f .now) (a .s))) (flatten.modelAt (fileIn (a .f .now) (a .s)) k .stmts)) (c .before .loop .m) (c .loop-test .left))
 
 pub overfull-spec : {M : Type 1} → statement M
 overfull-spec =

@@ -24,31 +24,54 @@ abbrev μ-loop : tie.MeasureT-loop
 μ-loop f s classes m out₀ first count i₀ out i = count - i
 
 time-declared-requires : tie.Need-time-declared-requires Inv-loop μ-loop
-time-declared-requires c κs = (c .before .before .before .pre .0, c .before .before .before .pre .1, c .before .before .before .pre .3)
+time-declared-requires c κs =
+    let p = c .before .before .before .pre in
+    (p .0, p .1, p .3)
 
 model-requires : tie.Need-model-requires Inv-loop μ-loop
-model-requires c κs = (c .before .before .before .before .before .before .pre .0, (c .before .before .before .before .before .before .pre .2, omega arith))
+model-requires c κs =
+    let p = c .before .before .before .before .before .before .pre in
+    (p .0, (p .2, omega arith))
 
 model-requires-2 : tie.Need-model-requires-2 Inv-loop μ-loop
-model-requires-2 c κs = (c .before .before .before .before .before .before .before .pre .0, (c .before .before .before .before .before .before .before .pre .2, omega arith))
+model-requires-2 c κs =
+    let p = c .before .before .before .before .before .before .before .pre in
+    (p .0, (p .2, omega arith))
 
 loop-holds : tie.Need-loop-holds Inv-loop μ-loop
-loop-holds c = (omega arith, marks-begin (fileIn (c .before .before .before .before .before .before .before .before .args .f .now) (c .before .before .before .before .before .before .before .before .args .s) .names) (modelAt (fileIn (c .before .before .before .before .before .before .before .before .args .f .now) (c .before .before .before .before .before .before .before .before .args .s)) (c .before .before .before .before .before .before .before .before .args .m) .unknowns) _ _ (c .before .before .before .before .time-declared .ensures))
+loop-holds c =
+    let a = c .before .before .before .before .before .before .before .before .args in
+    (omega arith, marks-begin (fileIn (a .f .now) (a .s) .names) (modelAt (fileIn (a .f .now) (a .s)) (a .m) .unknowns) _ _ (c .before .before .before .before .time-declared .ensures))
 
 add-unknown : tie.Need-add-unknown Inv-loop μ-loop
-add-unknown c = omega (arith, unknowns-below (c .before .before .before .before .before .before .before .before .before .before .args .f .now) (c .before .before .before .before .before .before .before .before .before .before .args .s) (c .before .before .before .before .before .before .before .before .before .before .pre .0) (c .before .before .before .before .before .before .before .before .before .before .args .m) (c .before .before .before .before .before .before .before .before .before .before .pre .2) (c .before .before .before .model .result) (c .before .before .model2 .result) (c .before .loop .i) (c .before .before .before .model .ensures .0) (c .before .before .model2 .ensures .0) (c .loop-test .taken), c .before .before .before .before .before .before .before .before .before .before .pre .0 .laid .within .unknowns)
+add-unknown c =
+    let a = c .before .before .before .before .before .before .before .before .before .before .args in
+    let p = c .before .before .before .before .before .before .before .before .before .before .pre in
+    omega (arith, unknowns-below (a .f .now) (a .s) (p .0) (a .m) (p .2) (c .before .before .before .model .result) (c .before .before .model2 .result) (c .before .loop .i) (c .before .before .before .model .ensures .0) (c .before .before .model2 .ensures .0) (c .loop-test .taken), p .0 .laid .within .unknowns)
 
 unknown-requires : tie.Need-unknown-requires Inv-loop μ-loop
-unknown-requires c κs = (c .before .before .before .before .before .before .before .before .before .before .pre .0, (unknowns-below (c .before .before .before .before .before .before .before .before .before .before .args .f .now) (c .before .before .before .before .before .before .before .before .before .before .args .s) (c .before .before .before .before .before .before .before .before .before .before .pre .0) (c .before .before .before .before .before .before .before .before .before .before .args .m) (c .before .before .before .before .before .before .before .before .before .before .pre .2) (c .before .before .before .model .result) (c .before .before .model2 .result) (c .before .loop .i) (c .before .before .before .model .ensures .0) (c .before .before .model2 .ensures .0) (c .loop-test .taken), omega arith))
+unknown-requires c κs =
+    let a = c .before .before .before .before .before .before .before .before .before .before .args in
+    let p = c .before .before .before .before .before .before .before .before .before .before .pre in
+    (p .0, (unknowns-below (a .f .now) (a .s) (p .0) (a .m) (p .2) (c .before .before .before .model .result) (c .before .before .model2 .result) (c .before .loop .i) (c .before .before .before .model .ensures .0) (c .before .before .model2 .ensures .0) (c .loop-test .taken), omega arith))
 
 mul-marked : tie.Need-mul-marked Inv-loop μ-loop
-mul-marked c = omega (arith, unknown-is (c .before .before .before .before .before .before .before .before .before .before .before .args .f .now) (c .before .before .before .before .before .before .before .before .before .before .before .args .s) (c .before .before .before .before .before .before .before .before .before .before .before .pre .0) (c .before .before .before .before .model .result + c .before .before .loop .i) (unknowns-below (c .before .before .before .before .before .before .before .before .before .before .before .args .f .now) (c .before .before .before .before .before .before .before .before .before .before .before .args .s) (c .before .before .before .before .before .before .before .before .before .before .before .pre .0) (c .before .before .before .before .before .before .before .before .before .before .before .args .m) (c .before .before .before .before .before .before .before .before .before .before .before .pre .2) (c .before .before .before .before .model .result) (c .before .before .before .model2 .result) (c .before .before .loop .i) (c .before .before .before .before .model .ensures .0) (c .before .before .before .model2 .ensures .0) (c .before .loop-test .taken)) .name-below, c .unknown .ensures .0, c .before .before .before .before .before .before .before .before .before .before .before .pre .0 .laid .within .names)
+mul-marked c =
+    let a = c .before .before .before .before .before .before .before .before .before .before .before .args in
+    let p = c .before .before .before .before .before .before .before .before .before .before .before .pre in
+    omega (arith, unknown-is (a .f .now) (a .s) (p .0) (c .before .before .before .before .model .result + c .before .before .loop .i) (unknowns-below (a .f .now) (a .s) (p .0) (a .m) (p .2) (c .before .before .before .before .model .result) (c .before .before .before .model2 .result) (c .before .before .loop .i) (c .before .before .before .before .model .ensures .0) (c .before .before .before .model2 .ensures .0) (c .before .loop-test .taken)) .name-below, c .unknown .ensures .0, p .0 .laid .within .names)
 
 slice-read-marked : tie.Need-slice-read-marked Inv-loop μ-loop
-slice-read-marked c = omega (arith, unknown-is (c .before .before .before .before .before .before .before .before .before .before .before .before .args .f .now) (c .before .before .before .before .before .before .before .before .before .before .before .before .args .s) (c .before .before .before .before .before .before .before .before .before .before .before .before .pre .0) (c .before .before .before .before .before .model .result + c .before .before .before .loop .i) (unknowns-below (c .before .before .before .before .before .before .before .before .before .before .before .before .args .f .now) (c .before .before .before .before .before .before .before .before .before .before .before .before .args .s) (c .before .before .before .before .before .before .before .before .before .before .before .before .pre .0) (c .before .before .before .before .before .before .before .before .before .before .before .before .args .m) (c .before .before .before .before .before .before .before .before .before .before .before .before .pre .2) (c .before .before .before .before .before .model .result) (c .before .before .before .before .model2 .result) (c .before .before .before .loop .i) (c .before .before .before .before .before .model .ensures .0) (c .before .before .before .before .model2 .ensures .0) (c .before .before .loop-test .taken)) .name-below, c .before .unknown .ensures .0, c .before .before .before .before .before .before .before .before .before .before .before .before .pre .0 .laid .within .names, c .before .before .before .loop .inv .1 .long)
+slice-read-marked c =
+    let a = c .before .before .before .before .before .before .before .before .before .before .before .before .args in
+    let p = c .before .before .before .before .before .before .before .before .before .before .before .before .pre in
+    omega (arith, unknown-is (a .f .now) (a .s) (p .0) (c .before .before .before .before .before .model .result + c .before .before .before .loop .i) (unknowns-below (a .f .now) (a .s) (p .0) (a .m) (p .2) (c .before .before .before .before .before .model .result) (c .before .before .before .before .model2 .result) (c .before .before .before .loop .i) (c .before .before .before .before .before .model .ensures .0) (c .before .before .before .before .model2 .ensures .0) (c .before .before .loop-test .taken)) .name-below, c .before .unknown .ensures .0, p .0 .laid .within .names, c .before .before .before .loop .inv .1 .long)
 
 element-copy-out-is-reserved : tie.Need-element-copy-out-is-reserved Inv-loop μ-loop
-element-copy-out-is-reserved c = omega (arith, unknown-is (c .before .before .before .before .before .before .before .before .before .before .before .before .args .f .now) (c .before .before .before .before .before .before .before .before .before .before .before .before .args .s) (c .before .before .before .before .before .before .before .before .before .before .before .before .pre .0) (c .before .before .before .before .before .model .result + c .before .before .before .loop .i) (unknowns-below (c .before .before .before .before .before .before .before .before .before .before .before .before .args .f .now) (c .before .before .before .before .before .before .before .before .before .before .before .before .args .s) (c .before .before .before .before .before .before .before .before .before .before .before .before .pre .0) (c .before .before .before .before .before .before .before .before .before .before .before .before .args .m) (c .before .before .before .before .before .before .before .before .before .before .before .before .pre .2) (c .before .before .before .before .before .model .result) (c .before .before .before .before .model2 .result) (c .before .before .before .loop .i) (c .before .before .before .before .before .model .ensures .0) (c .before .before .before .before .model2 .ensures .0) (c .before .before .loop-test .taken)) .name-below, c .before .unknown .ensures .0, c .before .before .before .before .before .before .before .before .before .before .before .before .pre .0 .laid .within .names)
+element-copy-out-is-reserved c =
+    let a = c .before .before .before .before .before .before .before .before .before .before .before .before .args in
+    let p = c .before .before .before .before .before .before .before .before .before .before .before .before .pre in
+    omega (arith, unknown-is (a .f .now) (a .s) (p .0) (c .before .before .before .before .before .model .result + c .before .before .before .loop .i) (unknowns-below (a .f .now) (a .s) (p .0) (a .m) (p .2) (c .before .before .before .before .before .model .result) (c .before .before .before .before .model2 .result) (c .before .before .before .loop .i) (c .before .before .before .before .before .model .ensures .0) (c .before .before .before .before .model2 .ensures .0) (c .before .before .loop-test .taken)) .name-below, c .before .unknown .ensures .0, p .0 .laid .within .names)
 
 is-reserved-requires : tie.Need-is-reserved-requires Inv-loop μ-loop
 is-reserved-requires c κs = tt
@@ -57,25 +80,40 @@ marked-requires : tie.Need-marked-requires Inv-loop μ-loop
 marked-requires c κs = tt
 
 mul-out : tie.Need-mul-out Inv-loop μ-loop
-mul-out c = omega (arith, unknown-is (c .before .before .before .before .before .before .before .before .before .before .before .before .before .before .before .args .f .now) (c .before .before .before .before .before .before .before .before .before .before .before .before .before .before .before .args .s) (c .before .before .before .before .before .before .before .before .before .before .before .before .before .before .before .pre .0) (c .before .before .before .before .before .before .before .before .model .result + c .before .before .before .before .before .before .loop .i) (unknowns-below (c .before .before .before .before .before .before .before .before .before .before .before .before .before .before .before .args .f .now) (c .before .before .before .before .before .before .before .before .before .before .before .before .before .before .before .args .s) (c .before .before .before .before .before .before .before .before .before .before .before .before .before .before .before .pre .0) (c .before .before .before .before .before .before .before .before .before .before .before .before .before .before .before .args .m) (c .before .before .before .before .before .before .before .before .before .before .before .before .before .before .before .pre .2) (c .before .before .before .before .before .before .before .before .model .result) (c .before .before .before .before .before .before .before .model2 .result) (c .before .before .before .before .before .before .loop .i) (c .before .before .before .before .before .before .before .before .model .ensures .0) (c .before .before .before .before .before .before .before .model2 .ensures .0) (c .before .before .before .before .before .loop-test .taken)) .name-below, c .before .before .before .before .unknown .ensures .0, c .before .before .before .before .before .before .before .before .before .before .before .before .before .before .before .pre .0 .laid .within .names)
+mul-out c =
+    let a = c .before .before .before .before .before .before .before .before .before .before .before .before .before .before .before .args in
+    let p = c .before .before .before .before .before .before .before .before .before .before .before .before .before .before .before .pre in
+    omega (arith, unknown-is (a .f .now) (a .s) (p .0) (c .before .before .before .before .before .before .before .before .model .result + c .before .before .before .before .before .before .loop .i) (unknowns-below (a .f .now) (a .s) (p .0) (a .m) (p .2) (c .before .before .before .before .before .before .before .before .model .result) (c .before .before .before .before .before .before .before .model2 .result) (c .before .before .before .before .before .before .loop .i) (c .before .before .before .before .before .before .before .before .model .ensures .0) (c .before .before .before .before .before .before .before .model2 .ensures .0) (c .before .before .before .before .before .loop-test .taken)) .name-below, c .before .before .before .before .unknown .ensures .0, p .0 .laid .within .names)
 
 slice-write-out : tie.Need-slice-write-out Inv-loop μ-loop
-slice-write-out c = omega (arith, unknown-is (c .before .before .before .before .before .before .before .before .before .before .before .before .before .before .before .args .f .now) (c .before .before .before .before .before .before .before .before .before .before .before .before .before .before .before .args .s) (c .before .before .before .before .before .before .before .before .before .before .before .before .before .before .before .pre .0) (c .before .before .before .before .before .before .before .before .model .result + c .before .before .before .before .before .before .loop .i) (unknowns-below (c .before .before .before .before .before .before .before .before .before .before .before .before .before .before .before .args .f .now) (c .before .before .before .before .before .before .before .before .before .before .before .before .before .before .before .args .s) (c .before .before .before .before .before .before .before .before .before .before .before .before .before .before .before .pre .0) (c .before .before .before .before .before .before .before .before .before .before .before .before .before .before .before .args .m) (c .before .before .before .before .before .before .before .before .before .before .before .before .before .before .before .pre .2) (c .before .before .before .before .before .before .before .before .model .result) (c .before .before .before .before .before .before .before .model2 .result) (c .before .before .before .before .before .before .loop .i) (c .before .before .before .before .before .before .before .before .model .ensures .0) (c .before .before .before .before .before .before .before .model2 .ensures .0) (c .before .before .before .before .before .loop-test .taken)) .name-below, c .before .before .before .before .unknown .ensures .0, c .before .before .before .before .before .before .before .before .before .before .before .before .before .before .before .pre .0 .laid .within .names, c .before .before .before .before .before .before .loop .inv .1 .long)
+slice-write-out c =
+    let a = c .before .before .before .before .before .before .before .before .before .before .before .before .before .before .before .args in
+    let p = c .before .before .before .before .before .before .before .before .before .before .before .before .before .before .before .pre in
+    omega (arith, unknown-is (a .f .now) (a .s) (p .0) (c .before .before .before .before .before .before .before .before .model .result + c .before .before .before .before .before .before .loop .i) (unknowns-below (a .f .now) (a .s) (p .0) (a .m) (p .2) (c .before .before .before .before .before .before .before .before .model .result) (c .before .before .before .before .before .before .before .model2 .result) (c .before .before .before .before .before .before .loop .i) (c .before .before .before .before .before .before .before .before .model .ensures .0) (c .before .before .before .before .before .before .before .model2 .ensures .0) (c .before .before .before .before .before .loop-test .taken)) .name-below, c .before .before .before .before .unknown .ensures .0, p .0 .laid .within .names, c .before .before .before .before .before .before .loop .inv .1 .long)
 
 add-i : tie.Need-add-i Inv-loop μ-loop
-add-i c = omega (arith, unknowns-below (c .before .before .before .before .before .before .before .before .before .before .before .before .before .before .before .args .f .now) (c .before .before .before .before .before .before .before .before .before .before .before .before .before .before .before .args .s) (c .before .before .before .before .before .before .before .before .before .before .before .before .before .before .before .pre .0) (c .before .before .before .before .before .before .before .before .before .before .before .before .before .before .before .args .m) (c .before .before .before .before .before .before .before .before .before .before .before .before .before .before .before .pre .2) (c .before .before .before .before .before .before .before .before .model .result) (c .before .before .before .before .before .before .before .model2 .result) (c .before .before .before .before .before .before .loop .i) (c .before .before .before .before .before .before .before .before .model .ensures .0) (c .before .before .before .before .before .before .before .model2 .ensures .0) (c .before .before .before .before .before .loop-test .taken), c .before .before .before .before .before .before .before .before .before .before .before .before .before .before .before .pre .0 .laid .within .unknowns)
+add-i c =
+    let a = c .before .before .before .before .before .before .before .before .before .before .before .before .before .before .before .args in
+    let p = c .before .before .before .before .before .before .before .before .before .before .before .before .before .before .before .pre in
+    omega (arith, unknowns-below (a .f .now) (a .s) (p .0) (a .m) (p .2) (c .before .before .before .before .before .before .before .before .model .result) (c .before .before .before .before .before .before .before .model2 .result) (c .before .before .before .before .before .before .loop .i) (c .before .before .before .before .before .before .before .before .model .ensures .0) (c .before .before .before .before .before .before .before .model2 .ensures .0) (c .before .before .before .before .before .loop-test .taken), p .0 .laid .within .unknowns)
 
 loop-less : tie.Need-loop-less Inv-loop μ-loop
 loop-less c = omega (arith, c .before .before .before .before .before .loop-test .taken)
 
 loop-again : tie.Need-loop-again Inv-loop μ-loop
-loop-again c = (omega (arith, c .before .before .before .before .before .loop-test .taken), marks-next (fileIn (c .before .before .before .before .before .before .before .before .before .before .before .before .before .before .before .args .f .now) (c .before .before .before .before .before .before .before .before .before .before .before .before .before .before .before .args .s) .names) (c .before .before .before .before .before .before .before .before .before .before .before .before .before .before .before .args .classes .now) (c .before .before .before .before .before .before .before .before .before .before .before .before .before .before .before .pre .1) (modelAt (fileIn (c .before .before .before .before .before .before .before .before .before .before .before .before .before .before .before .args .f .now) (c .before .before .before .before .before .before .before .before .before .before .before .before .before .before .before .args .s)) (c .before .before .before .before .before .before .before .before .before .before .before .before .before .before .before .args .m) .unknowns) (timeName (fileIn (c .before .before .before .before .before .before .before .before .before .before .before .before .before .before .before .args .f .now) (c .before .before .before .before .before .before .before .before .before .before .before .before .before .before .before .args .s) .names) ∷ []) (unknownIn (c .before .before .before .before .before .before .before .before .before .before .before .before .before .before .before .args .f .now) (c .before .before .before .before .before .before .before .before .before .before .before .before .before .before .before .args .s) (c .before .before .before .before .before .before .before .before .model .result + c .before .before .before .before .before .before .loop .i)) (c .before .before .before .before .before .before .loop .i) (unknown-there (c .before .before .before .before .before .before .before .before .before .before .before .before .before .before .before .args .f .now) (c .before .before .before .before .before .before .before .before .before .before .before .before .before .before .before .args .s) (c .before .before .before .before .before .before .before .before .before .before .before .before .before .before .before .pre .0) (c .before .before .before .before .before .before .before .before .before .before .before .before .before .before .before .args .m) (c .before .before .before .before .before .before .before .before .before .before .before .before .before .before .before .pre .2) (c .before .before .before .before .before .before .before .before .model .result) (c .before .before .before .before .before .before .before .model2 .result) (c .before .before .before .before .before .before .loop .i) (c .before .before .before .before .before .before .before .before .model .ensures .0) (c .before .before .before .before .before .before .before .model2 .ensures .0) (c .before .before .before .before .before .loop-test .taken)) (unknown-here (c .before .before .before .before .before .before .before .before .before .before .before .before .before .before .before .args .f .now) (c .before .before .before .before .before .before .before .before .before .before .before .before .before .before .before .args .s) (c .before .before .before .before .before .before .before .before .before .before .before .before .before .before .before .pre .0) (c .before .before .before .before .before .before .before .before .before .before .before .before .before .before .before .args .m) (c .before .before .before .before .before .before .before .before .before .before .before .before .before .before .before .pre .2) (c .before .before .before .before .before .before .before .before .model .result) (c .before .before .before .before .before .before .before .model2 .result) (c .before .before .before .before .before .before .loop .i) (c .before .before .before .before .before .before .before .before .model .ensures .0) (c .before .before .before .before .before .before .before .model2 .ensures .0) (c .before .before .before .before .before .loop-test .taken)) _ (c .before .before .before .before .unknown .result) (c .marked .result) (c .before .is-reserved .result) (c .before .before .before .before .before .before .loop .out) (names-long (c .before .before .before .before .before .before .before .before .before .before .before .before .before .before .before .args .f .now) (c .before .before .before .before .before .before .before .before .before .before .before .before .before .before .before .args .s)) (c .before .before .before .before .before .before .before .before .before .before .before .before .before .before .before .pre .0 .laid .within .names) (c .before .before .before .before .unknown .ensures .0 ∙ sym (name-of (c .before .before .before .before .before .before .before .before .before .before .before .before .before .before .before .args .f .now) (c .before .before .before .before .before .before .before .before .before .before .before .before .before .before .before .args .s) (c .before .before .before .before .before .before .before .before .model .result + c .before .before .before .before .before .before .loop .i))) (omega (arith, unknown-is (c .before .before .before .before .before .before .before .before .before .before .before .before .before .before .before .args .f .now) (c .before .before .before .before .before .before .before .before .before .before .before .before .before .before .before .args .s) (c .before .before .before .before .before .before .before .before .before .before .before .before .before .before .before .pre .0) (c .before .before .before .before .before .before .before .before .model .result + c .before .before .before .before .before .before .loop .i) (unknowns-below (c .before .before .before .before .before .before .before .before .before .before .before .before .before .before .before .args .f .now) (c .before .before .before .before .before .before .before .before .before .before .before .before .before .before .before .args .s) (c .before .before .before .before .before .before .before .before .before .before .before .before .before .before .before .pre .0) (c .before .before .before .before .before .before .before .before .before .before .before .before .before .before .before .args .m) (c .before .before .before .before .before .before .before .before .before .before .before .before .before .before .before .pre .2) (c .before .before .before .before .before .before .before .before .model .result) (c .before .before .before .before .before .before .before .model2 .result) (c .before .before .before .before .before .before .loop .i) (c .before .before .before .before .before .before .before .before .model .ensures .0) (c .before .before .before .before .before .before .before .model2 .ensures .0) (c .before .before .before .before .before .loop-test .taken)) .name-below, c .before .before .before .before .unknown .ensures .0)) (c .before .is-reserved .ensures) (c .marked .ensures) (c .before .before .before .before .before .before .loop .inv .1))
+loop-again c =
+    let a = c .before .before .before .before .before .before .before .before .before .before .before .before .before .before .before .args in
+    let p = c .before .before .before .before .before .before .before .before .before .before .before .before .before .before .before .pre in
+    (omega (arith, c .before .before .before .before .before .loop-test .taken), marks-next (fileIn (a .f .now) (a .s) .names) (a .classes .now) (p .1) (modelAt (fileIn (a .f .now) (a .s)) (a .m) .unknowns) (timeName (fileIn (a .f .now) (a .s) .names) ∷ []) (unknownIn (a .f .now) (a .s) (c .before .before .before .before .before .before .before .before .model .result + c .before .before .before .before .before .before .loop .i)) (c .before .before .before .before .before .before .loop .i) (unknown-there (a .f .now) (a .s) (p .0) (a .m) (p .2) (c .before .before .before .before .before .before .before .before .model .result) (c .before .before .before .before .before .before .before .model2 .result) (c .before .before .before .before .before .before .loop .i) (c .before .before .before .before .before .before .before .before .model .ensures .0) (c .before .before .before .before .before .before .before .model2 .ensures .0) (c .before .before .before .before .before .loop-test .taken)) (unknown-here (a .f .now) (a .s) (p .0) (a .m) (p .2) (c .before .before .before .before .before .before .before .before .model .result) (c .before .before .before .before .before .before .before .model2 .result) (c .before .before .before .before .before .before .loop .i) (c .before .before .before .before .before .before .before .before .model .ensures .0) (c .before .before .before .before .before .before .before .model2 .ensures .0) (c .before .before .before .before .before .loop-test .taken)) _ (c .before .before .before .before .unknown .result) (c .marked .result) (c .before .is-reserved .result) (c .before .before .before .before .before .before .loop .out) (names-long (a .f .now) (a .s)) (p .0 .laid .within .names) (c .before .before .before .before .unknown .ensures .0 ∙ sym (name-of (a .f .now) (a .s) (c .before .before .before .before .before .before .before .before .model .result + c .before .before .before .before .before .before .loop .i))) (omega (arith, unknown-is (a .f .now) (a .s) (p .0) (c .before .before .before .before .before .before .before .before .model .result + c .before .before .before .before .before .before .loop .i) (unknowns-below (a .f .now) (a .s) (p .0) (a .m) (p .2) (c .before .before .before .before .before .before .before .before .model .result) (c .before .before .before .before .before .before .before .model2 .result) (c .before .before .before .before .before .before .loop .i) (c .before .before .before .before .before .before .before .before .model .ensures .0) (c .before .before .before .before .before .before .before .model2 .ensures .0) (c .before .before .before .before .before .loop-test .taken)) .name-below, c .before .before .before .before .unknown .ensures .0)) (c .before .is-reserved .ensures) (c .marked .ensures) (c .before .before .before .before .before .before .loop .inv .1))
 
 same-length : tie.Need-same-length Inv-loop μ-loop
 same-length c = omega (arith, c .before .loop .inv .1 .long, c .before .before .before .before .before .before .before .before .before .before .pre .3 .0)
 
 returns : tie.Need-returns Inv-loop μ-loop
-returns c = marks-all (fileIn (c .before .before .before .before .before .before .before .before .before .before .args .f .now) (c .before .before .before .before .before .before .before .before .before .before .args .s) .names) (modelAt (fileIn (c .before .before .before .before .before .before .before .before .before .before .args .f .now) (c .before .before .before .before .before .before .before .before .before .before .args .s)) (c .before .before .before .before .before .before .before .before .before .before .args .m) .unknowns) _ (c .before .loop .i) _ (unknowns-past (c .before .before .before .before .before .before .before .before .before .before .args .f .now) (c .before .before .before .before .before .before .before .before .before .before .args .s) (c .before .before .before .before .before .before .before .before .before .before .pre .0) (c .before .before .before .before .before .before .before .before .before .before .args .m) (c .before .before .before .before .before .before .before .before .before .before .pre .2) (c .before .before .before .model .result) (c .before .before .model2 .result) (c .before .loop .i) (c .before .before .before .model .ensures .0) (c .before .before .model2 .ensures .0) (c .loop-test .left)) (c .before .loop .inv .1)
+returns c =
+    let a = c .before .before .before .before .before .before .before .before .before .before .args in
+    let p = c .before .before .before .before .before .before .before .before .before .before .pre in
+    marks-all (fileIn (a .f .now) (a .s) .names) (modelAt (fileIn (a .f .now) (a .s)) (a .m) .unknowns) _ (c .before .loop .i) _ (unknowns-past (a .f .now) (a .s) (p .0) (a .m) (p .2) (c .before .before .before .model .result) (c .before .before .model2 .result) (c .before .loop .i) (c .before .before .before .model .ensures .0) (c .before .before .model2 .ensures .0) (c .loop-test .left)) (c .before .loop .inv .1)
 
 pub declared-spec : {M : Type 1} → statement M
 declared-spec =

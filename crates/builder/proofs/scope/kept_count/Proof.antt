@@ -22,40 +22,70 @@ unknown-requires : tie.Need-unknown-requires Inv-loop μ-loop
 unknown-requires c κs = (c .before .before .pre .0, (c .before .before .pre .1, omega arith))
 
 unknown-requires-2 : tie.Need-unknown-requires-2 Inv-loop μ-loop
-unknown-requires-2 c κs = (c .before .before .before .pre .0, (c .before .before .before .pre .1, omega arith))
+unknown-requires-2 c κs =
+    let p = c .before .before .before .pre in
+    (p .0, (p .1, omega arith))
 
 loop-holds : tie.Need-loop-holds Inv-loop μ-loop
-loop-holds c = (omega arith, kept-none _ (unknownIn (c .before .before .before .before .args .f .now) (c .before .before .before .before .args .s) (c .before .before .before .before .args .u) .deps), omega arith)
+loop-holds c =
+    let a = c .before .before .before .before .args in
+    (omega arith, kept-none _ (unknownIn (a .f .now) (a .s) (a .u) .deps), omega arith)
 
 add-dep : tie.Need-add-dep Inv-loop μ-loop
-add-dep c = omega (arith, unknown-is (c .before .before .before .before .before .before .args .f .now) (c .before .before .before .before .before .before .args .s) (c .before .before .before .before .before .before .pre .0) (c .before .before .before .before .before .before .args .u) (c .before .before .before .before .before .before .pre .1) .deps-within, c .before .before .before .unknown .ensures .0, c .before .before .unknown2 .ensures .0, c .before .before .before .before .before .before .pre .0 .laid .within .deps)
+add-dep c =
+    let a = c .before .before .before .before .before .before .args in
+    let p = c .before .before .before .before .before .before .pre in
+    omega (arith, unknown-is (a .f .now) (a .s) (p .0) (a .u) (p .1) .deps-within, c .before .before .before .unknown .ensures .0, c .before .before .unknown2 .ensures .0, p .0 .laid .within .deps)
 
 dep-requires : tie.Need-dep-requires Inv-loop μ-loop
-dep-requires c κs = (c .before .before .before .before .before .before .pre .0, omega (arith, unknown-is (c .before .before .before .before .before .before .args .f .now) (c .before .before .before .before .before .before .args .s) (c .before .before .before .before .before .before .pre .0) (c .before .before .before .before .before .before .args .u) (c .before .before .before .before .before .before .pre .1) .deps-within, c .before .before .before .unknown .ensures .0, c .before .before .unknown2 .ensures .0, c .before .before .before .before .before .before .pre .0 .laid .within .deps))
+dep-requires c κs =
+    let a = c .before .before .before .before .before .before .args in
+    let p = c .before .before .before .before .before .before .pre in
+    (p .0, omega (arith, unknown-is (a .f .now) (a .s) (p .0) (a .u) (p .1) .deps-within, c .before .before .before .unknown .ensures .0, c .before .before .unknown2 .ensures .0, p .0 .laid .within .deps))
 
 mul-one-kept : tie.Need-mul-one-kept Inv-loop μ-loop
-mul-one-kept c = let b = dep-below (c .before .before .before .before .before .before .before .args .f .now) (c .before .before .before .before .before .before .before .args .s) (c .before .before .before .before .before .before .before .pre .0) (c .before .before .before .before .unknown .result + c .before .before .loop .i) (omega (arith, unknown-is (c .before .before .before .before .before .before .before .args .f .now) (c .before .before .before .before .before .before .before .args .s) (c .before .before .before .before .before .before .before .pre .0) (c .before .before .before .before .before .before .before .args .u) (c .before .before .before .before .before .before .before .pre .1) .deps-within, c .before .before .before .before .unknown .ensures .0, c .before .before .before .unknown2 .ensures .0, c .before .before .before .before .before .before .before .pre .0 .laid .within .deps, c .before .loop-test .taken)) in omega (arith, c .dep .ensures, b, c .before .before .before .before .before .before .before .pre .0 .laid .within .names)
+mul-one-kept c =
+    let a = c .before .before .before .before .before .before .before .args in
+    let p = c .before .before .before .before .before .before .before .pre in
+    let b = dep-below (a .f .now) (a .s) (p .0) (c .before .before .before .before .unknown .result + c .before .before .loop .i) (omega (arith, unknown-is (a .f .now) (a .s) (p .0) (a .u) (p .1) .deps-within, c .before .before .before .before .unknown .ensures .0, c .before .before .before .unknown2 .ensures .0, p .0 .laid .within .deps, c .before .loop-test .taken)) in
+    omega (arith, c .dep .ensures, b, p .0 .laid .within .names)
 
 shared-slice-read-one-kept : tie.Need-shared-slice-read-one-kept Inv-loop μ-loop
-shared-slice-read-one-kept c = let b = dep-below (c .before .before .before .before .before .before .before .before .args .f .now) (c .before .before .before .before .before .before .before .before .args .s) (c .before .before .before .before .before .before .before .before .pre .0) (c .before .before .before .before .before .unknown .result + c .before .before .before .loop .i) (omega (arith, unknown-is (c .before .before .before .before .before .before .before .before .args .f .now) (c .before .before .before .before .before .before .before .before .args .s) (c .before .before .before .before .before .before .before .before .pre .0) (c .before .before .before .before .before .before .before .before .args .u) (c .before .before .before .before .before .before .before .before .pre .1) .deps-within, c .before .before .before .before .before .unknown .ensures .0, c .before .before .before .before .unknown2 .ensures .0, c .before .before .before .before .before .before .before .before .pre .0 .laid .within .deps, c .before .before .loop-test .taken)) in omega (arith, c .before .before .before .before .before .before .before .before .pre .2, c .before .dep .ensures, b, c .before .before .before .before .before .before .before .before .pre .0 .laid .within .names)
+shared-slice-read-one-kept c =
+    let a = c .before .before .before .before .before .before .before .before .args in
+    let p = c .before .before .before .before .before .before .before .before .pre in
+    let b = dep-below (a .f .now) (a .s) (p .0) (c .before .before .before .before .before .unknown .result + c .before .before .before .loop .i) (omega (arith, unknown-is (a .f .now) (a .s) (p .0) (a .u) (p .1) .deps-within, c .before .before .before .before .before .unknown .ensures .0, c .before .before .before .before .unknown2 .ensures .0, p .0 .laid .within .deps, c .before .before .loop-test .taken)) in
+    omega (arith, p .2, c .before .dep .ensures, b, p .0 .laid .within .names)
 
 one-kept-requires : tie.Need-one-kept-requires Inv-loop μ-loop
 one-kept-requires c κs = tt
 
 add-total : tie.Need-add-total Inv-loop μ-loop
-add-total c = omega (arith, unknown-is (c .before .before .before .before .before .before .before .before .before .args .f .now) (c .before .before .before .before .before .before .before .before .before .args .s) (c .before .before .before .before .before .before .before .before .before .pre .0) (c .before .before .before .before .before .before .before .before .before .args .u) (c .before .before .before .before .before .before .before .before .before .pre .1) .deps-within, c .before .before .before .before .before .before .unknown .ensures .0, c .before .before .before .before .before .unknown2 .ensures .0, c .before .before .before .before .before .before .before .before .before .pre .0 .laid .within .deps, c .one-kept .ensures, flag-small (not (eqb (getD (c .before .before .before .before .before .before .before .before .before .args .vars .now) (c .before .before .dep .result) 0) 0)), c .before .before .before .before .loop .inv .2, c .before .before .before .loop-test .taken)
+add-total c =
+    let a = c .before .before .before .before .before .before .before .before .before .args in
+    let p = c .before .before .before .before .before .before .before .before .before .pre in
+    omega (arith, unknown-is (a .f .now) (a .s) (p .0) (a .u) (p .1) .deps-within, c .before .before .before .before .before .before .unknown .ensures .0, c .before .before .before .before .before .unknown2 .ensures .0, p .0 .laid .within .deps, c .one-kept .ensures, flag-small (not (eqb (getD (a .vars .now) (c .before .before .dep .result) 0) 0)), c .before .before .before .before .loop .inv .2, c .before .before .before .loop-test .taken)
 
 add-i : tie.Need-add-i Inv-loop μ-loop
-add-i c = omega (arith, unknown-is (c .before .before .before .before .before .before .before .before .before .args .f .now) (c .before .before .before .before .before .before .before .before .before .args .s) (c .before .before .before .before .before .before .before .before .before .pre .0) (c .before .before .before .before .before .before .before .before .before .args .u) (c .before .before .before .before .before .before .before .before .before .pre .1) .deps-within, c .before .before .before .before .before .before .unknown .ensures .0, c .before .before .before .before .before .unknown2 .ensures .0, c .before .before .before .before .before .before .before .before .before .pre .0 .laid .within .deps, c .before .before .before .loop-test .taken)
+add-i c =
+    let a = c .before .before .before .before .before .before .before .before .before .args in
+    let p = c .before .before .before .before .before .before .before .before .before .pre in
+    omega (arith, unknown-is (a .f .now) (a .s) (p .0) (a .u) (p .1) .deps-within, c .before .before .before .before .before .before .unknown .ensures .0, c .before .before .before .before .before .unknown2 .ensures .0, p .0 .laid .within .deps, c .before .before .before .loop-test .taken)
 
 loop-less : tie.Need-loop-less Inv-loop μ-loop
 loop-less c = omega (arith, c .before .before .before .loop-test .taken)
 
 loop-again : tie.Need-loop-again Inv-loop μ-loop
-loop-again c = (omega (arith, c .before .before .before .loop-test .taken), kept-next _ (unknownIn (c .before .before .before .before .before .before .before .before .before .args .f .now) (c .before .before .before .before .before .before .before .before .before .args .s) (c .before .before .before .before .before .before .before .before .before .args .u) .deps) (c .before .before .before .before .loop .i) (c .before .before .dep .result) _ _ (omega (arith, unknown-is (c .before .before .before .before .before .before .before .before .before .args .f .now) (c .before .before .before .before .before .before .before .before .before .args .s) (c .before .before .before .before .before .before .before .before .before .pre .0) (c .before .before .before .before .before .before .before .before .before .args .u) (c .before .before .before .before .before .before .before .before .before .pre .1) .deps-long, c .before .before .before .before .before .unknown2 .ensures .0, c .before .before .before .loop-test .taken)) (c .before .before .dep .ensures ∙ sym (unknown-is (c .before .before .before .before .before .before .before .before .before .args .f .now) (c .before .before .before .before .before .before .before .before .before .args .s) (c .before .before .before .before .before .before .before .before .before .pre .0) (c .before .before .before .before .before .before .before .before .before .args .u) (c .before .before .before .before .before .before .before .before .before .pre .1) .dep (c .before .before .before .before .loop .i) (omega (arith, c .before .before .before .before .before .unknown2 .ensures .0, c .before .before .before .loop-test .taken)) ∙ ap (λ (k : ℕ). getD (contentsIn (c .before .before .before .before .before .before .before .before .before .args .f .now) (c .before .before .before .before .before .before .before .before .before .args .s) .deps) (k + c .before .before .before .before .loop .i) 0) (sym (c .before .before .before .before .before .before .unknown .ensures .0)))) (c .one-kept .ensures) (c .before .before .before .before .loop .inv .1), omega (arith, c .before .before .before .before .loop .inv .2, c .one-kept .ensures, flag-small (not (eqb (getD (c .before .before .before .before .before .before .before .before .before .args .vars .now) (c .before .before .dep .result) 0) 0))))
+loop-again c =
+    let a = c .before .before .before .before .before .before .before .before .before .args in
+    let p = c .before .before .before .before .before .before .before .before .before .pre in
+    (omega (arith, c .before .before .before .loop-test .taken), kept-next _ (unknownIn (a .f .now) (a .s) (a .u) .deps) (c .before .before .before .before .loop .i) (c .before .before .dep .result) _ _ (omega (arith, unknown-is (a .f .now) (a .s) (p .0) (a .u) (p .1) .deps-long, c .before .before .before .before .before .unknown2 .ensures .0, c .before .before .before .loop-test .taken)) (c .before .before .dep .ensures ∙ sym (unknown-is (a .f .now) (a .s) (p .0) (a .u) (p .1) .dep (c .before .before .before .before .loop .i) (omega (arith, c .before .before .before .before .before .unknown2 .ensures .0, c .before .before .before .loop-test .taken)) ∙ ap (λ (k : ℕ). getD (contentsIn (a .f .now) (a .s) .deps) (k + c .before .before .before .before .loop .i) 0) (sym (c .before .before .before .before .before .before .unknown .ensures .0)))) (c .one-kept .ensures) (c .before .before .before .before .loop .inv .1), omega (arith, c .before .before .before .before .loop .inv .2, c .one-kept .ensures, flag-small (not (eqb (getD (a .vars .now) (c .before .before .dep .result) 0) 0))))
 
 returns : tie.Need-returns Inv-loop μ-loop
-returns c = (c .before .loop .inv .1 ∙ kept-all _ (unknownIn (c .before .before .before .before .before .before .args .f .now) (c .before .before .before .before .before .before .args .s) (c .before .before .before .before .before .before .args .u) .deps) (c .before .loop .i) (omega (arith, unknown-is (c .before .before .before .before .before .before .args .f .now) (c .before .before .before .before .before .before .args .s) (c .before .before .before .before .before .before .pre .0) (c .before .before .before .before .before .before .args .u) (c .before .before .before .before .before .before .pre .1) .deps-long, c .before .before .unknown2 .ensures .0, c .loop-test .left)), omega (arith, c .before .loop .inv .2, c .before .loop .inv .0, unknown-is (c .before .before .before .before .before .before .args .f .now) (c .before .before .before .before .before .before .args .s) (c .before .before .before .before .before .before .pre .0) (c .before .before .before .before .before .before .args .u) (c .before .before .before .before .before .before .pre .1) .deps-within, c .before .before .before .unknown .ensures .0, c .before .before .unknown2 .ensures .0, c .before .before .before .before .before .before .pre .0 .laid .within .deps))
+returns c =
+    let a = c .before .before .before .before .before .before .args in
+    let p = c .before .before .before .before .before .before .pre in
+    (c .before .loop .inv .1 ∙ kept-all _ (unknownIn (a .f .now) (a .s) (a .u) .deps) (c .before .loop .i) (omega (arith, unknown-is (a .f .now) (a .s) (p .0) (a .u) (p .1) .deps-long, c .before .before .unknown2 .ensures .0, c .loop-test .left)), omega (arith, c .before .loop .inv .2, c .before .loop .inv .0, unknown-is (a .f .now) (a .s) (p .0) (a .u) (p .1) .deps-within, c .before .before .before .unknown .ensures .0, c .before .before .unknown2 .ensures .0, p .0 .laid .within .deps))
 
 pub kept-count-spec : {M : Type 1} → statement M
 kept-count-spec =

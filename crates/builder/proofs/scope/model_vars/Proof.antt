@@ -21,58 +21,103 @@ abbrev μ-loop : tie.MeasureT-loop
 μ-loop f s classes m out₀ first count i₀ out i = count - i
 
 declared-requires : tie.Need-declared-requires Inv-loop μ-loop
-declared-requires c κs = (c .before .before .before .pre .0, c .before .before .before .pre .2, c .before .before .before .pre .1, (c .before .before .before .pre .3, c .before .before .before .pre .4))
+declared-requires c κs =
+    let p = c .before .before .before .pre in
+    (p .0, p .2, p .1, (p .3, p .4))
 
 model-requires : tie.Need-model-requires Inv-loop μ-loop
-model-requires c κs = (c .before .before .before .before .before .before .pre .0, (c .before .before .before .before .before .before .pre .1, omega arith))
+model-requires c κs =
+    let p = c .before .before .before .before .before .before .pre in
+    (p .0, (p .1, omega arith))
 
 model-requires-2 : tie.Need-model-requires-2 Inv-loop μ-loop
-model-requires-2 c κs = (c .before .before .before .before .before .before .before .pre .0, (c .before .before .before .before .before .before .before .pre .1, omega arith))
+model-requires-2 c κs =
+    let p = c .before .before .before .before .before .before .before .pre in
+    (p .0, (p .1, omega arith))
 
 loop-holds : tie.Need-loop-holds Inv-loop μ-loop
-loop-holds c = (omega arith, counted-begin _ _ (modelAt (fileIn (c .before .before .before .before .before .before .before .before .args .f .now) (c .before .before .before .before .before .before .before .before .args .s)) (c .before .before .before .before .before .before .before .before .args .m) .unknowns) _ (c .before .before .before .before .declared .ensures))
+loop-holds c =
+    let a = c .before .before .before .before .before .before .before .before .args in
+    (omega arith, counted-begin _ _ (modelAt (fileIn (a .f .now) (a .s)) (a .m) .unknowns) _ (c .before .before .before .before .declared .ensures))
 
 add-unknown : tie.Need-add-unknown Inv-loop μ-loop
-add-unknown c = omega (arith, unknowns-below (c .before .before .before .before .before .before .before .before .before .before .args .f .now) (c .before .before .before .before .before .before .before .before .before .before .args .s) (c .before .before .before .before .before .before .before .before .before .before .pre .0) (c .before .before .before .before .before .before .before .before .before .before .args .m) (c .before .before .before .before .before .before .before .before .before .before .pre .1) (c .before .before .before .model .result) (c .before .before .model2 .result) (c .before .loop .i) (c .before .before .before .model .ensures .0) (c .before .before .model2 .ensures .0) (c .loop-test .taken), c .before .before .before .before .before .before .before .before .before .before .pre .0 .laid .within .unknowns)
+add-unknown c =
+    let a = c .before .before .before .before .before .before .before .before .before .before .args in
+    let p = c .before .before .before .before .before .before .before .before .before .before .pre in
+    omega (arith, unknowns-below (a .f .now) (a .s) (p .0) (a .m) (p .1) (c .before .before .before .model .result) (c .before .before .model2 .result) (c .before .loop .i) (c .before .before .before .model .ensures .0) (c .before .before .model2 .ensures .0) (c .loop-test .taken), p .0 .laid .within .unknowns)
 
 unknown-requires : tie.Need-unknown-requires Inv-loop μ-loop
-unknown-requires c κs = (c .before .before .before .before .before .before .before .before .before .before .pre .0, (unknowns-below (c .before .before .before .before .before .before .before .before .before .before .args .f .now) (c .before .before .before .before .before .before .before .before .before .before .args .s) (c .before .before .before .before .before .before .before .before .before .before .pre .0) (c .before .before .before .before .before .before .before .before .before .before .args .m) (c .before .before .before .before .before .before .before .before .before .before .pre .1) (c .before .before .before .model .result) (c .before .before .model2 .result) (c .before .loop .i) (c .before .before .before .model .ensures .0) (c .before .before .model2 .ensures .0) (c .loop-test .taken), omega arith))
+unknown-requires c κs =
+    let a = c .before .before .before .before .before .before .before .before .before .before .args in
+    let p = c .before .before .before .before .before .before .before .before .before .before .pre in
+    (p .0, (unknowns-below (a .f .now) (a .s) (p .0) (a .m) (p .1) (c .before .before .before .model .result) (c .before .before .model2 .result) (c .before .loop .i) (c .before .before .before .model .ensures .0) (c .before .before .model2 .ensures .0) (c .loop-test .taken), omega arith))
 
 add-kept-count : tie.Need-add-kept-count Inv-loop μ-loop
-add-kept-count c = omega (arith, unknowns-below (c .before .before .before .before .before .before .before .before .before .before .before .before .args .f .now) (c .before .before .before .before .before .before .before .before .before .before .before .before .args .s) (c .before .before .before .before .before .before .before .before .before .before .before .before .pre .0) (c .before .before .before .before .before .before .before .before .before .before .before .before .args .m) (c .before .before .before .before .before .before .before .before .before .before .before .before .pre .1) (c .before .before .before .before .before .model .result) (c .before .before .before .before .model2 .result) (c .before .before .before .loop .i) (c .before .before .before .before .before .model .ensures .0) (c .before .before .before .before .model2 .ensures .0) (c .before .before .loop-test .taken), c .before .before .before .before .before .before .before .before .before .before .before .before .pre .0 .laid .within .unknowns)
+add-kept-count c =
+    let a = c .before .before .before .before .before .before .before .before .before .before .before .before .args in
+    let p = c .before .before .before .before .before .before .before .before .before .before .before .before .pre in
+    omega (arith, unknowns-below (a .f .now) (a .s) (p .0) (a .m) (p .1) (c .before .before .before .before .before .model .result) (c .before .before .before .before .model2 .result) (c .before .before .before .loop .i) (c .before .before .before .before .before .model .ensures .0) (c .before .before .before .before .model2 .ensures .0) (c .before .before .loop-test .taken), p .0 .laid .within .unknowns)
 
 kept-count-requires : tie.Need-kept-count-requires Inv-loop μ-loop
-kept-count-requires c κs = (c .before .before .before .before .before .before .before .before .before .before .before .before .pre .0, unknowns-below (c .before .before .before .before .before .before .before .before .before .before .before .before .args .f .now) (c .before .before .before .before .before .before .before .before .before .before .before .before .args .s) (c .before .before .before .before .before .before .before .before .before .before .before .before .pre .0) (c .before .before .before .before .before .before .before .before .before .before .before .before .args .m) (c .before .before .before .before .before .before .before .before .before .before .before .before .pre .1) (c .before .before .before .before .before .model .result) (c .before .before .before .before .model2 .result) (c .before .before .before .loop .i) (c .before .before .before .before .before .model .ensures .0) (c .before .before .before .before .model2 .ensures .0) (c .before .before .loop-test .taken), c .before .before .before .loop .inv .1 .long)
+kept-count-requires c κs =
+    let a = c .before .before .before .before .before .before .before .before .before .before .before .before .args in
+    let p = c .before .before .before .before .before .before .before .before .before .before .before .before .pre in
+    (p .0, unknowns-below (a .f .now) (a .s) (p .0) (a .m) (p .1) (c .before .before .before .before .before .model .result) (c .before .before .before .before .model2 .result) (c .before .before .before .loop .i) (c .before .before .before .before .before .model .ensures .0) (c .before .before .before .before .model2 .ensures .0) (c .before .before .loop-test .taken), c .before .before .before .loop .inv .1 .long)
 
 mul-raised : tie.Need-mul-raised Inv-loop μ-loop
-mul-raised c = omega (arith, unknown-is (c .before .before .before .before .before .before .before .before .before .before .before .before .before .args .f .now) (c .before .before .before .before .before .before .before .before .before .before .before .before .before .args .s) (c .before .before .before .before .before .before .before .before .before .before .before .before .before .pre .0) (c .before .before .before .before .before .before .model .result + c .before .before .before .before .loop .i) (unknowns-below (c .before .before .before .before .before .before .before .before .before .before .before .before .before .args .f .now) (c .before .before .before .before .before .before .before .before .before .before .before .before .before .args .s) (c .before .before .before .before .before .before .before .before .before .before .before .before .before .pre .0) (c .before .before .before .before .before .before .before .before .before .before .before .before .before .args .m) (c .before .before .before .before .before .before .before .before .before .before .before .before .before .pre .1) (c .before .before .before .before .before .before .model .result) (c .before .before .before .before .before .model2 .result) (c .before .before .before .before .loop .i) (c .before .before .before .before .before .before .model .ensures .0) (c .before .before .before .before .before .model2 .ensures .0) (c .before .before .before .loop-test .taken)) .name-below, c .before .before .unknown .ensures .0, c .before .before .before .before .before .before .before .before .before .before .before .before .before .pre .0 .laid .within .names)
+mul-raised c =
+    let a = c .before .before .before .before .before .before .before .before .before .before .before .before .before .args in
+    let p = c .before .before .before .before .before .before .before .before .before .before .before .before .before .pre in
+    omega (arith, unknown-is (a .f .now) (a .s) (p .0) (c .before .before .before .before .before .before .model .result + c .before .before .before .before .loop .i) (unknowns-below (a .f .now) (a .s) (p .0) (a .m) (p .1) (c .before .before .before .before .before .before .model .result) (c .before .before .before .before .before .model2 .result) (c .before .before .before .before .loop .i) (c .before .before .before .before .before .before .model .ensures .0) (c .before .before .before .before .before .model2 .ensures .0) (c .before .before .before .loop-test .taken)) .name-below, c .before .before .unknown .ensures .0, p .0 .laid .within .names)
 
 slice-read-raised : tie.Need-slice-read-raised Inv-loop μ-loop
-slice-read-raised c = omega (arith, c .before .before .before .before .before .loop .inv .1 .long, unknown-is (c .before .before .before .before .before .before .before .before .before .before .before .before .before .before .args .f .now) (c .before .before .before .before .before .before .before .before .before .before .before .before .before .before .args .s) (c .before .before .before .before .before .before .before .before .before .before .before .before .before .before .pre .0) (c .before .before .before .before .before .before .before .model .result + c .before .before .before .before .before .loop .i) (unknowns-below (c .before .before .before .before .before .before .before .before .before .before .before .before .before .before .args .f .now) (c .before .before .before .before .before .before .before .before .before .before .before .before .before .before .args .s) (c .before .before .before .before .before .before .before .before .before .before .before .before .before .before .pre .0) (c .before .before .before .before .before .before .before .before .before .before .before .before .before .before .args .m) (c .before .before .before .before .before .before .before .before .before .before .before .before .before .before .pre .1) (c .before .before .before .before .before .before .before .model .result) (c .before .before .before .before .before .before .model2 .result) (c .before .before .before .before .before .loop .i) (c .before .before .before .before .before .before .before .model .ensures .0) (c .before .before .before .before .before .before .model2 .ensures .0) (c .before .before .before .before .loop-test .taken)) .name-below, c .before .before .before .unknown .ensures .0, c .before .before .before .before .before .before .before .before .before .before .before .before .before .before .pre .0 .laid .within .names)
+slice-read-raised c =
+    let a = c .before .before .before .before .before .before .before .before .before .before .before .before .before .before .args in
+    let p = c .before .before .before .before .before .before .before .before .before .before .before .before .before .before .pre in
+    omega (arith, c .before .before .before .before .before .loop .inv .1 .long, unknown-is (a .f .now) (a .s) (p .0) (c .before .before .before .before .before .before .before .model .result + c .before .before .before .before .before .loop .i) (unknowns-below (a .f .now) (a .s) (p .0) (a .m) (p .1) (c .before .before .before .before .before .before .before .model .result) (c .before .before .before .before .before .before .model2 .result) (c .before .before .before .before .before .loop .i) (c .before .before .before .before .before .before .before .model .ensures .0) (c .before .before .before .before .before .before .model2 .ensures .0) (c .before .before .before .before .loop-test .taken)) .name-below, c .before .before .before .unknown .ensures .0, p .0 .laid .within .names)
 
 raised-requires : tie.Need-raised-requires Inv-loop μ-loop
-raised-requires c κs = let b : c .before .before .before .unknown .result < c .before .before .before .before .before .before .before .before .before .before .before .before .before .before .args .s .counts .names = omega (arith, unknown-is (c .before .before .before .before .before .before .before .before .before .before .before .before .before .before .args .f .now) (c .before .before .before .before .before .before .before .before .before .before .before .before .before .before .args .s) (c .before .before .before .before .before .before .before .before .before .before .before .before .before .before .pre .0) (c .before .before .before .before .before .before .before .model .result + c .before .before .before .before .before .loop .i) (unknowns-below (c .before .before .before .before .before .before .before .before .before .before .before .before .before .before .args .f .now) (c .before .before .before .before .before .before .before .before .before .before .before .before .before .before .args .s) (c .before .before .before .before .before .before .before .before .before .before .before .before .before .before .pre .0) (c .before .before .before .before .before .before .before .before .before .before .before .before .before .before .args .m) (c .before .before .before .before .before .before .before .before .before .before .before .before .before .before .pre .1) (c .before .before .before .before .before .before .before .model .result) (c .before .before .before .before .before .before .model2 .result) (c .before .before .before .before .before .loop .i) (c .before .before .before .before .before .before .before .model .ensures .0) (c .before .before .before .before .before .before .model2 .ensures .0) (c .before .before .before .before .loop-test .taken)) .name-below, c .before .before .before .unknown .ensures .0) in omega (arith, c .before .before .before .before .before .loop .inv .1 .few (c .before .before .before .unknown .result) b, c .before .kept-count .ensures .1, unknowns-below (c .before .before .before .before .before .before .before .before .before .before .before .before .before .before .args .f .now) (c .before .before .before .before .before .before .before .before .before .before .before .before .before .before .args .s) (c .before .before .before .before .before .before .before .before .before .before .before .before .before .before .pre .0) (c .before .before .before .before .before .before .before .before .before .before .before .before .before .before .args .m) (c .before .before .before .before .before .before .before .before .before .before .before .before .before .before .pre .1) (c .before .before .before .before .before .before .before .model .result) (c .before .before .before .before .before .before .model2 .result) (c .before .before .before .before .before .loop .i) (c .before .before .before .before .before .before .before .model .ensures .0) (c .before .before .before .before .before .before .model2 .ensures .0) (c .before .before .before .before .loop-test .taken), c .before .before .before .before .before .before .before .before .before .before .before .before .before .before .pre .0 .laid .within .unknowns)
+raised-requires c κs =
+    let a = c .before .before .before .before .before .before .before .before .before .before .before .before .before .before .args in
+    let p = c .before .before .before .before .before .before .before .before .before .before .before .before .before .before .pre in
+    let b : c .before .before .before .unknown .result < a .s .counts .names = omega (arith, unknown-is (a .f .now) (a .s) (p .0) (c .before .before .before .before .before .before .before .model .result + c .before .before .before .before .before .loop .i) (unknowns-below (a .f .now) (a .s) (p .0) (a .m) (p .1) (c .before .before .before .before .before .before .before .model .result) (c .before .before .before .before .before .before .model2 .result) (c .before .before .before .before .before .loop .i) (c .before .before .before .before .before .before .before .model .ensures .0) (c .before .before .before .before .before .before .model2 .ensures .0) (c .before .before .before .before .loop-test .taken)) .name-below, c .before .before .before .unknown .ensures .0) in
+    omega (arith, c .before .before .before .before .before .loop .inv .1 .few (c .before .before .before .unknown .result) b, c .before .kept-count .ensures .1, unknowns-below (a .f .now) (a .s) (p .0) (a .m) (p .1) (c .before .before .before .before .before .before .before .model .result) (c .before .before .before .before .before .before .model2 .result) (c .before .before .before .before .before .loop .i) (c .before .before .before .before .before .before .before .model .ensures .0) (c .before .before .before .before .before .before .model2 .ensures .0) (c .before .before .before .before .loop-test .taken), p .0 .laid .within .unknowns)
 
 mul-out : tie.Need-mul-out Inv-loop μ-loop
-mul-out c = omega (arith, unknown-is (c .before .before .before .before .before .before .before .before .before .before .before .before .before .before .before .args .f .now) (c .before .before .before .before .before .before .before .before .before .before .before .before .before .before .before .args .s) (c .before .before .before .before .before .before .before .before .before .before .before .before .before .before .before .pre .0) (c .before .before .before .before .before .before .before .before .model .result + c .before .before .before .before .before .before .loop .i) (unknowns-below (c .before .before .before .before .before .before .before .before .before .before .before .before .before .before .before .args .f .now) (c .before .before .before .before .before .before .before .before .before .before .before .before .before .before .before .args .s) (c .before .before .before .before .before .before .before .before .before .before .before .before .before .before .before .pre .0) (c .before .before .before .before .before .before .before .before .before .before .before .before .before .before .before .args .m) (c .before .before .before .before .before .before .before .before .before .before .before .before .before .before .before .pre .1) (c .before .before .before .before .before .before .before .before .model .result) (c .before .before .before .before .before .before .before .model2 .result) (c .before .before .before .before .before .before .loop .i) (c .before .before .before .before .before .before .before .before .model .ensures .0) (c .before .before .before .before .before .before .before .model2 .ensures .0) (c .before .before .before .before .before .loop-test .taken)) .name-below, c .before .before .before .before .unknown .ensures .0, c .before .before .before .before .before .before .before .before .before .before .before .before .before .before .before .pre .0 .laid .within .names)
+mul-out c =
+    let a = c .before .before .before .before .before .before .before .before .before .before .before .before .before .before .before .args in
+    let p = c .before .before .before .before .before .before .before .before .before .before .before .before .before .before .before .pre in
+    omega (arith, unknown-is (a .f .now) (a .s) (p .0) (c .before .before .before .before .before .before .before .before .model .result + c .before .before .before .before .before .before .loop .i) (unknowns-below (a .f .now) (a .s) (p .0) (a .m) (p .1) (c .before .before .before .before .before .before .before .before .model .result) (c .before .before .before .before .before .before .before .model2 .result) (c .before .before .before .before .before .before .loop .i) (c .before .before .before .before .before .before .before .before .model .ensures .0) (c .before .before .before .before .before .before .before .model2 .ensures .0) (c .before .before .before .before .before .loop-test .taken)) .name-below, c .before .before .before .before .unknown .ensures .0, p .0 .laid .within .names)
 
 slice-write-out : tie.Need-slice-write-out Inv-loop μ-loop
-slice-write-out c = omega (arith, c .before .before .before .before .before .before .loop .inv .1 .long, unknown-is (c .before .before .before .before .before .before .before .before .before .before .before .before .before .before .before .args .f .now) (c .before .before .before .before .before .before .before .before .before .before .before .before .before .before .before .args .s) (c .before .before .before .before .before .before .before .before .before .before .before .before .before .before .before .pre .0) (c .before .before .before .before .before .before .before .before .model .result + c .before .before .before .before .before .before .loop .i) (unknowns-below (c .before .before .before .before .before .before .before .before .before .before .before .before .before .before .before .args .f .now) (c .before .before .before .before .before .before .before .before .before .before .before .before .before .before .before .args .s) (c .before .before .before .before .before .before .before .before .before .before .before .before .before .before .before .pre .0) (c .before .before .before .before .before .before .before .before .before .before .before .before .before .before .before .args .m) (c .before .before .before .before .before .before .before .before .before .before .before .before .before .before .before .pre .1) (c .before .before .before .before .before .before .before .before .model .result) (c .before .before .before .before .before .before .before .model2 .result) (c .before .before .before .before .before .before .loop .i) (c .before .before .before .before .before .before .before .before .model .ensures .0) (c .before .before .before .before .before .before .before .model2 .ensures .0) (c .before .before .before .before .before .loop-test .taken)) .name-below, c .before .before .before .before .unknown .ensures .0, c .before .before .before .before .before .before .before .before .before .before .before .before .before .before .before .pre .0 .laid .within .names)
+slice-write-out c =
+    let a = c .before .before .before .before .before .before .before .before .before .before .before .before .before .before .before .args in
+    let p = c .before .before .before .before .before .before .before .before .before .before .before .before .before .before .before .pre in
+    omega (arith, c .before .before .before .before .before .before .loop .inv .1 .long, unknown-is (a .f .now) (a .s) (p .0) (c .before .before .before .before .before .before .before .before .model .result + c .before .before .before .before .before .before .loop .i) (unknowns-below (a .f .now) (a .s) (p .0) (a .m) (p .1) (c .before .before .before .before .before .before .before .before .model .result) (c .before .before .before .before .before .before .before .model2 .result) (c .before .before .before .before .before .before .loop .i) (c .before .before .before .before .before .before .before .before .model .ensures .0) (c .before .before .before .before .before .before .before .model2 .ensures .0) (c .before .before .before .before .before .loop-test .taken)) .name-below, c .before .before .before .before .unknown .ensures .0, p .0 .laid .within .names)
 
 add-i : tie.Need-add-i Inv-loop μ-loop
-add-i c = omega (arith, unknowns-below (c .before .before .before .before .before .before .before .before .before .before .before .before .before .before .before .args .f .now) (c .before .before .before .before .before .before .before .before .before .before .before .before .before .before .before .args .s) (c .before .before .before .before .before .before .before .before .before .before .before .before .before .before .before .pre .0) (c .before .before .before .before .before .before .before .before .before .before .before .before .before .before .before .args .m) (c .before .before .before .before .before .before .before .before .before .before .before .before .before .before .before .pre .1) (c .before .before .before .before .before .before .before .before .model .result) (c .before .before .before .before .before .before .before .model2 .result) (c .before .before .before .before .before .before .loop .i) (c .before .before .before .before .before .before .before .before .model .ensures .0) (c .before .before .before .before .before .before .before .model2 .ensures .0) (c .before .before .before .before .before .loop-test .taken), c .before .before .before .before .before .before .before .before .before .before .before .before .before .before .before .pre .0 .laid .within .unknowns)
+add-i c =
+    let a = c .before .before .before .before .before .before .before .before .before .before .before .before .before .before .before .args in
+    let p = c .before .before .before .before .before .before .before .before .before .before .before .before .before .before .before .pre in
+    omega (arith, unknowns-below (a .f .now) (a .s) (p .0) (a .m) (p .1) (c .before .before .before .before .before .before .before .before .model .result) (c .before .before .before .before .before .before .before .model2 .result) (c .before .before .before .before .before .before .loop .i) (c .before .before .before .before .before .before .before .before .model .ensures .0) (c .before .before .before .before .before .before .before .model2 .ensures .0) (c .before .before .before .before .before .loop-test .taken), p .0 .laid .within .unknowns)
 
 loop-less : tie.Need-loop-less Inv-loop μ-loop
 loop-less c = omega (arith, c .before .before .before .before .before .loop-test .taken)
 
 loop-again : tie.Need-loop-again Inv-loop μ-loop
-loop-again c = (omega (arith, c .before .before .before .before .before .loop-test .taken), counted-next _ (c .before .before .before .before .before .before .loop .i) _ (modelAt (fileIn (c .before .before .before .before .before .before .before .before .before .before .before .before .before .before .before .args .f .now) (c .before .before .before .before .before .before .before .before .before .before .before .before .before .before .before .args .s)) (c .before .before .before .before .before .before .before .before .before .before .before .before .before .before .before .args .m) .unknowns) _ (unknownIn (c .before .before .before .before .before .before .before .before .before .before .before .before .before .before .before .args .f .now) (c .before .before .before .before .before .before .before .before .before .before .before .before .before .before .before .args .s) (c .before .before .before .before .before .before .before .before .model .result + c .before .before .before .before .before .before .loop .i)) (unknown-there (c .before .before .before .before .before .before .before .before .before .before .before .before .before .before .before .args .f .now) (c .before .before .before .before .before .before .before .before .before .before .before .before .before .before .before .args .s) (c .before .before .before .before .before .before .before .before .before .before .before .before .before .before .before .pre .0) (c .before .before .before .before .before .before .before .before .before .before .before .before .before .before .before .args .m) (c .before .before .before .before .before .before .before .before .before .before .before .before .before .before .before .pre .1) (c .before .before .before .before .before .before .before .before .model .result) (c .before .before .before .before .before .before .before .model2 .result) (c .before .before .before .before .before .before .loop .i) (c .before .before .before .before .before .before .before .before .model .ensures .0) (c .before .before .before .before .before .before .before .model2 .ensures .0) (c .before .before .before .before .before .loop-test .taken)) (unknown-here (c .before .before .before .before .before .before .before .before .before .before .before .before .before .before .before .args .f .now) (c .before .before .before .before .before .before .before .before .before .before .before .before .before .before .before .args .s) (c .before .before .before .before .before .before .before .before .before .before .before .before .before .before .before .pre .0) (c .before .before .before .before .before .before .before .before .before .before .before .before .before .before .before .args .m) (c .before .before .before .before .before .before .before .before .before .before .before .before .before .before .before .pre .1) (c .before .before .before .before .before .before .before .before .model .result) (c .before .before .before .before .before .before .before .model2 .result) (c .before .before .before .before .before .before .loop .i) (c .before .before .before .before .before .before .before .before .model .ensures .0) (c .before .before .before .before .before .before .before .model2 .ensures .0) (c .before .before .before .before .before .loop-test .taken)) (counted-more (c .before .before .before .before .before .before .loop .inv .1) (unknownIn (c .before .before .before .before .before .before .before .before .before .before .before .before .before .before .before .args .f .now) (c .before .before .before .before .before .before .before .before .before .before .before .before .before .before .before .args .s) (c .before .before .before .before .before .before .before .before .model .result + c .before .before .before .before .before .before .loop .i)) (c .before .before .before .before .unknown .result) (c .raised .result) (c .before .before .kept-count .result) (c .before .before .before .before .unknown .ensures .0 ∙ sym (name-of (c .before .before .before .before .before .before .before .before .before .before .before .before .before .before .before .args .f .now) (c .before .before .before .before .before .before .before .before .before .before .before .before .before .before .before .args .s) (c .before .before .before .before .before .before .before .before .model .result + c .before .before .before .before .before .before .loop .i))) (omega (arith, unknown-is (c .before .before .before .before .before .before .before .before .before .before .before .before .before .before .before .args .f .now) (c .before .before .before .before .before .before .before .before .before .before .before .before .before .before .before .args .s) (c .before .before .before .before .before .before .before .before .before .before .before .before .before .before .before .pre .0) (c .before .before .before .before .before .before .before .before .model .result + c .before .before .before .before .before .before .loop .i) (unknowns-below (c .before .before .before .before .before .before .before .before .before .before .before .before .before .before .before .args .f .now) (c .before .before .before .before .before .before .before .before .before .before .before .before .before .before .before .args .s) (c .before .before .before .before .before .before .before .before .before .before .before .before .before .before .before .pre .0) (c .before .before .before .before .before .before .before .before .before .before .before .before .before .before .before .args .m) (c .before .before .before .before .before .before .before .before .before .before .before .before .before .before .before .pre .1) (c .before .before .before .before .before .before .before .before .model .result) (c .before .before .before .before .before .before .before .model2 .result) (c .before .before .before .before .before .before .loop .i) (c .before .before .before .before .before .before .before .before .model .ensures .0) (c .before .before .before .before .before .before .before .model2 .ensures .0) (c .before .before .before .before .before .loop-test .taken)) .name-below, c .before .before .before .before .unknown .ensures .0)) (c .before .before .before .before .before .before .before .before .before .before .before .before .before .before .before .pre .0 .laid .within .names) (c .before .before .kept-count .ensures .0) (c .before .before .kept-count .ensures .1) (listed-below (c .before .before .before .before .before .before .before .before .before .before .before .before .before .before .before .args .f .now) (c .before .before .before .before .before .before .before .before .before .before .before .before .before .before .before .args .s) (c .before .before .before .before .before .before .before .before .before .before .before .before .before .before .before .pre .0) (c .before .before .before .before .before .before .before .before .model .result + c .before .before .before .before .before .before .loop .i) (unknowns-below (c .before .before .before .before .before .before .before .before .before .before .before .before .before .before .before .args .f .now) (c .before .before .before .before .before .before .before .before .before .before .before .before .before .before .before .args .s) (c .before .before .before .before .before .before .before .before .before .before .before .before .before .before .before .pre .0) (c .before .before .before .before .before .before .before .before .before .before .before .before .before .before .before .args .m) (c .before .before .before .before .before .before .before .before .before .before .before .before .before .before .before .pre .1) (c .before .before .before .before .before .before .before .before .model .result) (c .before .before .before .before .before .before .before .model2 .result) (c .before .before .before .before .before .before .loop .i) (c .before .before .before .before .before .before .before .before .model .ensures .0) (c .before .before .before .before .before .before .before .model2 .ensures .0) (c .before .before .before .before .before .loop-test .taken))) (c .raised .ensures)))
+loop-again c =
+    let a = c .before .before .before .before .before .before .before .before .before .before .before .before .before .before .before .args in
+    let p = c .before .before .before .before .before .before .before .before .before .before .before .before .before .before .before .pre in
+    (omega (arith, c .before .before .before .before .before .loop-test .taken), counted-next _ (c .before .before .before .before .before .before .loop .i) _ (modelAt (fileIn (a .f .now) (a .s)) (a .m) .unknowns) _ (unknownIn (a .f .now) (a .s) (c .before .before .before .before .before .before .before .before .model .result + c .before .before .before .before .before .before .loop .i)) (unknown-there (a .f .now) (a .s) (p .0) (a .m) (p .1) (c .before .before .before .before .before .before .before .before .model .result) (c .before .before .before .before .before .before .before .model2 .result) (c .before .before .before .before .before .before .loop .i) (c .before .before .before .before .before .before .before .before .model .ensures .0) (c .before .before .before .before .before .before .before .model2 .ensures .0) (c .before .before .before .before .before .loop-test .taken)) (unknown-here (a .f .now) (a .s) (p .0) (a .m) (p .1) (c .before .before .before .before .before .before .before .before .model .result) (c .before .before .before .before .before .before .before .model2 .result) (c .before .before .before .before .before .before .loop .i) (c .before .before .before .before .before .before .before .before .model .ensures .0) (c .before .before .before .before .before .before .before .model2 .ensures .0) (c .before .before .before .before .before .loop-test .taken)) (counted-more (c .before .before .before .before .before .before .loop .inv .1) (unknownIn (a .f .now) (a .s) (c .before .before .before .before .before .before .before .before .model .result + c .before .before .before .before .before .before .loop .i)) (c .before .before .before .before .unknown .result) (c .raised .result) (c .before .before .kept-count .result) (c .before .before .before .before .unknown .ensures .0 ∙ sym (name-of (a .f .now) (a .s) (c .before .before .before .before .before .before .before .before .model .result + c .before .before .before .before .before .before .loop .i))) (omega (arith, unknown-is (a .f .now) (a .s) (p .0) (c .before .before .before .before .before .before .before .before .model .result + c .before .before .before .before .before .before .loop .i) (unknowns-below (a .f .now) (a .s) (p .0) (a .m) (p .1) (c .before .before .before .before .before .before .before .before .model .result) (c .before .before .before .before .before .before .before .model2 .result) (c .before .before .before .before .before .before .loop .i) (c .before .before .before .before .before .before .before .before .model .ensures .0) (c .before .before .before .before .before .before .before .model2 .ensures .0) (c .before .before .before .before .before .loop-test .taken)) .name-below, c .before .before .before .before .unknown .ensures .0)) (p .0 .laid .within .names) (c .before .before .kept-count .ensures .0) (c .before .before .kept-count .ensures .1) (listed-below (a .f .now) (a .s) (p .0) (c .before .before .before .before .before .before .before .before .model .result + c .before .before .before .before .before .before .loop .i) (unknowns-below (a .f .now) (a .s) (p .0) (a .m) (p .1) (c .before .before .before .before .before .before .before .before .model .result) (c .before .before .before .before .before .before .before .model2 .result) (c .before .before .before .before .before .before .loop .i) (c .before .before .before .before .before .before .before .before .model .ensures .0) (c .before .before .before .before .before .before .before .model2 .ensures .0) (c .before .before .before .before .before .loop-test .taken))) (c .raised .ensures)))
 
 same-length : tie.Need-same-length Inv-loop μ-loop
 same-length c = omega (arith, c .before .loop .inv .1 .long, c .before .before .before .before .before .before .before .before .before .before .pre .3)
 
 returns : tie.Need-returns Inv-loop μ-loop
-returns c = (counted-vars (c .before .before .before .before .before .before .before .before .before .before .args .f .now) (c .before .before .before .before .before .before .before .before .before .before .args .s) (c .before .before .before .before .before .before .before .before .before .before .args .m) _ (c .before .loop .i) _ _ (names-long (c .before .before .before .before .before .before .before .before .before .before .args .f .now) (c .before .before .before .before .before .before .before .before .before .before .args .s)) (unknowns-past (c .before .before .before .before .before .before .before .before .before .before .args .f .now) (c .before .before .before .before .before .before .before .before .before .before .args .s) (c .before .before .before .before .before .before .before .before .before .before .pre .0) (c .before .before .before .before .before .before .before .before .before .before .args .m) (c .before .before .before .before .before .before .before .before .before .before .pre .1) (c .before .before .before .model .result) (c .before .before .model2 .result) (c .before .loop .i) (c .before .before .before .model .ensures .0) (c .before .before .model2 .ensures .0) (c .loop-test .left)) (c .before .loop .inv .1), c .before .loop .inv .1 .long)
+returns c =
+    let a = c .before .before .before .before .before .before .before .before .before .before .args in
+    let p = c .before .before .before .before .before .before .before .before .before .before .pre in
+    (counted-vars (a .f .now) (a .s) (a .m) _ (c .before .loop .i) _ _ (names-long (a .f .now) (a .s)) (unknowns-past (a .f .now) (a .s) (p .0) (a .m) (p .1) (c .before .before .before .model .result) (c .before .before .model2 .result) (c .before .loop .i) (c .before .before .before .model .ensures .0) (c .before .before .model2 .ensures .0) (c .loop-test .left)) (c .before .loop .inv .1), c .before .loop .inv .1 .long)
 
 pub model-vars-spec : {M : Type 1} → statement M
 model-vars-spec =

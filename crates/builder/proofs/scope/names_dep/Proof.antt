@@ -29,13 +29,28 @@ unfolding member
 loop-holds c = (omega arith, refl)
 
 add-dep : tie.Need-add-dep Inv-loop μ-loop
-add-dep c = let o = c .before .before .before .before .before .pre .0 in let r = unknown-is _ _ o _ (c .before .before .before .before .before .pre .1) .deps-within in omega (arith, c .before .before .before .unknown .ensures .0, c .before .before .unknown2 .ensures .0, c .loop-test .taken, c .before .before .before .unknown .ensures .1)
+add-dep c =
+    let p = c .before .before .before .before .before .pre in
+    let o = p .0 in
+    let r = unknown-is _ _ o _ (p .1) .deps-within in
+    omega (arith, c .before .before .before .unknown .ensures .0, c .before .before .unknown2 .ensures .0, c .loop-test .taken, c .before .before .before .unknown .ensures .1)
 
 dep-requires : tie.Need-dep-requires Inv-loop μ-loop
-dep-requires c κs = let o = c .before .before .before .before .before .pre .0 in let r = unknown-is _ _ o _ (c .before .before .before .before .before .pre .1) .deps-within in (o, omega (arith, r, c .before .before .before .unknown .ensures .0, c .before .before .unknown2 .ensures .0, c .loop-test .taken))
+dep-requires c κs =
+    let p = c .before .before .before .before .before .pre in
+    let o = p .0 in
+    let r = unknown-is _ _ o _ (p .1) .deps-within in
+    (o, omega (arith, r, c .before .before .before .unknown .ensures .0, c .before .before .unknown2 .ensures .0, c .loop-test .taken))
 
 returns : tie.Need-returns Inv-loop μ-loop
-returns c = let o = c .before .before .before .before .before .before .before .pre .0 in let n = unknown-is _ _ o _ (c .before .before .before .before .before .before .before .pre .1) .deps-long in let b : c .before .before .before .loop .i < length (unknownIn (c .before .before .before .before .before .before .before .args .f .now) (c .before .before .before .before .before .before .before .args .s) (c .before .before .before .before .before .before .before .args .u) .deps) = omega (arith, n, c .before .before .before .before .unknown2 .ensures .0, c .before .before .loop-test .taken) in let e = deps-at o (c .before .before .before .before .before .before .before .args .u) (c .before .before .before .loop .i) (c .before .before .before .before .before .unknown .result) (c .before .before .before .before .before .unknown .ensures .0) (omega (arith, c .before .before .before .before .unknown2 .ensures .0, c .before .before .loop-test .taken)) in sym (c .before .before .before .loop .inv .1 ∙ any-here (eqb (c .before .before .before .before .before .before .before .args .name)) _ 0 (c .before .before .before .loop .i) b (eq-eqb _ _ (sym (e ∙ sym (c .before .dep .ensures) ∙ c .if1 .taken))))
+returns c =
+    let a = c .before .before .before .before .before .before .before .args in
+    let p = c .before .before .before .before .before .before .before .pre in
+    let o = p .0 in
+    let n = unknown-is _ _ o _ (p .1) .deps-long in
+    let b : c .before .before .before .loop .i < length (unknownIn (a .f .now) (a .s) (a .u) .deps) = omega (arith, n, c .before .before .before .before .unknown2 .ensures .0, c .before .before .loop-test .taken) in
+    let e = deps-at o (a .u) (c .before .before .before .loop .i) (c .before .before .before .before .before .unknown .result) (c .before .before .before .before .before .unknown .ensures .0) (omega (arith, c .before .before .before .before .unknown2 .ensures .0, c .before .before .loop-test .taken)) in
+    sym (c .before .before .before .loop .inv .1 ∙ any-here (eqb (a .name)) _ 0 (c .before .before .before .loop .i) b (eq-eqb _ _ (sym (e ∙ sym (c .before .dep .ensures) ∙ c .if1 .taken))))
 
 add-i : tie.Need-add-i Inv-loop μ-loop
 add-i c = omega arith
@@ -44,10 +59,21 @@ loop-less : tie.Need-loop-less Inv-loop μ-loop
 loop-less c = omega arith
 
 loop-again : tie.Need-loop-again Inv-loop μ-loop
-loop-again c = let o = c .before .before .before .before .before .before .before .pre .0 in let n = unknown-is _ _ o _ (c .before .before .before .before .before .before .before .pre .1) .deps-long in let b : c .before .before .before .loop .i < length (unknownIn (c .before .before .before .before .before .before .before .args .f .now) (c .before .before .before .before .before .before .before .args .s) (c .before .before .before .before .before .before .before .args .u) .deps) = omega (arith, n, c .before .before .before .before .unknown2 .ensures .0, c .before .before .loop-test .taken) in let e = deps-at o (c .before .before .before .before .before .before .before .args .u) (c .before .before .before .loop .i) (c .before .before .before .before .before .unknown .result) (c .before .before .before .before .before .unknown .ensures .0) (omega (arith, c .before .before .before .before .unknown2 .ensures .0, c .before .before .loop-test .taken)) in (omega arith, c .before .before .before .loop .inv .1 ∙ any-next (eqb (c .before .before .before .before .before .before .before .args .name)) _ 0 (c .before .before .before .loop .i) b (ne-eqb _ _ (λ q. c .if1 .left (c .before .dep .ensures ∙ sym e ∙ sym q))))
+loop-again c =
+    let a = c .before .before .before .before .before .before .before .args in
+    let p = c .before .before .before .before .before .before .before .pre in
+    let o = p .0 in
+    let n = unknown-is _ _ o _ (p .1) .deps-long in
+    let b : c .before .before .before .loop .i < length (unknownIn (a .f .now) (a .s) (a .u) .deps) = omega (arith, n, c .before .before .before .before .unknown2 .ensures .0, c .before .before .loop-test .taken) in
+    let e = deps-at o (a .u) (c .before .before .before .loop .i) (c .before .before .before .before .before .unknown .result) (c .before .before .before .before .before .unknown .ensures .0) (omega (arith, c .before .before .before .before .unknown2 .ensures .0, c .before .before .loop-test .taken)) in
+    (omega arith, c .before .before .before .loop .inv .1 ∙ any-next (eqb (a .name)) _ 0 (c .before .before .before .loop .i) b (ne-eqb _ _ (λ q. c .if1 .left (c .before .dep .ensures ∙ sym e ∙ sym q))))
 
 returns-2 : tie.Need-returns-2 Inv-loop μ-loop
-returns-2 c = let o = c .before .before .before .before .before .pre .0 in let n = unknown-is _ _ o _ (c .before .before .before .before .before .pre .1) .deps-long in sym (c .before .loop .inv .1 ∙ any-done (eqb (c .before .before .before .before .before .args .name)) _ 0 (c .before .loop .i) (omega (arith, n, c .before .before .unknown2 .ensures .0, c .loop-test .left)))
+returns-2 c =
+    let p = c .before .before .before .before .before .pre in
+    let o = p .0 in
+    let n = unknown-is _ _ o _ (p .1) .deps-long in
+    sym (c .before .loop .inv .1 ∙ any-done (eqb (c .before .before .before .before .before .args .name)) _ 0 (c .before .loop .i) (omega (arith, n, c .before .before .unknown2 .ensures .0, c .loop-test .left)))
 
 pub names-dep-spec : {M : Type 1} → statement M
 names-dep-spec =

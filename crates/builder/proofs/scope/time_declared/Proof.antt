@@ -14,19 +14,29 @@ sub-out : tie.Need-sub-out
 sub-out c = search needs
 
 mul-out : tie.Need-mul-out
-mul-out c = omega (arith, time-below (fileIn (c .before .before .before .before .args .f .now) (c .before .before .before .before .args .s) .names), names-long (c .before .before .before .before .args .f .now) (c .before .before .before .before .args .s), c .before .before .before .before .pre .0 .laid .within .names, c .before .time-name .ensures)
+mul-out c =
+    let a = c .before .before .before .before .args in
+    omega (arith, time-below (fileIn (a .f .now) (a .s) .names), names-long (a .f .now) (a .s), c .before .before .before .before .pre .0 .laid .within .names, c .before .time-name .ensures)
 
 slice-write-out : tie.Need-slice-write-out
-slice-write-out c = omega (arith, time-below (fileIn (c .before .before .before .before .args .f .now) (c .before .before .before .before .args .s) .names), names-long (c .before .before .before .before .args .f .now) (c .before .before .before .before .args .s), c .before .before .before .before .pre .0 .laid .within .names, c .before .before .before .before .pre .2 .0, c .before .time-name .ensures, c .if1 .taken)
+slice-write-out c =
+    let a = c .before .before .before .before .args in
+    let p = c .before .before .before .before .pre in
+    omega (arith, time-below (fileIn (a .f .now) (a .s) .names), names-long (a .f .now) (a .s), p .0 .laid .within .names, p .2 .0, c .before .time-name .ensures, c .if1 .taken)
 
 same-length : tie.Need-same-length
 same-length c = search needs
 
 returns : tie.Need-returns
-returns c = rw (sym (c .before .time-name .ensures)) (marks-time _ (c .before .time-name .result) (c .before .before .before .before .args .out .now) (c .before .before .before .before .pre .2 .0) (c .before .before .before .before .pre .2 .1) (c .if1 .taken) (omega (arith, time-below (fileIn (c .before .before .before .before .args .f .now) (c .before .before .before .before .args .s) .names), names-long (c .before .before .before .before .args .f .now) (c .before .before .before .before .args .s), c .before .before .before .before .pre .0 .laid .within .names, c .before .time-name .ensures)))
+returns c =
+    let a = c .before .before .before .before .args in
+    let p = c .before .before .before .before .pre in
+    rw (sym (c .before .time-name .ensures)) (marks-time _ (c .before .time-name .result) (a .out .now) (p .2 .0) (p .2 .1) (c .if1 .taken) (omega (arith, time-below (fileIn (a .f .now) (a .s) .names), names-long (a .f .now) (a .s), p .0 .laid .within .names, c .before .time-name .ensures)))
 
 returns-2 : tie.Need-returns-2
-returns-2 c = rw (sym (c .before .time-name .ensures)) (marks-none _ (c .before .time-name .result) (c .before .before .before .before .args .out .now) (c .before .before .before .before .pre .2 .0) (c .before .before .before .before .pre .2 .1) (c .if1 .left))
+returns-2 c =
+    let p = c .before .before .before .before .pre in
+    rw (sym (c .before .time-name .ensures)) (marks-none _ (c .before .time-name .result) (c .before .before .before .before .args .out .now) (p .2 .0) (p .2 .1) (c .if1 .left))
 
 pub time-declared-spec : {M : Type 1} → statement M
 time-declared-spec =

@@ -30,7 +30,9 @@ add-result : tie.Need-add-result Inv-loop μ-loop
 add-result c = omega (arith, c .before .before .before .before .before .before .before .pre .0 .laid .within .names)
 
 returns : tie.Need-returns Inv-loop μ-loop
-returns c = sym (c .before .before .before .before .before .loop .inv .1 ∙ time-yes (fileIn (c .before .before .before .before .before .before .before .args .f .now) (c .before .before .before .before .before .before .before .args .s) .names) (c .before .before .before .before .before .before .before .args .classes .now) (c .before .before .before .before .before .before .before .pre .1) (c .before .before .before .before .before .loop .n) (omega (arith, names-long (c .before .before .before .before .before .before .before .args .f .now) (c .before .before .before .before .before .before .before .args .s))) (sym (c .before .is-time .ensures) ∙ c .if2 .taken))
+returns c =
+    let a = c .before .before .before .before .before .before .before .args in
+    sym (c .before .before .before .before .before .loop .inv .1 ∙ time-yes (fileIn (a .f .now) (a .s) .names) (a .classes .now) (c .before .before .before .before .before .before .before .pre .1) (c .before .before .before .before .before .loop .n) (omega (arith, names-long (a .f .now) (a .s))) (sym (c .before .is-time .ensures) ∙ c .if2 .taken))
 
 add-n : tie.Need-add-n Inv-loop μ-loop
 add-n c = omega (arith, c .before .before .before .before .before .before .before .pre .0 .laid .within .names)
@@ -39,10 +41,14 @@ loop-less : tie.Need-loop-less Inv-loop μ-loop
 loop-less c = omega arith
 
 loop-again : tie.Need-loop-again Inv-loop μ-loop
-loop-again c = (omega arith, c .before .before .before .before .before .loop .inv .1 ∙ ap plusOne (time-no (fileIn (c .before .before .before .before .before .before .before .args .f .now) (c .before .before .before .before .before .before .before .args .s) .names) (c .before .before .before .before .before .before .before .args .classes .now) (c .before .before .before .before .before .before .before .pre .1) (c .before .before .before .before .before .loop .n) (omega (arith, names-long (c .before .before .before .before .before .before .before .args .f .now) (c .before .before .before .before .before .before .before .args .s))) (sym (c .before .is-time .ensures) ∙ c .if2 .left)))
+loop-again c =
+    let a = c .before .before .before .before .before .before .before .args in
+    (omega arith, c .before .before .before .before .before .loop .inv .1 ∙ ap plusOne (time-no (fileIn (a .f .now) (a .s) .names) (a .classes .now) (c .before .before .before .before .before .before .before .pre .1) (c .before .before .before .before .before .loop .n) (omega (arith, names-long (a .f .now) (a .s))) (sym (c .before .is-time .ensures) ∙ c .if2 .left)))
 
 returns-2 : tie.Need-returns-2 Inv-loop μ-loop
-returns-2 c = sym (c .before .before .loop .inv .1 ∙ time-end (fileIn (c .before .before .before .before .args .f .now) (c .before .before .before .before .args .s) .names) (c .before .before .before .before .args .classes .now) (c .before .before .before .before .pre .1) (c .before .before .loop .n) (omega (arith, names-long (c .before .before .before .before .args .f .now) (c .before .before .before .before .args .s))))
+returns-2 c =
+    let a = c .before .before .before .before .args in
+    sym (c .before .before .loop .inv .1 ∙ time-end (fileIn (a .f .now) (a .s) .names) (a .classes .now) (c .before .before .before .before .pre .1) (c .before .before .loop .n) (omega (arith, names-long (a .f .now) (a .s))))
 
 pub time-name-spec : {M : Type 1} → statement M
 time-name-spec =

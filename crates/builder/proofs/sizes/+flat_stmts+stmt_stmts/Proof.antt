@@ -56,74 +56,141 @@ abbrev flat-stmts-μ-loop : flat-stmts-lts.MeasureT-loop
 flat-stmts-μ-loop f s calls k m most first count total₀ i₀ total i = count - i
 
 flat-stmts-returns : (t : ℕ) → flat-stmts-lts.Need-returns (model-reads.Asked, model-reads.Learnt, stmt-stmts-below t, stmt-stmts.Post) (flat-stmts-at t) flat-stmts.Post flat-stmts-Inv-loop flat-stmts-μ-loop
-flat-stmts-returns t c = at-most-none _ _ (flatten-zero (fileIn (c .before .before .args .f .now) (c .before .before .args .s)) (c .before .before .args .k) (c .before .before .args .m) (c .if1 .taken))
+flat-stmts-returns t c =
+    let a = c .before .before .args in
+    at-most-none _ _ (flatten-zero (fileIn (a .f .now) (a .s)) (a .k) (a .m) (c .if1 .taken))
 
 flat-stmts-model-requires : (t : ℕ) → flat-stmts-lts.Need-model-requires (model-reads.Asked, model-reads.Learnt, stmt-stmts-below t, stmt-stmts.Post) (flat-stmts-at t) flat-stmts.Post flat-stmts-Inv-loop flat-stmts-μ-loop
-flat-stmts-model-requires t c κs = let p = c .before .before .pre .1 in (p .0, (p .2, omega arith))
+flat-stmts-model-requires t c κs =
+    let p = c .before .before .pre .1 in
+    (p .0, (p .2, omega arith))
 
 flat-stmts-model-requires-2 : (t : ℕ) → flat-stmts-lts.Need-model-requires-2 (model-reads.Asked, model-reads.Learnt, stmt-stmts-below t, stmt-stmts.Post) (flat-stmts-at t) flat-stmts.Post flat-stmts-Inv-loop flat-stmts-μ-loop
-flat-stmts-model-requires-2 t c κs = let p = c .before .before .before .pre .1 in (p .0, (p .2, omega arith))
+flat-stmts-model-requires-2 t c κs =
+    let p = c .before .before .before .pre .1 in
+    (p .0, (p .2, omega arith))
 
 flat-stmts-loop-holds : (t : ℕ) → flat-stmts-lts.Need-loop-holds (model-reads.Asked, model-reads.Learnt, stmt-stmts-below t, stmt-stmts.Post) (flat-stmts-at t) flat-stmts.Post flat-stmts-Inv-loop flat-stmts-μ-loop
-flat-stmts-loop-holds t c = (omega arith, at-most-none _ _ (sym (sum-none _ (modelAt (fileIn (c .before .before .before .before .args .f .now) (c .before .before .before .before .args .s)) (c .before .before .before .before .args .m) .stmts))))
+flat-stmts-loop-holds t c =
+    let a = c .before .before .before .before .args in
+    (omega arith, at-most-none _ _ (sym (sum-none _ (modelAt (fileIn (a .f .now) (a .s)) (a .m) .stmts))))
 
 flat-stmts-sub-stmt-stmts : (t : ℕ) → flat-stmts-lts.Need-sub-stmt-stmts (model-reads.Asked, model-reads.Learnt, stmt-stmts-below t, stmt-stmts.Post) (flat-stmts-at t) flat-stmts.Post flat-stmts-Inv-loop flat-stmts-μ-loop
 flat-stmts-sub-stmt-stmts t c = omega arith
 
 flat-stmts-add-stmt-stmts : (t : ℕ) → flat-stmts-lts.Need-add-stmt-stmts (model-reads.Asked, model-reads.Learnt, stmt-stmts-below t, stmt-stmts.Post) (flat-stmts-at t) flat-stmts.Post flat-stmts-Inv-loop flat-stmts-μ-loop
-flat-stmts-add-stmt-stmts t c = let p = c .before .before .before .before .before .before .pre .1 in let w = model-is (c .before .before .before .before .before .before .args .f .now) (c .before .before .before .before .before .before .args .s) (p .0) (c .before .before .before .before .before .before .args .m) (p .2) .stmts-within in let e₁ = c .before .before .before .model .ensures .0 in let e₂ = c .before .before .model2 .ensures .0 in omega (arith, p .0 .laid .within .stmts)
+flat-stmts-add-stmt-stmts t c =
+    let a = c .before .before .before .before .before .before .args in
+    let p = c .before .before .before .before .before .before .pre .1 in
+    let w = model-is (a .f .now) (a .s) (p .0) (a .m) (p .2) .stmts-within in
+    let e₁ = c .before .before .before .model .ensures .0 in
+    let e₂ = c .before .before .model2 .ensures .0 in
+    omega (arith, p .0 .laid .within .stmts)
 
 flat-stmts-sub-stmt-stmts-2 : (t : ℕ) → flat-stmts-lts.Need-sub-stmt-stmts-2 (model-reads.Asked, model-reads.Learnt, stmt-stmts-below t, stmt-stmts.Post) (flat-stmts-at t) flat-stmts.Post flat-stmts-Inv-loop flat-stmts-μ-loop
-flat-stmts-sub-stmt-stmts-2 t c = let le = at-most-le _ _ _ (c .before .loop .inv .1) in omega arith
+flat-stmts-sub-stmt-stmts-2 t c =
+    let le = at-most-le _ _ _ (c .before .loop .inv .1) in
+    omega arith
 
 flat-stmts-stmt-stmts-requires : (t : ℕ) → flat-stmts-lts.Need-stmt-stmts-requires (model-reads.Asked, model-reads.Learnt, stmt-stmts-below t, stmt-stmts.Post) (flat-stmts-at t) flat-stmts.Post flat-stmts-Inv-loop flat-stmts-μ-loop
-flat-stmts-stmt-stmts-requires t c κs = let p = c .before .before .before .before .before .before .pre .1 in let w = model-is (c .before .before .before .before .before .before .args .f .now) (c .before .before .before .before .before .before .args .s) (p .0) (c .before .before .before .before .before .before .args .m) (p .2) .stmts-within in let e₁ = c .before .before .before .model .ensures .0 in let e₂ = c .before .before .model2 .ensures .0 in let le = at-most-le _ _ _ (c .before .loop .inv .1) in (omega arith, (p .0, p .1, omega arith, omega arith, omega arith))
+flat-stmts-stmt-stmts-requires t c κs =
+    let a = c .before .before .before .before .before .before .args in
+    let p = c .before .before .before .before .before .before .pre .1 in
+    let w = model-is (a .f .now) (a .s) (p .0) (a .m) (p .2) .stmts-within in
+    let e₁ = c .before .before .before .model .ensures .0 in
+    let e₂ = c .before .before .model2 .ensures .0 in
+    let le = at-most-le _ _ _ (c .before .loop .inv .1) in
+    (omega arith, (p .0, p .1, omega arith, omega arith, omega arith))
 
 flat-stmts-add-total : (t : ℕ) → flat-stmts-lts.Need-add-total (model-reads.Asked, model-reads.Learnt, stmt-stmts-below t, stmt-stmts.Post) (flat-stmts-at t) flat-stmts.Post flat-stmts-Inv-loop flat-stmts-μ-loop
-flat-stmts-add-total t c = let le = at-most-le _ _ _ (c .before .before .loop .inv .1) in let g = at-most-le _ _ _ (c .stmt-stmts .ensures) in let p = c .before .before .before .before .before .before .before .pre .1 in omega arith
+flat-stmts-add-total t c =
+    let le = at-most-le _ _ _ (c .before .before .loop .inv .1) in
+    let g = at-most-le _ _ _ (c .stmt-stmts .ensures) in
+    let p = c .before .before .before .before .before .before .before .pre .1 in
+    omega arith
 
 flat-stmts-add-i : (t : ℕ) → flat-stmts-lts.Need-add-i (model-reads.Asked, model-reads.Learnt, stmt-stmts-below t, stmt-stmts.Post) (flat-stmts-at t) flat-stmts.Post flat-stmts-Inv-loop flat-stmts-μ-loop
-flat-stmts-add-i t c = let p = c .before .before .before .before .before .before .before .pre .1 in let w = model-is (c .before .before .before .before .before .before .before .args .f .now) (c .before .before .before .before .before .before .before .args .s) (p .0) (c .before .before .before .before .before .before .before .args .m) (p .2) .stmts-within in let e₁ = c .before .before .before .before .model .ensures .0 in let e₂ = c .before .before .before .model2 .ensures .0 in omega (arith, p .0 .laid .within .stmts)
+flat-stmts-add-i t c =
+    let a = c .before .before .before .before .before .before .before .args in
+    let p = c .before .before .before .before .before .before .before .pre .1 in
+    let w = model-is (a .f .now) (a .s) (p .0) (a .m) (p .2) .stmts-within in
+    let e₁ = c .before .before .before .before .model .ensures .0 in
+    let e₂ = c .before .before .before .model2 .ensures .0 in
+    omega (arith, p .0 .laid .within .stmts)
 
 flat-stmts-loop-less : (t : ℕ) → flat-stmts-lts.Need-loop-less (model-reads.Asked, model-reads.Learnt, stmt-stmts-below t, stmt-stmts.Post) (flat-stmts-at t) flat-stmts.Post flat-stmts-Inv-loop flat-stmts-μ-loop
 flat-stmts-loop-less t c = omega arith
 
 flat-stmts-loop-again : (t : ℕ) → flat-stmts-lts.Need-loop-again (model-reads.Asked, model-reads.Learnt, stmt-stmts-below t, stmt-stmts.Post) (flat-stmts-at t) flat-stmts.Post flat-stmts-Inv-loop flat-stmts-μ-loop
-flat-stmts-loop-again t c = let p = c .before .before .before .before .before .before .before .pre .1 in let e₁ = c .before .before .before .before .model .ensures .0 in let e₂ = c .before .before .before .model2 .ensures .0 in
-    let g = broughtIn (fileIn (c .before .before .before .before .before .before .before .args .f .now) (c .before .before .before .before .before .before .before .args .s)) (c .before .before .before .before .before .before .before .args .k - 1) in
-    let r = run-next (c .before .before .before .before .before .before .before .args .f .now) (c .before .before .before .before .before .before .before .args .s) (p .0) (c .before .before .before .before .before .before .before .args .m) (p .2) g (c .before .before .loop .i) (omega arith) in
-    let q = ap (λ (j : ℕ). g (stmtIn (c .before .before .before .before .before .before .before .args .f .now) (c .before .before .before .before .before .before .before .args .s) (j + c .before .before .loop .i))) e₁ in
-    (omega arith, at-most-add _ _ _ _ _ (c .before .before .loop .inv .1) (c .stmt-stmts .ensures) ∙ ap (atMost (c .before .before .before .before .before .before .before .args .most)) (omega (arith, r, q)))
+flat-stmts-loop-again t c =
+    let a = c .before .before .before .before .before .before .before .args in
+    let p = c .before .before .before .before .before .before .before .pre .1 in
+    let e₁ = c .before .before .before .before .model .ensures .0 in
+    let e₂ = c .before .before .before .model2 .ensures .0 in
+    let g = broughtIn (fileIn (a .f .now) (a .s)) (a .k - 1) in
+    let r = run-next (a .f .now) (a .s) (p .0) (a .m) (p .2) g (c .before .before .loop .i) (omega arith) in
+    let q = ap (λ (j : ℕ). g (stmtIn (a .f .now) (a .s) (j + c .before .before .loop .i))) e₁ in
+    (omega arith, at-most-add _ _ _ _ _ (c .before .before .loop .inv .1) (c .stmt-stmts .ensures) ∙ ap (atMost (a .most)) (omega (arith, r, q)))
 
 flat-stmts-returns-2 : (t : ℕ) → flat-stmts-lts.Need-returns-2 (model-reads.Asked, model-reads.Learnt, stmt-stmts-below t, stmt-stmts.Post) (flat-stmts-at t) flat-stmts.Post flat-stmts-Inv-loop flat-stmts-μ-loop
-flat-stmts-returns-2 t c = let p = c .before .before .before .before .before .before .pre .1 in let e₂ = c .before .before .model2 .ensures .0 in c .before .loop .inv .1 ∙ ap (atMost (c .before .before .before .before .before .before .args .most)) (run-end (c .before .before .before .before .before .before .args .f .now) (c .before .before .before .before .before .before .args .s) (p .0) (c .before .before .before .before .before .before .args .m) (p .2) (broughtIn (fileIn (c .before .before .before .before .before .before .args .f .now) (c .before .before .before .before .before .before .args .s)) (c .before .before .before .before .before .before .args .k - 1)) (c .before .loop .i) (omega arith) ∙ sym (flatten-more (fileIn (c .before .before .before .before .before .before .args .f .now) (c .before .before .before .before .before .before .args .s)) (c .before .before .before .before .before .before .args .k) (c .before .before .before .before .before .before .args .m) (c .before .before .before .before .if1 .left)))
+flat-stmts-returns-2 t c =
+    let a = c .before .before .before .before .before .before .args in
+    let p = c .before .before .before .before .before .before .pre .1 in
+    let e₂ = c .before .before .model2 .ensures .0 in
+    c .before .loop .inv .1 ∙ ap (atMost (a .most)) (run-end (a .f .now) (a .s) (p .0) (a .m) (p .2) (broughtIn (fileIn (a .f .now) (a .s)) (a .k - 1)) (c .before .loop .i) (omega arith) ∙ sym (flatten-more (fileIn (a .f .now) (a .s)) (a .k) (a .m) (c .before .before .before .before .if1 .left)))
 
 stmt-stmts-returns : (t : ℕ) → stmt-stmts-lts.Need-returns (stmt-reads.Asked, stmt-reads.Learnt, flat-stmts-below t, flat-stmts.Post) (stmt-stmts-at t) stmt-stmts.Post
 stmt-stmts-returns t c = at-most-zero _ _ (c .if1 .taken)
 
 stmt-stmts-stmt-requires : (t : ℕ) → stmt-stmts-lts.Need-stmt-requires (stmt-reads.Asked, stmt-reads.Learnt, flat-stmts-below t, flat-stmts.Post) (stmt-stmts-at t) stmt-stmts.Post
-stmt-stmts-stmt-requires t c κs = let p = c .before .before .pre .1 in (p .0, (p .2, omega arith))
+stmt-stmts-stmt-requires t c κs =
+    let p = c .before .before .pre .1 in
+    (p .0, (p .2, omega arith))
 
 stmt-stmts-returns-2 : (t : ℕ) → stmt-stmts-lts.Need-returns-2 (stmt-reads.Asked, stmt-reads.Learnt, flat-stmts-below t, flat-stmts.Post) (stmt-stmts-at t) stmt-stmts.Post
-stmt-stmts-returns-2 t c = let p = c .before .before .before .before .pre .1 in let (x, y) = own-stmt (c .before .before .before .before .args .f .now) (c .before .before .before .before .args .s) (p .0) (c .before .before .before .before .args .q) (p .2) (λ k. c .if2 .taken (c .before .stmt .ensures .0 ∙ k)) in at-most-one _ _ (c .before .before .if1 .left) (brought-own (fileIn (c .before .before .before .before .args .f .now) (c .before .before .before .before .args .s)) (c .before .before .before .before .args .k) (stmtIn (c .before .before .before .before .args .f .now) (c .before .before .before .before .args .s) (c .before .before .before .before .args .q)) x y)
+stmt-stmts-returns-2 t c =
+    let a = c .before .before .before .before .args in
+    let p = c .before .before .before .before .pre .1 in
+    let (x, y) = own-stmt (a .f .now) (a .s) (p .0) (a .q) (p .2) (λ k. c .if2 .taken (c .before .stmt .ensures .0 ∙ k)) in
+    at-most-one _ _ (c .before .before .if1 .left) (brought-own (fileIn (a .f .now) (a .s)) (a .k) (stmtIn (a .f .now) (a .s) (a .q)) x y)
 
 stmt-stmts-element-copy-out-c : (t : ℕ) → stmt-stmts-lts.Need-element-copy-out-c (stmt-reads.Asked, stmt-reads.Learnt, flat-stmts-below t, flat-stmts.Post) (stmt-stmts-at t) stmt-stmts.Post
-stmt-stmts-element-copy-out-c t c = let p = c .before .before .before .before .pre .1 in omega (arith, p .0 .laid .within .stmts)
+stmt-stmts-element-copy-out-c t c =
+    let p = c .before .before .before .before .pre .1 in
+    omega (arith, p .0 .laid .within .stmts)
 
 stmt-stmts-cast-c : (t : ℕ) → stmt-stmts-lts.Need-cast-c (stmt-reads.Asked, stmt-reads.Learnt, flat-stmts-below t, flat-stmts.Post) (stmt-stmts-at t) stmt-stmts.Post
-stmt-stmts-cast-c t c = let p = c .before .before .before .before .before .pre .1 in let e = p .1 .callee (c .before .before .before .before .before .args .q) (p .2) in omega (arith, e, callee-below (fileIn (c .before .before .before .before .before .args .f .now) (c .before .before .before .before .before .args .s)) (stmtIn (c .before .before .before .before .before .args .f .now) (c .before .before .before .before .before .args .s) (c .before .before .before .before .before .args .q)), models-long (c .before .before .before .before .before .args .f .now) (c .before .before .before .before .before .args .s), p .0 .laid .within .models)
+stmt-stmts-cast-c t c =
+    let a = c .before .before .before .before .before .args in
+    let p = c .before .before .before .before .before .pre .1 in
+    let e = p .1 .callee (a .q) (p .2) in
+    omega (arith, e, callee-below (fileIn (a .f .now) (a .s)) (stmtIn (a .f .now) (a .s) (a .q)), models-long (a .f .now) (a .s), p .0 .laid .within .models)
 
 stmt-stmts-returns-3 : (t : ℕ) → stmt-stmts-lts.Need-returns-3 (stmt-reads.Asked, stmt-reads.Learnt, flat-stmts-below t, flat-stmts.Post) (stmt-stmts-at t) stmt-stmts.Post
-stmt-stmts-returns-3 t c = let p = c .before .before .before .before .before .before .pre .1 in let e = p .1 .callee (c .before .before .before .before .before .before .args .q) (p .2) in let x = stmt-submodel _ _ (sym (c .before .before .before .stmt .ensures .0) ∙ c .before .before .if2 .left) in at-most-none _ _ (brought-none (fileIn (c .before .before .before .before .before .before .args .f .now) (c .before .before .before .before .before .before .args .s)) (c .before .before .before .before .before .before .args .k) _ _ _ _ (stmtIn (c .before .before .before .before .before .before .args .f .now) (c .before .before .before .before .before .before .args .s) (c .before .before .before .before .before .before .args .q)) _ x e (c .if3 .taken))
+stmt-stmts-returns-3 t c =
+    let a = c .before .before .before .before .before .before .args in
+    let p = c .before .before .before .before .before .before .pre .1 in
+    let e = p .1 .callee (a .q) (p .2) in
+    let x = stmt-submodel _ _ (sym (c .before .before .before .stmt .ensures .0) ∙ c .before .before .if2 .left) in
+    at-most-none _ _ (brought-none (fileIn (a .f .now) (a .s)) (a .k) _ _ _ _ (stmtIn (a .f .now) (a .s) (a .q)) _ x e (c .if3 .taken))
 
 stmt-stmts-sub-flat-stmts : (t : ℕ) → stmt-stmts-lts.Need-sub-flat-stmts (stmt-reads.Asked, stmt-reads.Learnt, flat-stmts-below t, flat-stmts.Post) (stmt-stmts-at t) stmt-stmts.Post
 stmt-stmts-sub-flat-stmts t c = omega arith
 
 stmt-stmts-flat-stmts-requires : (t : ℕ) → stmt-stmts-lts.Need-flat-stmts-requires (stmt-reads.Asked, stmt-reads.Learnt, flat-stmts-below t, flat-stmts.Post) (stmt-stmts-at t) stmt-stmts.Post
-stmt-stmts-flat-stmts-requires t c κs = let p = c .before .before .before .before .before .before .pre .1 in let e = p .1 .callee (c .before .before .before .before .before .before .args .q) (p .2) in let b = callee-below (fileIn (c .before .before .before .before .before .before .args .f .now) (c .before .before .before .before .before .before .args .s)) (stmtIn (c .before .before .before .before .before .before .args .f .now) (c .before .before .before .before .before .before .args .s) (c .before .before .before .before .before .before .args .q)) in (omega arith, (p .0, p .1, omega (arith, e, c .if3 .left, models-long (c .before .before .before .before .before .before .args .f .now) (c .before .before .before .before .before .before .args .s)), omega arith, omega arith))
+stmt-stmts-flat-stmts-requires t c κs =
+    let a = c .before .before .before .before .before .before .args in
+    let p = c .before .before .before .before .before .before .pre .1 in
+    let e = p .1 .callee (a .q) (p .2) in
+    let b = callee-below (fileIn (a .f .now) (a .s)) (stmtIn (a .f .now) (a .s) (a .q)) in
+    (omega arith, (p .0, p .1, omega (arith, e, c .if3 .left, models-long (a .f .now) (a .s)), omega arith, omega arith))
 
 stmt-stmts-returns-4 : (t : ℕ) → stmt-stmts-lts.Need-returns-4 (stmt-reads.Asked, stmt-reads.Learnt, flat-stmts-below t, flat-stmts.Post) (stmt-stmts-at t) stmt-stmts.Post
-stmt-stmts-returns-4 t c = let p = c .before .before .before .before .before .before .before .pre .1 in let e = p .1 .callee (c .before .before .before .before .before .before .before .args .q) (p .2) in c .flat-stmts .ensures ∙ ap (atMost (c .before .before .before .before .before .before .before .args .most)) (sym (brought-called (fileIn (c .before .before .before .before .before .before .before .args .f .now) (c .before .before .before .before .before .before .before .args .s)) (c .before .before .before .before .before .before .before .args .k) (stmtIn (c .before .before .before .before .before .before .before .args .f .now) (c .before .before .before .before .before .before .before .args .s) (c .before .before .before .before .before .before .before .args .q)) _ e (c .before .if3 .left)))
+stmt-stmts-returns-4 t c =
+    let a = c .before .before .before .before .before .before .before .args in
+    let p = c .before .before .before .before .before .before .before .pre .1 in
+    let e = p .1 .callee (a .q) (p .2) in
+    c .flat-stmts .ensures ∙ ap (atMost (a .most)) (sym (brought-called (fileIn (a .f .now) (a .s)) (a .k) (stmtIn (a .f .now) (a .s) (a .q)) _ e (c .before .if3 .left)))
 
 pub +flat-stmts+stmt-stmts-spec : {M : Type 1} → statement M
 +flat-stmts+stmt-stmts-spec = close μ-flat-stmts μ-stmt-stmts (λ t. flat-stmts-lts.spec (model-reads.Asked, model-reads.Learnt, stmt-stmts-below t, stmt-stmts.Post)

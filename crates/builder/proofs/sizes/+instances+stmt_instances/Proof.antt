@@ -61,68 +61,128 @@ abbrev instances-μ-loop : instances-lts.MeasureT-loop
 instances-μ-loop f s calls k m most first count total₀ i₀ total i = count - i
 
 instances-returns : (t : ℕ) → instances-lts.Need-returns (model-reads.Asked, model-reads.Learnt, stmt-instances-below t, stmt-instances.Post) (instances-at t) instances.Post instances-Inv-loop instances-μ-loop
-instances-returns t c = at-most-none _ _ (instances-zero (fileIn (c .before .before .args .f .now) (c .before .before .args .s)) (c .before .before .args .k) (c .before .before .args .m) (c .if1 .taken))
+instances-returns t c =
+    let a = c .before .before .args in
+    at-most-none _ _ (instances-zero (fileIn (a .f .now) (a .s)) (a .k) (a .m) (c .if1 .taken))
 
 instances-returns-2 : (t : ℕ) → instances-lts.Need-returns-2 (model-reads.Asked, model-reads.Learnt, stmt-instances-below t, stmt-instances.Post) (instances-at t) instances.Post instances-Inv-loop instances-μ-loop
 instances-returns-2 t c = at-most-zero _ _ (c .if2 .taken)
 
 instances-model-requires : (t : ℕ) → instances-lts.Need-model-requires (model-reads.Asked, model-reads.Learnt, stmt-instances-below t, stmt-instances.Post) (instances-at t) instances.Post instances-Inv-loop instances-μ-loop
-instances-model-requires t c κs = let p = c .before .before .before .pre .1 in (p .0, (p .2, omega arith))
+instances-model-requires t c κs =
+    let p = c .before .before .before .pre .1 in
+    (p .0, (p .2, omega arith))
 
 instances-model-requires-2 : (t : ℕ) → instances-lts.Need-model-requires-2 (model-reads.Asked, model-reads.Learnt, stmt-instances-below t, stmt-instances.Post) (instances-at t) instances.Post instances-Inv-loop instances-μ-loop
-instances-model-requires-2 t c κs = let p = c .before .before .before .before .pre .1 in (p .0, (p .2, omega arith))
+instances-model-requires-2 t c κs =
+    let p = c .before .before .before .before .pre .1 in
+    (p .0, (p .2, omega arith))
 
 instances-loop-holds : (t : ℕ) → instances-lts.Need-loop-holds (model-reads.Asked, model-reads.Learnt, stmt-instances-below t, stmt-instances.Post) (instances-at t) instances.Post instances-Inv-loop instances-μ-loop
-instances-loop-holds t c = (omega arith, at-most-one _ _ (c .before .before .if2 .left) (ap (λ (z : ℕ). 1 + z) (sum-none _ (modelAt (fileIn (c .before .before .before .before .before .args .f .now) (c .before .before .before .before .before .args .s)) (c .before .before .before .before .before .args .m) .stmts))))
+instances-loop-holds t c =
+    let a = c .before .before .before .before .before .args in
+    (omega arith, at-most-one _ _ (c .before .before .if2 .left) (ap (λ (z : ℕ). 1 + z) (sum-none _ (modelAt (fileIn (a .f .now) (a .s)) (a .m) .stmts))))
 
 instances-sub-stmt-instances : (t : ℕ) → instances-lts.Need-sub-stmt-instances (model-reads.Asked, model-reads.Learnt, stmt-instances-below t, stmt-instances.Post) (instances-at t) instances.Post instances-Inv-loop instances-μ-loop
 instances-sub-stmt-instances t c = omega arith
 
 instances-add-stmt-instances : (t : ℕ) → instances-lts.Need-add-stmt-instances (model-reads.Asked, model-reads.Learnt, stmt-instances-below t, stmt-instances.Post) (instances-at t) instances.Post instances-Inv-loop instances-μ-loop
-instances-add-stmt-instances t c = let p = c .before .before .before .before .before .before .before .pre .1 in let w = model-is (c .before .before .before .before .before .before .before .args .f .now) (c .before .before .before .before .before .before .before .args .s) (p .0) (c .before .before .before .before .before .before .before .args .m) (p .2) .stmts-within in let e₁ = c .before .before .before .model .ensures .0 in let e₂ = c .before .before .model2 .ensures .0 in omega (arith, p .0 .laid .within .stmts)
+instances-add-stmt-instances t c =
+    let a = c .before .before .before .before .before .before .before .args in
+    let p = c .before .before .before .before .before .before .before .pre .1 in
+    let w = model-is (a .f .now) (a .s) (p .0) (a .m) (p .2) .stmts-within in
+    let e₁ = c .before .before .before .model .ensures .0 in
+    let e₂ = c .before .before .model2 .ensures .0 in
+    omega (arith, p .0 .laid .within .stmts)
 
 instances-sub-stmt-instances-2 : (t : ℕ) → instances-lts.Need-sub-stmt-instances-2 (model-reads.Asked, model-reads.Learnt, stmt-instances-below t, stmt-instances.Post) (instances-at t) instances.Post instances-Inv-loop instances-μ-loop
-instances-sub-stmt-instances-2 t c = let le = at-most-le _ _ _ (c .before .loop .inv .1) in omega arith
+instances-sub-stmt-instances-2 t c =
+    let le = at-most-le _ _ _ (c .before .loop .inv .1) in
+    omega arith
 
 instances-stmt-instances-requires : (t : ℕ) → instances-lts.Need-stmt-instances-requires (model-reads.Asked, model-reads.Learnt, stmt-instances-below t, stmt-instances.Post) (instances-at t) instances.Post instances-Inv-loop instances-μ-loop
-instances-stmt-instances-requires t c κs = let p = c .before .before .before .before .before .before .before .pre .1 in let w = model-is (c .before .before .before .before .before .before .before .args .f .now) (c .before .before .before .before .before .before .before .args .s) (p .0) (c .before .before .before .before .before .before .before .args .m) (p .2) .stmts-within in let e₁ = c .before .before .before .model .ensures .0 in let e₂ = c .before .before .model2 .ensures .0 in let le = at-most-le _ _ _ (c .before .loop .inv .1) in (omega arith, (p .0, p .1, omega arith, omega arith, omega arith))
+instances-stmt-instances-requires t c κs =
+    let a = c .before .before .before .before .before .before .before .args in
+    let p = c .before .before .before .before .before .before .before .pre .1 in
+    let w = model-is (a .f .now) (a .s) (p .0) (a .m) (p .2) .stmts-within in
+    let e₁ = c .before .before .before .model .ensures .0 in
+    let e₂ = c .before .before .model2 .ensures .0 in
+    let le = at-most-le _ _ _ (c .before .loop .inv .1) in
+    (omega arith, (p .0, p .1, omega arith, omega arith, omega arith))
 
 instances-add-total : (t : ℕ) → instances-lts.Need-add-total (model-reads.Asked, model-reads.Learnt, stmt-instances-below t, stmt-instances.Post) (instances-at t) instances.Post instances-Inv-loop instances-μ-loop
-instances-add-total t c = let le = at-most-le _ _ _ (c .before .before .loop .inv .1) in let g = at-most-le _ _ _ (c .stmt-instances .ensures) in let p = c .before .before .before .before .before .before .before .before .pre .1 in omega arith
+instances-add-total t c =
+    let le = at-most-le _ _ _ (c .before .before .loop .inv .1) in
+    let g = at-most-le _ _ _ (c .stmt-instances .ensures) in
+    let p = c .before .before .before .before .before .before .before .before .pre .1 in
+    omega arith
 
 instances-add-i : (t : ℕ) → instances-lts.Need-add-i (model-reads.Asked, model-reads.Learnt, stmt-instances-below t, stmt-instances.Post) (instances-at t) instances.Post instances-Inv-loop instances-μ-loop
-instances-add-i t c = let p = c .before .before .before .before .before .before .before .before .pre .1 in let w = model-is (c .before .before .before .before .before .before .before .before .args .f .now) (c .before .before .before .before .before .before .before .before .args .s) (p .0) (c .before .before .before .before .before .before .before .before .args .m) (p .2) .stmts-within in let e₁ = c .before .before .before .before .model .ensures .0 in let e₂ = c .before .before .before .model2 .ensures .0 in omega (arith, p .0 .laid .within .stmts)
+instances-add-i t c =
+    let a = c .before .before .before .before .before .before .before .before .args in
+    let p = c .before .before .before .before .before .before .before .before .pre .1 in
+    let w = model-is (a .f .now) (a .s) (p .0) (a .m) (p .2) .stmts-within in
+    let e₁ = c .before .before .before .before .model .ensures .0 in
+    let e₂ = c .before .before .before .model2 .ensures .0 in
+    omega (arith, p .0 .laid .within .stmts)
 
 instances-loop-less : (t : ℕ) → instances-lts.Need-loop-less (model-reads.Asked, model-reads.Learnt, stmt-instances-below t, stmt-instances.Post) (instances-at t) instances.Post instances-Inv-loop instances-μ-loop
 instances-loop-less t c = omega arith
 
 instances-loop-again : (t : ℕ) → instances-lts.Need-loop-again (model-reads.Asked, model-reads.Learnt, stmt-instances-below t, stmt-instances.Post) (instances-at t) instances.Post instances-Inv-loop instances-μ-loop
-instances-loop-again t c = let p = c .before .before .before .before .before .before .before .before .pre .1 in let e₁ = c .before .before .before .before .model .ensures .0 in let e₂ = c .before .before .before .model2 .ensures .0 in
-    let g = calledInstances (fileIn (c .before .before .before .before .before .before .before .before .args .f .now) (c .before .before .before .before .before .before .before .before .args .s)) (c .before .before .before .before .before .before .before .before .args .k - 1) in
-    let r = run-next (c .before .before .before .before .before .before .before .before .args .f .now) (c .before .before .before .before .before .before .before .before .args .s) (p .0) (c .before .before .before .before .before .before .before .before .args .m) (p .2) g (c .before .before .loop .i) (omega arith) in
-    let q = ap (λ (j : ℕ). g (stmtIn (c .before .before .before .before .before .before .before .before .args .f .now) (c .before .before .before .before .before .before .before .before .args .s) (j + c .before .before .loop .i))) e₁ in
-    (omega arith, at-most-add _ _ _ _ _ (c .before .before .loop .inv .1) (c .stmt-instances .ensures) ∙ ap (atMost (c .before .before .before .before .before .before .before .before .args .most)) (omega (arith, r, q)))
+instances-loop-again t c =
+    let a = c .before .before .before .before .before .before .before .before .args in
+    let p = c .before .before .before .before .before .before .before .before .pre .1 in
+    let e₁ = c .before .before .before .before .model .ensures .0 in
+    let e₂ = c .before .before .before .model2 .ensures .0 in
+    let g = calledInstances (fileIn (a .f .now) (a .s)) (a .k - 1) in
+    let r = run-next (a .f .now) (a .s) (p .0) (a .m) (p .2) g (c .before .before .loop .i) (omega arith) in
+    let q = ap (λ (j : ℕ). g (stmtIn (a .f .now) (a .s) (j + c .before .before .loop .i))) e₁ in
+    (omega arith, at-most-add _ _ _ _ _ (c .before .before .loop .inv .1) (c .stmt-instances .ensures) ∙ ap (atMost (a .most)) (omega (arith, r, q)))
 
 instances-returns-3 : (t : ℕ) → instances-lts.Need-returns-3 (model-reads.Asked, model-reads.Learnt, stmt-instances-below t, stmt-instances.Post) (instances-at t) instances.Post instances-Inv-loop instances-μ-loop
-instances-returns-3 t c = let p = c .before .before .before .before .before .before .before .pre .1 in let e₂ = c .before .before .model2 .ensures .0 in c .before .loop .inv .1 ∙ ap (atMost (c .before .before .before .before .before .before .before .args .most)) (ap (λ (z : ℕ). 1 + z) (run-end (c .before .before .before .before .before .before .before .args .f .now) (c .before .before .before .before .before .before .before .args .s) (p .0) (c .before .before .before .before .before .before .before .args .m) (p .2) (calledInstances (fileIn (c .before .before .before .before .before .before .before .args .f .now) (c .before .before .before .before .before .before .before .args .s)) (c .before .before .before .before .before .before .before .args .k - 1)) (c .before .loop .i) (omega arith)) ∙ sym (instances-more (fileIn (c .before .before .before .before .before .before .before .args .f .now) (c .before .before .before .before .before .before .before .args .s)) (c .before .before .before .before .before .before .before .args .k) (c .before .before .before .before .before .before .before .args .m) (c .before .before .before .before .before .if1 .left)))
+instances-returns-3 t c =
+    let a = c .before .before .before .before .before .before .before .args in
+    let p = c .before .before .before .before .before .before .before .pre .1 in
+    let e₂ = c .before .before .model2 .ensures .0 in
+    c .before .loop .inv .1 ∙ ap (atMost (a .most)) (ap (λ (z : ℕ). 1 + z) (run-end (a .f .now) (a .s) (p .0) (a .m) (p .2) (calledInstances (fileIn (a .f .now) (a .s)) (a .k - 1)) (c .before .loop .i) (omega arith)) ∙ sym (instances-more (fileIn (a .f .now) (a .s)) (a .k) (a .m) (c .before .before .before .before .before .if1 .left)))
 
 stmt-instances-element-copy-out-c : (t : ℕ) → stmt-instances-lts.Need-element-copy-out-c (instances-below t, instances.Post) (stmt-instances-at t) stmt-instances.Post
-stmt-instances-element-copy-out-c t c = let p = c .before .pre .1 in omega (arith, p .0 .laid .within .stmts)
+stmt-instances-element-copy-out-c t c =
+    let p = c .before .pre .1 in
+    omega (arith, p .0 .laid .within .stmts)
 
 stmt-instances-cast-c : (t : ℕ) → stmt-instances-lts.Need-cast-c (instances-below t, instances.Post) (stmt-instances-at t) stmt-instances.Post
-stmt-instances-cast-c t c = let p = c .before .before .pre .1 in let e = p .1 .callee (c .before .before .args .q) (p .2) in omega (arith, e, callee-below (fileIn (c .before .before .args .f .now) (c .before .before .args .s)) (stmtIn (c .before .before .args .f .now) (c .before .before .args .s) (c .before .before .args .q)), models-long (c .before .before .args .f .now) (c .before .before .args .s), p .0 .laid .within .models)
+stmt-instances-cast-c t c =
+    let a = c .before .before .args in
+    let p = c .before .before .pre .1 in
+    let e = p .1 .callee (a .q) (p .2) in
+    omega (arith, e, callee-below (fileIn (a .f .now) (a .s)) (stmtIn (a .f .now) (a .s) (a .q)), models-long (a .f .now) (a .s), p .0 .laid .within .models)
 
 stmt-instances-returns : (t : ℕ) → stmt-instances-lts.Need-returns (instances-below t, instances.Post) (stmt-instances-at t) stmt-instances.Post
-stmt-instances-returns t c = let p = c .before .before .before .pre .1 in let e = p .1 .callee (c .before .before .before .args .q) (p .2) in at-most-none _ _ (called-none (fileIn (c .before .before .before .args .f .now) (c .before .before .before .args .s)) (c .before .before .before .args .k) (stmtIn (c .before .before .before .args .f .now) (c .before .before .before .args .s) (c .before .before .before .args .q)) _ e (c .if1 .taken))
+stmt-instances-returns t c =
+    let a = c .before .before .before .args in
+    let p = c .before .before .before .pre .1 in
+    let e = p .1 .callee (a .q) (p .2) in
+    at-most-none _ _ (called-none (fileIn (a .f .now) (a .s)) (a .k) (stmtIn (a .f .now) (a .s) (a .q)) _ e (c .if1 .taken))
 
 stmt-instances-sub-instances : (t : ℕ) → stmt-instances-lts.Need-sub-instances (instances-below t, instances.Post) (stmt-instances-at t) stmt-instances.Post
 stmt-instances-sub-instances t c = omega arith
 
 stmt-instances-instances-requires : (t : ℕ) → stmt-instances-lts.Need-instances-requires (instances-below t, instances.Post) (stmt-instances-at t) stmt-instances.Post
-stmt-instances-instances-requires t c κs = let p = c .before .before .before .pre .1 in let e = p .1 .callee (c .before .before .before .args .q) (p .2) in let b = callee-below (fileIn (c .before .before .before .args .f .now) (c .before .before .before .args .s)) (stmtIn (c .before .before .before .args .f .now) (c .before .before .before .args .s) (c .before .before .before .args .q)) in (omega arith, (p .0, p .1, omega (arith, e, c .if1 .left, models-long (c .before .before .before .args .f .now) (c .before .before .before .args .s)), omega arith, omega arith))
+stmt-instances-instances-requires t c κs =
+    let a = c .before .before .before .args in
+    let p = c .before .before .before .pre .1 in
+    let e = p .1 .callee (a .q) (p .2) in
+    let b = callee-below (fileIn (a .f .now) (a .s)) (stmtIn (a .f .now) (a .s) (a .q)) in
+    (omega arith, (p .0, p .1, omega (arith, e, c .if1 .left, models-long (a .f .now) (a .s)), omega arith, omega arith))
 
 stmt-instances-returns-2 : (t : ℕ) → stmt-instances-lts.Need-returns-2 (instances-below t, instances.Post) (stmt-instances-at t) stmt-instances.Post
-stmt-instances-returns-2 t c = let p = c .before .before .before .before .pre .1 in let e = p .1 .callee (c .before .before .before .before .args .q) (p .2) in c .instances .ensures ∙ ap (atMost (c .before .before .before .before .args .most)) (sym (called-one (fileIn (c .before .before .before .before .args .f .now) (c .before .before .before .before .args .s)) (c .before .before .before .before .args .k) (stmtIn (c .before .before .before .before .args .f .now) (c .before .before .before .before .args .s) (c .before .before .before .before .args .q)) _ e (c .before .if1 .left)))
+stmt-instances-returns-2 t c =
+    let a = c .before .before .before .before .args in
+    let p = c .before .before .before .before .pre .1 in
+    let e = p .1 .callee (a .q) (p .2) in
+    c .instances .ensures ∙ ap (atMost (a .most)) (sym (called-one (fileIn (a .f .now) (a .s)) (a .k) (stmtIn (a .f .now) (a .s) (a .q)) _ e (c .before .if1 .left)))
 
 pub +instances+stmt-instances-spec : {M : Type 1} → statement M
 +instances+stmt-instances-spec = close μ-instances μ-stmt-instances (λ t. instances-lts.spec (model-reads.Asked, model-reads.Learnt, stmt-instances-below t, stmt-instances.Post)

@@ -8,15 +8,21 @@ use Rattle.builder.proofs.starting.condition_error.Tie as tie
 
 stmt-of-requires : tie.Need-stmt-of-requires
 unfolding stmtsAt varsAt depsAt errorsAt
-stmt-of-requires c κs = (c .before .before .pre .0 .small, omega (arith, c .before .before .pre .0 .long), c .before .before .pre .1, omega arith)
+stmt-of-requires c κs =
+    let p = c .before .before .pre in
+    (p .0 .small, omega (arith, p .0 .long), p .1, omega arith)
 
 record-word-requires : tie.Need-record-word-requires
 unfolding stmtsAt varsAt depsAt errorsAt
-record-word-requires c κs = (omega (arith, c .before .before .before .before .pre .0 .long), rw (c .before .stmt-of .ensures .0) (c .before .before .before .before .pre .0 .right _ (c .before .before .before .before .pre .1)), omega arith)
+record-word-requires c κs =
+    let p = c .before .before .before .before .pre in
+    (omega (arith, p .0 .long), rw (c .before .stmt-of .ensures .0) (p .0 .right _ (p .1)), omega arith)
 
 record-word-requires-2 : tie.Need-record-word-requires-2
 unfolding stmtsAt varsAt depsAt errorsAt
-record-word-requires-2 c κs = (omega (arith, c .before .before .before .before .before .before .pre .0 .long), rw (c .before .before .before .stmt-of .ensures .0) (c .before .before .before .before .before .before .pre .0 .right _ (c .before .before .before .before .before .before .pre .1)), omega arith)
+record-word-requires-2 c κs =
+    let p = c .before .before .before .before .before .before .pre in
+    (omega (arith, p .0 .long), rw (c .before .before .before .stmt-of .ensures .0) (p .0 .right _ (p .1)), omega arith)
 
 list-error-requires : tie.Need-list-error-requires
 list-error-requires c κs = search needs

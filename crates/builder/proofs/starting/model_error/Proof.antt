@@ -24,7 +24,10 @@ same-length c = search needs
 
 returns : tie.Need-returns
 unfolding spanFrom
-returns c = let p = rw (c .before .before .before .before .before .model .ensures .0, c .before .before .before .before .model2 .ensures .0) at (c .before .before .list-error .ensures) in rw (model-span _ _ (c .before .before .before .before .before .before .before .before .pre .0) _ (c .before .before .before .before .before .before .before .before .pre .1)) p
+returns c =
+    let pre = c .before .before .before .before .before .before .before .before .pre in
+    let p = rw (c .before .before .before .before .before .model .ensures .0, c .before .before .before .before .model2 .ensures .0) at (c .before .before .list-error .ensures) in
+    rw (model-span _ _ (pre .0) _ (pre .1)) p
 
 pub model-error-spec : {M : Type 1} → statement M
 model-error-spec =

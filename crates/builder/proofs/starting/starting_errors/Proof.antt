@@ -39,8 +39,10 @@ slice-aggregate-note-fates-3 c = search needs
 
 note-fates-requires : tie.Need-note-fates-requires Inv-loop μ-loop
 unfolding stmtsAt varsAt depsAt errorsAt
-note-fates-requires c κs = let a = c .before .before .before .before .before .before .before .before .before .before .args in
-    (c .before .before .before .before .before .before .before .before .before .before .pre .3 .small, omega (arith, c .before .before .before .before .before .before .before .before .before .before .pre .3 .long), fates-none (a .z .stmts) (stmtsAt (a .z)) (a .area .now) _ _ _ (c .before .before .before .before .before .before .no-fates .ensures) (c .before .before .before .before .before .no-fates2 .ensures) (c .before .before .before .before .no-fates3 .ensures))
+note-fates-requires c κs =
+    let p = c .before .before .before .before .before .before .before .before .before .before .pre in
+    let a = c .before .before .before .before .before .before .before .before .before .before .args in
+    (p .3 .small, omega (arith, p .3 .long), fates-none (a .z .stmts) (stmtsAt (a .z)) (a .area .now) _ _ _ (c .before .before .before .before .before .before .no-fates .ensures) (c .before .before .before .before .before .no-fates2 .ensures) (c .before .before .before .before .no-fates3 .ensures))
 
 loop-holds : tie.Need-loop-holds Inv-loop μ-loop
 loop-holds c = (omega arith, omega arith, rw (starting-none _ _ _ _) (none-at _ _ _))
@@ -52,7 +54,9 @@ array-read-holds : tie.Need-array-read-holds Inv-loop μ-loop
 array-read-holds c = omega (arith, c .if1 .taken, c .before .before .before .before .before .before .before .before .before .before .before .before .before .before .before .before .before .pre .3 .small .vars)
 
 cast-holds : tie.Need-cast-holds Inv-loop μ-loop
-cast-holds c = let w = c .before .before .before .before .before .before .before .before .before .before .before .before .before .before .before .before .before .pre .3 .small in omega (arith, w .stmts, held-few _ _ _ _ _ _ (c .before .before .before .before .before .before .note-fates .ensures) (c .before .before .loop .v) (omega (arith, c .if1 .taken, w .vars)))
+cast-holds c =
+    let w = c .before .before .before .before .before .before .before .before .before .before .before .before .before .before .before .before .before .pre .3 .small in
+    omega (arith, w .stmts, held-few _ _ _ _ _ _ (c .before .before .before .before .before .before .note-fates .ensures) (c .before .before .loop .v) (omega (arith, c .if1 .taken, w .vars)))
 
 mul-starts : tie.Need-mul-starts Inv-loop μ-loop
 mul-starts c = omega (arith, c .if1 .taken, c .before .before .before .before .before .before .before .before .before .before .before .before .before .before .before .before .before .pre .3 .small .vars)
@@ -61,7 +65,9 @@ array-read-starts : tie.Need-array-read-starts Inv-loop μ-loop
 array-read-starts c = omega (arith, c .if1 .taken, c .before .before .before .before .before .before .before .before .before .before .before .before .before .before .before .before .before .pre .3 .small .vars)
 
 cast-starts : tie.Need-cast-starts Inv-loop μ-loop
-cast-starts c = let w = c .before .before .before .before .before .before .before .before .before .before .before .before .before .before .before .before .before .pre .3 .small in omega (arith, w .stmts, first-few _ _ _ _ _ _ (c .before .before .before .before .before .before .note-fates .ensures) (c .before .before .loop .v) (omega (arith, c .if1 .taken, w .vars)))
+cast-starts c =
+    let w = c .before .before .before .before .before .before .before .before .before .before .before .before .before .before .before .before .before .pre .3 .small in
+    omega (arith, w .stmts, first-few _ _ _ _ _ _ (c .before .before .before .before .before .before .note-fates .ensures) (c .before .before .loop .v) (omega (arith, c .if1 .taken, w .vars)))
 
 mul-state-errors : tie.Need-mul-state-errors Inv-loop μ-loop
 mul-state-errors c = omega (arith, c .before .if1 .taken, c .before .before .before .before .before .before .before .before .before .before .before .before .before .before .before .before .before .before .pre .3 .small .vars)
@@ -70,10 +76,12 @@ shared-slice-read-state-errors : tie.Need-shared-slice-read-state-errors Inv-loo
 shared-slice-read-state-errors c = omega (arith, c .before .before .if1 .taken, c .before .before .before .before .before .before .before .before .before .before .before .before .before .before .before .before .before .before .before .pre .2)
 
 state-errors-requires : tie.Need-state-errors-requires Inv-loop μ-loop
-state-errors-requires c κs = let a = c .before .before .before .before .before .before .before .before .before .before .before .before .before .before .before .before .before .before .before .args in
+state-errors-requires c κs =
+    let pre = c .before .before .before .before .before .before .before .before .before .before .before .before .before .before .before .before .before .before .before .pre in
+    let a = c .before .before .before .before .before .before .before .before .before .before .before .before .before .before .before .before .before .before .before .args in
     let p : ListsAt (errorsAt (a .z)) (a .area .now) (a .count) (startingIn (modelAt (fileIn (a .f .now) (a .s)) (a .m) .span) (nodesIn (a .area .now) (a .z)) (stmtsIn (a .area .now) (a .z)) (a .names .now) (c .before .before .before .before .loop .v)) (c .before .before .before .before .loop .listed) (c .before .before .before .before .loop .area) = c .before .before .before .before .loop .inv .2 in
-    let few : c .before .before .before .before .loop .v < 129 = omega (arith, c .before .before .if1 .taken, c .before .before .before .before .before .before .before .before .before .before .before .before .before .before .before .before .before .before .before .pre .3 .small .vars) in
-    (c .before .before .before .before .before .before .before .before .before .before .before .before .before .before .before .before .before .before .before .pre .0, c .before .before .before .before .before .before .before .before .before .before .before .before .before .before .before .before .before .before .before .pre .1, righted-listed _ _ _ _ _ _ (c .before .before .before .before .before .before .before .before .before .before .before .before .before .before .before .before .before .before .before .pre .3) p, held-few _ _ _ _ _ _ (c .before .before .before .before .before .before .before .before .note-fates .ensures) (c .before .before .before .before .loop .v) few, first-few _ _ _ _ _ _ (c .before .before .before .before .before .before .before .before .note-fates .ensures) (c .before .before .before .before .loop .v) few, omega (arith, c .before .before .before .before .loop .inv .1, c .before .before .if1 .taken, c .before .before .before .before .before .before .before .before .before .before .before .before .before .before .before .before .before .before .before .pre .4))
+    let few : c .before .before .before .before .loop .v < 129 = omega (arith, c .before .before .if1 .taken, pre .3 .small .vars) in
+    (pre .0, pre .1, righted-listed _ _ _ _ _ _ (pre .3) p, held-few _ _ _ _ _ _ (c .before .before .before .before .before .before .before .before .note-fates .ensures) (c .before .before .before .before .loop .v) few, first-few _ _ _ _ _ _ (c .before .before .before .before .before .before .before .before .note-fates .ensures) (c .before .before .before .before .loop .v) few, omega (arith, c .before .before .before .before .loop .inv .1, c .before .before .if1 .taken, pre .4))
 
 add-v : tie.Need-add-v Inv-loop μ-loop
 add-v c = omega (arith, c .before .before .before .before .before .before .before .before .before .before .before .before .before .before .before .before .before .before .before .before .before .before .pre .3 .small .vars, c .before .before .before .before .before .if1 .taken)
@@ -82,19 +90,23 @@ loop-less : tie.Need-loop-less Inv-loop μ-loop
 loop-less c = omega (arith, c .before .before .before .before .before .if1 .taken)
 
 loop-again : tie.Need-loop-again Inv-loop μ-loop
-loop-again c = let a = c .before .before .before .before .before .before .before .before .before .before .before .before .before .before .before .before .before .before .before .before .before .before .args in
+loop-again c =
+    let pre = c .before .before .before .before .before .before .before .before .before .before .before .before .before .before .before .before .before .before .before .before .before .before .pre in
+    let a = c .before .before .before .before .before .before .before .before .before .before .before .before .before .before .before .before .before .before .before .before .before .before .args in
     let p : ListsAt (errorsAt (a .z)) (a .area .now) (a .count) (startingIn (modelAt (fileIn (a .f .now) (a .s)) (a .m) .span) (nodesIn (a .area .now) (a .z)) (stmtsIn (a .area .now) (a .z)) (a .names .now) (c .before .before .before .before .before .before .before .loop .v)) (c .before .before .before .before .before .before .before .loop .listed) (c .before .before .before .before .before .before .before .loop .area) = c .before .before .before .before .before .before .before .loop .inv .2 in
-    let few : c .before .before .before .before .before .before .before .loop .v < 129 = omega (arith, c .before .before .before .before .before .if1 .taken, c .before .before .before .before .before .before .before .before .before .before .before .before .before .before .before .before .before .before .before .before .before .before .pre .3 .small .vars) in
-    let n = starting-next _ _ _ _ _ _ _ _ _ _ _ _ (c .before .before .before .before .before .before .before .before .before .before .before .before .before .before .before .before .before .before .before .before .before .before .pre .3) (c .before .before .before .before .before .before .before .before .before .before .before .note-fates .ensures .held-of (c .before .before .before .before .before .before .before .loop .v) few) (c .before .before .before .before .before .before .before .before .before .before .before .note-fates .ensures .first-of (c .before .before .before .before .before .before .before .loop .v) few) p (c .before .before .state-errors .ensures) in
+    let few : c .before .before .before .before .before .before .before .loop .v < 129 = omega (arith, c .before .before .before .before .before .if1 .taken, pre .3 .small .vars) in
+    let n = starting-next _ _ _ _ _ _ _ _ _ _ _ _ (pre .3) (c .before .before .before .before .before .before .before .before .before .before .before .note-fates .ensures .held-of (c .before .before .before .before .before .before .before .loop .v) few) (c .before .before .before .before .before .before .before .before .before .before .before .note-fates .ensures .first-of (c .before .before .before .before .before .before .before .loop .v) few) p (c .before .before .state-errors .ensures) in
     (omega (arith, c .before .before .before .before .before .if1 .taken), omega (arith, n .0, c .before .before .before .before .before .before .before .loop .inv .1), n .1)
 
 same-length : tie.Need-same-length Inv-loop μ-loop
-same-length c = let a = c .before .before .before .before .before .before .before .before .before .before .before .before .before .before .before .before .before .args in
+same-length c =
+    let a = c .before .before .before .before .before .before .before .before .before .before .before .before .before .before .before .before .before .args in
     let p : ListsAt (errorsAt (a .z)) (a .area .now) (a .count) (startingIn (modelAt (fileIn (a .f .now) (a .s)) (a .m) .span) (nodesIn (a .area .now) (a .z)) (stmtsIn (a .area .now) (a .z)) (a .names .now) (c .before .before .loop .v)) (c .before .before .loop .listed) (c .before .before .loop .area) = c .before .before .loop .inv .2 in
     lists-length _ _ _ _ _ _ (c .before .before .before .before .before .before .before .before .before .before .before .before .before .before .before .before .before .pre .3 .long) p
 
 returns : tie.Need-returns Inv-loop μ-loop
-returns c = let a = c .before .before .before .before .before .before .before .before .before .before .before .before .before .before .before .before .before .args in
+returns c =
+    let a = c .before .before .before .before .before .before .before .before .before .before .before .before .before .before .before .before .before .args in
     let p : ListsAt (errorsAt (a .z)) (a .area .now) (a .count) (startingIn (modelAt (fileIn (a .f .now) (a .s)) (a .m) .span) (nodesIn (a .area .now) (a .z)) (stmtsIn (a .area .now) (a .z)) (a .names .now) (c .before .before .loop .v)) (c .before .before .loop .listed) (c .before .before .loop .area) = c .before .before .loop .inv .2 in
     let e : c .before .before .loop .v ≡ a .z .vars = omega (arith, c .before .before .loop .inv .0, c .if1 .left) in
     rw e at p

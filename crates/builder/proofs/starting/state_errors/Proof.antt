@@ -15,7 +15,9 @@ sub-stmt-of c = search needs
 
 stmt-of-requires : tie.Need-stmt-of-requires
 unfolding stmtsAt varsAt depsAt errorsAt
-stmt-of-requires c κs = (c .before .before .before .before .pre .2 .small, omega (arith, c .before .before .before .before .pre .2 .long), omega (arith, c .before .before .before .before .pre .3, c .before .if1 .left), omega arith)
+stmt-of-requires c κs =
+    let p = c .before .before .before .before .pre in
+    (p .2 .small, omega (arith, p .2 .long), omega (arith, p .3, c .before .if1 .left), omega arith)
 
 model-error-requires : tie.Need-model-error-requires
 model-error-requires c κs = search needs

@@ -20,7 +20,7 @@ use Rattle.builder.proofs.stmts.write_stmts.Kinds as write-stmts-kinds
 use Rattle.builder.proofs.stmts.+write_stmt+write_stmts.Lts-write_stmts as write-stmts-lts
 use Rattle.ast.proofs.records.model.Reads as model-reads
 use Rattle.ast.proofs.records.stmt.Reads as stmt-reads
-use Rattle.builder.proofs.flatten.find_replacements.Reads as find-replacements-reads
+use Rattle.builder.proofs.replacements.find_replacements.Reads as find-replacements-reads
 use Rattle.builder.proofs.stmts.write_record.Reads as write-record-reads
 use Rattle.builder.proofs.stmts.+write_stmt+write_stmts.{statement}
 use Rattle.builder.proofs.stmts.+write_stmt+write_stmts.Tie.{close}
@@ -48,10 +48,15 @@ write-stmts-below t =
     and 4 write-stmts-kinds.ps (falls 4 write-stmts-kinds.ps _<_ μ-write-stmts t) write-stmts.Pre
 
 write-stmt-stmt-requires : (t : ℕ) → write-stmt-lts.Need-stmt-requires (stmt-reads.Asked, stmt-reads.Learnt, write-record-reads.Asked, write-record-reads.Learnt, find-replacements-reads.Asked, find-replacements-reads.Learnt, write-stmts-below t, write-stmts.Post) (write-stmt-at t) write-stmt.Post
-write-stmt-stmt-requires t c κs = (c .before .before .before .pre .1 .0, (c .before .before .before .pre .1 .2, omega arith))
+write-stmt-stmt-requires t c κs =
+    let p = c .before .before .before .pre in
+    (p .1 .0, (p .1 .2, omega arith))
 
 write-stmt-write-record-requires : (t : ℕ) → write-stmt-lts.Need-write-record-requires (stmt-reads.Asked, stmt-reads.Learnt, write-record-reads.Asked, write-record-reads.Learnt, find-replacements-reads.Asked, find-replacements-reads.Learnt, write-stmts-below t, write-stmts.Post) (write-stmt-at t) write-stmt.Post
-write-stmt-write-record-requires t c κs = let p = c .before .before .before .before .before .before .before .pre .1 in (p .0, (p .2, λ e. c .before .before .if1 .taken (c .before .before .before .stmt .ensures .0 ∙ e)), (omega (arith, p .3 .0), omega (arith, p .3 .1), p .3 .2), ((λ j. flatten (fileIn (c .before .before .before .before .before .before .before .args .f .now) (c .before .before .before .before .before .before .before .args .s)) (c .before .before .before .before .before .before .before .args .k) j), p .4))
+write-stmt-write-record-requires t c κs =
+    let a = c .before .before .before .before .before .before .before .args in
+    let p = c .before .before .before .before .before .before .before .pre .1 in
+    (p .0, (p .2, λ e. c .before .before .if1 .taken (c .before .before .before .stmt .ensures .0 ∙ e)), (omega (arith, p .3 .0), omega (arith, p .3 .1), p .3 .2), ((λ j. flatten (fileIn (a .f .now) (a .s)) (a .k) j), p .4))
 
 write-stmt-same-length : (t : ℕ) → write-stmt-lts.Need-same-length (stmt-reads.Asked, stmt-reads.Learnt, write-record-reads.Asked, write-record-reads.Learnt, find-replacements-reads.Asked, find-replacements-reads.Learnt, write-stmts-below t, write-stmts.Post) (write-stmt-at t) write-stmt.Post
 write-stmt-same-length t c = search needs
@@ -60,34 +65,60 @@ write-stmt-same-length-2 : (t : ℕ) → write-stmt-lts.Need-same-length-2 (stmt
 write-stmt-same-length-2 t c = search needs
 
 write-stmt-returns : (t : ℕ) → write-stmt-lts.Need-returns (stmt-reads.Asked, stmt-reads.Learnt, write-record-reads.Asked, write-record-reads.Learnt, find-replacements-reads.Asked, find-replacements-reads.Learnt, write-stmts-below t, write-stmts.Post) (write-stmt-at t) write-stmt.Post
-write-stmt-returns t c = (c .before .before .write-record .ensures (λ j. flatten (fileIn (c .before .before .before .before .before .before .before .before .before .before .args .f .now) (c .before .before .before .before .before .before .before .before .before .before .args .s)) (c .before .before .before .before .before .before .before .before .before .before .args .k) j), (refl, refl, c .before .before .before .before .before .before .before .before .before .before .pre .1 .3 .2))
+write-stmt-returns t c =
+    let a = c .before .before .before .before .before .before .before .before .before .before .args in
+    (c .before .before .write-record .ensures (λ j. flatten (fileIn (a .f .now) (a .s)) (a .k) j), (refl, refl, c .before .before .before .before .before .before .before .before .before .before .pre .1 .3 .2))
 
 write-stmt-element-copy-out-c : (t : ℕ) → write-stmt-lts.Need-element-copy-out-c (stmt-reads.Asked, stmt-reads.Learnt, write-record-reads.Asked, write-record-reads.Learnt, find-replacements-reads.Asked, find-replacements-reads.Learnt, write-stmts-below t, write-stmts.Post) (write-stmt-at t) write-stmt.Post
-write-stmt-element-copy-out-c t c = omega (arith, c .before .before .before .before .before .pre .1 .2, c .before .before .before .before .before .pre .1 .0 .laid .within .stmts)
+write-stmt-element-copy-out-c t c =
+    let p = c .before .before .before .before .before .pre in
+    omega (arith, p .1 .2, p .1 .0 .laid .within .stmts)
 
 write-stmt-cast-c : (t : ℕ) → write-stmt-lts.Need-cast-c (stmt-reads.Asked, stmt-reads.Learnt, write-record-reads.Asked, write-record-reads.Learnt, find-replacements-reads.Asked, find-replacements-reads.Learnt, write-stmts-below t, write-stmts.Post) (write-stmt-at t) write-stmt.Post
-write-stmt-cast-c t c = omega (arith, called-within (c .before .before .before .before .before .before .args .f .now) (c .before .before .before .before .before .before .args .s) (c .before .before .before .before .before .before .pre .1 .0) (c .before .before .before .before .before .before .args .q) (c .before .before .before .before .before .before .pre .1 .2) (c .before .before .before .before .before .before .args .calls .now) (c .before .before .before .before .before .before .pre .1 .1) _ refl (sym (c .before .before .stmt .ensures .0) ∙ c .before .if1 .left), c .before .before .before .before .before .before .pre .1 .0 .laid .within .models)
+write-stmt-cast-c t c =
+    let a = c .before .before .before .before .before .before .args in
+    let p = c .before .before .before .before .before .before .pre in
+    omega (arith, called-within (a .f .now) (a .s) (p .1 .0) (a .q) (p .1 .2) (a .calls .now) (p .1 .1) _ refl (sym (c .before .before .stmt .ensures .0) ∙ c .before .if1 .left), p .1 .0 .laid .within .models)
 
 write-stmt-returns-2 : (t : ℕ) → write-stmt-lts.Need-returns-2 (stmt-reads.Asked, stmt-reads.Learnt, write-record-reads.Asked, write-record-reads.Learnt, find-replacements-reads.Asked, find-replacements-reads.Learnt, write-stmts-below t, write-stmts.Post) (write-stmt-at t) write-stmt.Post
-write-stmt-returns-2 t c = (nothing-recorded (c .before .before .before .before .before .before .before .args .out .now) (c .before .before .before .before .before .before .before .args .done .stmts) (c .before .before .before .before .before .before .before .args .done .nodes) _ (brought-none (c .before .before .before .before .before .before .before .args .f .now) (c .before .before .before .before .before .before .before .args .s) (c .before .before .before .before .before .before .before .pre .1 .0) (c .before .before .before .before .before .before .before .args .q) (c .before .before .before .before .before .before .before .pre .1 .2) (sym (c .before .before .before .stmt .ensures .0) ∙ c .before .before .if1 .left) (levelsOf (contentsIn (c .before .before .before .before .before .before .before .args .f .now) (c .before .before .before .before .before .before .before .args .s) .nodes) (c .before .before .before .before .before .before .before .args .rows .now) (c .before .before .before .before .before .before .before .args .level)) (c .before .before .before .before .before .before .before .args .calls .now) (c .before .before .before .before .before .before .before .pre .1 .1) _ refl (c .before .before .before .before .before .before .before .args .k) (either-zero _ _ (c .if2 .taken))), (refl, refl, c .before .before .before .before .before .before .before .pre .1 .3 .2))
+write-stmt-returns-2 t c =
+    let a = c .before .before .before .before .before .before .before .args in
+    let p = c .before .before .before .before .before .before .before .pre in
+    (nothing-recorded (a .out .now) (a .done .stmts) (a .done .nodes) _ (brought-none (a .f .now) (a .s) (p .1 .0) (a .q) (p .1 .2) (sym (c .before .before .before .stmt .ensures .0) ∙ c .before .before .if1 .left) (levelsOf (contentsIn (a .f .now) (a .s) .nodes) (a .rows .now) (a .level)) (a .calls .now) (p .1 .1) _ refl (a .k) (either-zero _ _ (c .if2 .taken))), (refl, refl, p .1 .3 .2))
 
 write-stmt-sub-find-replacements : (t : ℕ) → write-stmt-lts.Need-sub-find-replacements (stmt-reads.Asked, stmt-reads.Learnt, write-record-reads.Asked, write-record-reads.Learnt, find-replacements-reads.Asked, find-replacements-reads.Learnt, write-stmts-below t, write-stmts.Post) (write-stmt-at t) write-stmt.Post
-write-stmt-sub-find-replacements t c = omega (arith, (neither-zero (getD (c .before .before .before .before .before .before .before .args .calls .now) (c .before .before .before .before .before .before .before .args .q) 0) (c .before .before .before .before .before .before .before .args .k) (c .if2 .left) .0))
+write-stmt-sub-find-replacements t c =
+    let a = c .before .before .before .before .before .before .before .args in
+    omega (arith, (neither-zero (getD (a .calls .now) (a .q) 0) (a .k) (c .if2 .left) .0))
 
 write-stmt-stmt-requires-2 : (t : ℕ) → write-stmt-lts.Need-stmt-requires-2 (stmt-reads.Asked, stmt-reads.Learnt, write-record-reads.Asked, write-record-reads.Learnt, find-replacements-reads.Asked, find-replacements-reads.Learnt, write-stmts-below t, write-stmts.Post) (write-stmt-at t) write-stmt.Post
-write-stmt-stmt-requires-2 t c κs = (c .before .before .before .before .before .before .before .pre .1 .0, (c .before .before .before .before .before .before .before .pre .1 .2, omega arith))
+write-stmt-stmt-requires-2 t c κs =
+    let p = c .before .before .before .before .before .before .before .pre in
+    (p .1 .0, (p .1 .2, omega arith))
 
 write-stmt-find-replacements-requires : (t : ℕ) → write-stmt-lts.Need-find-replacements-requires (stmt-reads.Asked, stmt-reads.Learnt, write-record-reads.Asked, write-record-reads.Learnt, find-replacements-reads.Asked, find-replacements-reads.Learnt, write-stmts-below t, write-stmts.Post) (write-stmt-at t) write-stmt.Post
-write-stmt-find-replacements-requires t c κs = let p = c .before .before .before .before .before .before .before .before .before .pre .1 in (p .0, called-some (c .before .before .before .before .before .before .before .before .before .args .f .now) (c .before .before .before .before .before .before .before .before .before .args .s) (c .before .before .before .before .before .before .before .before .before .pre .1 .0) (c .before .before .before .before .before .before .before .before .before .args .q) (c .before .before .before .before .before .before .before .before .before .pre .1 .2) (c .before .before .before .before .before .before .before .before .before .args .calls .now) (c .before .before .before .before .before .before .before .before .before .pre .1 .1) _ refl (sym (c .before .before .before .before .before .stmt .ensures .0) ∙ c .before .before .before .before .if1 .left) (neither-zero (getD (c .before .before .before .before .before .before .before .before .before .args .calls .now) (c .before .before .before .before .before .before .before .before .before .args .q) 0) (c .before .before .before .before .before .before .before .before .before .args .k) (c .before .before .if2 .left) .0) .1, rw (c .before .stmt2 .ensures .0) (submodel-call (c .before .before .before .before .before .before .before .before .before .args .f .now) (c .before .before .before .before .before .before .before .before .before .args .s) (c .before .before .before .before .before .before .before .before .before .pre .1 .0) (c .before .before .before .before .before .before .before .before .before .args .q) (c .before .before .before .before .before .before .before .before .before .pre .1 .2) (sym (c .before .before .before .before .before .stmt .ensures .0) ∙ c .before .before .before .before .if1 .left)), (omega (arith, p .3 .0), omega (arith, p .3 .1), p .3 .2))
+write-stmt-find-replacements-requires t c κs =
+    let a = c .before .before .before .before .before .before .before .before .before .args in
+    let pre = c .before .before .before .before .before .before .before .before .before .pre in
+    let p = pre .1 in
+    (p .0, called-some (a .f .now) (a .s) (pre .1 .0) (a .q) (pre .1 .2) (a .calls .now) (pre .1 .1) _ refl (sym (c .before .before .before .before .before .stmt .ensures .0) ∙ c .before .before .before .before .if1 .left) (neither-zero (getD (a .calls .now) (a .q) 0) (a .k) (c .before .before .if2 .left) .0) .1, rw (c .before .stmt2 .ensures .0) (submodel-call (a .f .now) (a .s) (pre .1 .0) (a .q) (pre .1 .2) (sym (c .before .before .before .before .before .stmt .ensures .0) ∙ c .before .before .before .before .if1 .left)), (omega (arith, p .3 .0), omega (arith, p .3 .1), p .3 .2))
 
 write-stmt-sub-write-stmts : (t : ℕ) → write-stmt-lts.Need-sub-write-stmts (stmt-reads.Asked, stmt-reads.Learnt, write-record-reads.Asked, write-record-reads.Learnt, find-replacements-reads.Asked, find-replacements-reads.Learnt, write-stmts-below t, write-stmts.Post) (write-stmt-at t) write-stmt.Post
-write-stmt-sub-write-stmts t c = omega (arith, (neither-zero (getD (c .before .before .before .before .before .before .before .before .before .before .before .before .before .args .calls .now) (c .before .before .before .before .before .before .before .before .before .before .before .before .before .args .q) 0) (c .before .before .before .before .before .before .before .before .before .before .before .before .before .args .k) (c .before .before .before .before .before .before .if2 .left) .0))
+write-stmt-sub-write-stmts t c =
+    let a = c .before .before .before .before .before .before .before .before .before .before .before .before .before .args in
+    omega (arith, (neither-zero (getD (a .calls .now) (a .q) 0) (a .k) (c .before .before .before .before .before .before .if2 .left) .0))
 
 write-stmt-add-write-stmts : (t : ℕ) → write-stmt-lts.Need-add-write-stmts (stmt-reads.Asked, stmt-reads.Learnt, write-record-reads.Asked, write-record-reads.Learnt, find-replacements-reads.Asked, find-replacements-reads.Learnt, write-stmts-below t, write-stmts.Post) (write-stmt-at t) write-stmt.Post
 write-stmt-add-write-stmts t c = omega (arith, c .before .before .before .before .before .before .before .before .before .before .before .before .before .pre .1 .3 .0)
 
 write-stmt-write-stmts-requires : (t : ℕ) → write-stmt-lts.Need-write-stmts-requires (stmt-reads.Asked, stmt-reads.Learnt, write-record-reads.Asked, write-record-reads.Learnt, find-replacements-reads.Asked, find-replacements-reads.Learnt, write-stmts-below t, write-stmts.Post) (write-stmt-at t) write-stmt.Post
-write-stmt-write-stmts-requires t c κs = let p = c .before .before .before .before .before .before .before .before .before .before .before .before .before .before .pre .1 in let g = c .before .before .before .before .find-replacements .ensures in let e = deeper (c .before .before .before .before .before .before .before .before .before .before .before .before .before .before .args .f .now) (c .before .before .before .before .before .before .before .before .before .before .before .before .before .before .args .s) (c .before .before .before .before .before .before .before .before .before .before .before .before .before .before .pre .1 .0) (c .before .before .before .before .before .before .before .before .before .before .before .before .before .before .args .q) (c .before .before .before .before .before .before .before .before .before .before .before .before .before .before .pre .1 .2) (sym (c .before .before .before .before .before .before .before .before .before .before .stmt .ensures .0) ∙ c .before .before .before .before .before .before .before .before .before .if1 .left) (levelsOf (contentsIn (c .before .before .before .before .before .before .before .before .before .before .before .before .before .before .args .f .now) (c .before .before .before .before .before .before .before .before .before .before .before .before .before .before .args .s) .nodes) (c .before .before .before .before .before .before .before .before .before .before .before .before .before .before .args .rows .now) (c .before .before .before .before .before .before .before .before .before .before .before .before .before .before .args .level)) (c .before .before .before .before .before .before .before .before .before .before .before .before .before .before .args .calls .now) (c .before .before .before .before .before .before .before .before .before .before .before .before .before .before .pre .1 .1) _ refl (c .before .before .before .before .before .before .before .before .before .before .before .before .before .before .args .rows .now) _ (c .before .before .before .before .before .before .before .before .before .before .before .before .before .before .args .level) (c .before .before .before .before .before .before .before .before .before .before .before .before .before .before .args .k) _ (neither-zero (getD (c .before .before .before .before .before .before .before .before .before .before .before .before .before .before .args .calls .now) (c .before .before .before .before .before .before .before .before .before .before .before .before .before .before .args .q) 0) (c .before .before .before .before .before .before .before .before .before .before .before .before .before .before .args .k) (c .before .before .before .before .before .before .before .if2 .left) .0) refl (c .before .before .before .before .before .before .stmt2 .ensures .0) (g .0 .1) (g .1) in (omega (arith, c .before .before .before .before .before .before .before .before .before .before .before .before .before .before .pre .0), (p .0, p .1, called-some (c .before .before .before .before .before .before .before .before .before .before .before .before .before .before .args .f .now) (c .before .before .before .before .before .before .before .before .before .before .before .before .before .before .args .s) (c .before .before .before .before .before .before .before .before .before .before .before .before .before .before .pre .1 .0) (c .before .before .before .before .before .before .before .before .before .before .before .before .before .before .args .q) (c .before .before .before .before .before .before .before .before .before .before .before .before .before .before .pre .1 .2) (c .before .before .before .before .before .before .before .before .before .before .before .before .before .before .args .calls .now) (c .before .before .before .before .before .before .before .before .before .before .before .before .before .before .pre .1 .1) _ refl (sym (c .before .before .before .before .before .before .before .before .before .before .stmt .ensures .0) ∙ c .before .before .before .before .before .before .before .before .before .if1 .left) (neither-zero (getD (c .before .before .before .before .before .before .before .before .before .before .before .before .before .before .args .calls .now) (c .before .before .before .before .before .before .before .before .before .before .before .before .before .before .args .q) 0) (c .before .before .before .before .before .before .before .before .before .before .before .before .before .before .args .k) (c .before .before .before .before .before .before .before .if2 .left) .0) .1, (omega (arith, p .3 .0), omega (arith, p .3 .1, g .0 .0), g .0 .2), fits-same _ _ _ _ _ e (p .4)))
+write-stmt-write-stmts-requires t c κs =
+    let a = c .before .before .before .before .before .before .before .before .before .before .before .before .before .before .args in
+    let pre = c .before .before .before .before .before .before .before .before .before .before .before .before .before .before .pre in
+    let p = pre .1 in
+    let g = c .before .before .before .before .find-replacements .ensures in
+    let e = deeper (a .f .now) (a .s) (pre .1 .0) (a .q) (pre .1 .2) (sym (c .before .before .before .before .before .before .before .before .before .before .stmt .ensures .0) ∙ c .before .before .before .before .before .before .before .before .before .if1 .left) (levelsOf (contentsIn (a .f .now) (a .s) .nodes) (a .rows .now) (a .level)) (a .calls .now) (pre .1 .1) _ refl (a .rows .now) _ (a .level) (a .k) _ (neither-zero (getD (a .calls .now) (a .q) 0) (a .k) (c .before .before .before .before .before .before .before .if2 .left) .0) refl (c .before .before .before .before .before .before .stmt2 .ensures .0) (g .0 .1) (g .1) in
+    (omega (arith, pre .0), (p .0, p .1, called-some (a .f .now) (a .s) (pre .1 .0) (a .q) (pre .1 .2) (a .calls .now) (pre .1 .1) _ refl (sym (c .before .before .before .before .before .before .before .before .before .before .stmt .ensures .0) ∙ c .before .before .before .before .before .before .before .before .before .if1 .left) (neither-zero (getD (a .calls .now) (a .q) 0) (a .k) (c .before .before .before .before .before .before .before .if2 .left) .0) .1, (omega (arith, p .3 .0), omega (arith, p .3 .1, g .0 .0), g .0 .2), fits-same _ _ _ _ _ e (p .4)))
 
 write-stmt-same-length-3 : (t : ℕ) → write-stmt-lts.Need-same-length-3 (stmt-reads.Asked, stmt-reads.Learnt, write-record-reads.Asked, write-record-reads.Learnt, find-replacements-reads.Asked, find-replacements-reads.Learnt, write-stmts-below t, write-stmts.Post) (write-stmt-at t) write-stmt.Post
 write-stmt-same-length-3 t c = search needs
@@ -96,7 +127,14 @@ write-stmt-same-length-4 : (t : ℕ) → write-stmt-lts.Need-same-length-4 (stmt
 write-stmt-same-length-4 t c = search needs
 
 write-stmt-returns-3 : (t : ℕ) → write-stmt-lts.Need-returns-3 (stmt-reads.Asked, stmt-reads.Learnt, write-record-reads.Asked, write-record-reads.Learnt, find-replacements-reads.Asked, find-replacements-reads.Learnt, write-stmts-below t, write-stmts.Post) (write-stmt-at t) write-stmt.Post
-write-stmt-returns-3 t c = let p = c .before .before .before .before .before .before .before .before .before .before .before .before .before .before .before .before .before .before .before .pre .1 in let g = c .before .before .before .before .before .before .before .before .before .find-replacements .ensures in let h = c .before .before .before .before .write-stmts .ensures in let e = deeper (c .before .before .before .before .before .before .before .before .before .before .before .before .before .before .before .before .before .before .before .args .f .now) (c .before .before .before .before .before .before .before .before .before .before .before .before .before .before .before .before .before .before .before .args .s) (c .before .before .before .before .before .before .before .before .before .before .before .before .before .before .before .before .before .before .before .pre .1 .0) (c .before .before .before .before .before .before .before .before .before .before .before .before .before .before .before .before .before .before .before .args .q) (c .before .before .before .before .before .before .before .before .before .before .before .before .before .before .before .before .before .before .before .pre .1 .2) (sym (c .before .before .before .before .before .before .before .before .before .before .before .before .before .before .before .stmt .ensures .0) ∙ c .before .before .before .before .before .before .before .before .before .before .before .before .before .before .if1 .left) (levelsOf (contentsIn (c .before .before .before .before .before .before .before .before .before .before .before .before .before .before .before .before .before .before .before .args .f .now) (c .before .before .before .before .before .before .before .before .before .before .before .before .before .before .before .before .before .before .before .args .s) .nodes) (c .before .before .before .before .before .before .before .before .before .before .before .before .before .before .before .before .before .before .before .args .rows .now) (c .before .before .before .before .before .before .before .before .before .before .before .before .before .before .before .before .before .before .before .args .level)) (c .before .before .before .before .before .before .before .before .before .before .before .before .before .before .before .before .before .before .before .args .calls .now) (c .before .before .before .before .before .before .before .before .before .before .before .before .before .before .before .before .before .before .before .pre .1 .1) _ refl (c .before .before .before .before .before .before .before .before .before .before .before .before .before .before .before .before .before .before .before .args .rows .now) _ (c .before .before .before .before .before .before .before .before .before .before .before .before .before .before .before .before .before .before .before .args .level) (c .before .before .before .before .before .before .before .before .before .before .before .before .before .before .before .before .before .before .before .args .k) _ (neither-zero (getD (c .before .before .before .before .before .before .before .before .before .before .before .before .before .before .before .before .before .before .before .args .calls .now) (c .before .before .before .before .before .before .before .before .before .before .before .before .before .before .before .before .before .before .before .args .q) 0) (c .before .before .before .before .before .before .before .before .before .before .before .before .before .before .before .before .before .before .before .args .k) (c .before .before .before .before .before .before .before .before .before .before .before .before .if2 .left) .0) refl (c .before .before .before .before .before .before .before .before .before .before .before .stmt2 .ensures .0) (g .0 .1) (g .1) in (recorded-same _ _ _ _ _ _ _ _ e (h .0), (h .1 .0 ∙ g .0 .0, kept-less _ _ (256 * (c .before .before .before .before .before .before .before .before .before .before .before .before .before .before .before .before .before .before .before .args .level + 1)) (256 * c .before .before .before .before .before .before .before .before .before .before .before .before .before .before .before .before .before .before .before .args .level) (omega arith) (h .1 .1) ∙ g .0 .1, h .1 .2))
+write-stmt-returns-3 t c =
+    let a = c .before .before .before .before .before .before .before .before .before .before .before .before .before .before .before .before .before .before .before .args in
+    let pre = c .before .before .before .before .before .before .before .before .before .before .before .before .before .before .before .before .before .before .before .pre in
+    let p = pre .1 in
+    let g = c .before .before .before .before .before .before .before .before .before .find-replacements .ensures in
+    let h = c .before .before .before .before .write-stmts .ensures in
+    let e = deeper (a .f .now) (a .s) (pre .1 .0) (a .q) (pre .1 .2) (sym (c .before .before .before .before .before .before .before .before .before .before .before .before .before .before .before .stmt .ensures .0) ∙ c .before .before .before .before .before .before .before .before .before .before .before .before .before .before .if1 .left) (levelsOf (contentsIn (a .f .now) (a .s) .nodes) (a .rows .now) (a .level)) (a .calls .now) (pre .1 .1) _ refl (a .rows .now) _ (a .level) (a .k) _ (neither-zero (getD (a .calls .now) (a .q) 0) (a .k) (c .before .before .before .before .before .before .before .before .before .before .before .before .if2 .left) .0) refl (c .before .before .before .before .before .before .before .before .before .before .before .stmt2 .ensures .0) (g .0 .1) (g .1) in
+    (recorded-same _ _ _ _ _ _ _ _ e (h .0), (h .1 .0 ∙ g .0 .0, kept-less _ _ (256 * (a .level + 1)) (256 * a .level) (omega arith) (h .1 .1) ∙ g .0 .1, h .1 .2))
 
 abbrev write-stmts-Inv-loop : write-stmts-lts.InvT-loop
 write-stmts-Inv-loop f s calls rows₀ k m level out₀ first count total₀ i₀ rows out total i = Recording f s k m rows₀ level out₀ (total₀ .stmts) (total₀ .nodes) rows out (total .stmts) (total .nodes) i
@@ -105,25 +143,41 @@ abbrev write-stmts-μ-loop : write-stmts-lts.MeasureT-loop
 write-stmts-μ-loop f s calls rows₀ k m level out₀ first count total₀ i₀ rows out total i = count - i
 
 write-stmts-returns : (t : ℕ) → write-stmts-lts.Need-returns (model-reads.Asked, model-reads.Learnt, write-stmt-below t, write-stmt.Post) (write-stmts-at t) write-stmts.Post write-stmts-Inv-loop write-stmts-μ-loop
-write-stmts-returns t c = (nothing-recorded (c .before .before .before .before .args .out .now) (c .before .before .before .before .args .done .stmts) (c .before .before .before .before .args .done .nodes) _ (flat-zero (fileIn (c .before .before .before .before .args .f .now) (c .before .before .before .before .args .s)) (levelsOf (contentsIn (c .before .before .before .before .args .f .now) (c .before .before .before .before .args .s) .nodes) (c .before .before .before .before .args .rows .now) (c .before .before .before .before .args .level)) (c .before .before .before .before .args .k) (c .before .before .before .before .args .m) (c .if1 .taken)), (refl, refl, c .before .before .before .before .pre .1 .3 .2))
+write-stmts-returns t c =
+    let a = c .before .before .before .before .args in
+    (nothing-recorded (a .out .now) (a .done .stmts) (a .done .nodes) _ (flat-zero (fileIn (a .f .now) (a .s)) (levelsOf (contentsIn (a .f .now) (a .s) .nodes) (a .rows .now) (a .level)) (a .k) (a .m) (c .if1 .taken)), (refl, refl, c .before .before .before .before .pre .1 .3 .2))
 
 write-stmts-model-requires : (t : ℕ) → write-stmts-lts.Need-model-requires (model-reads.Asked, model-reads.Learnt, write-stmt-below t, write-stmt.Post) (write-stmts-at t) write-stmts.Post write-stmts-Inv-loop write-stmts-μ-loop
-write-stmts-model-requires t c κs = (c .before .before .before .before .pre .1 .0, (c .before .before .before .before .pre .1 .2, omega arith))
+write-stmts-model-requires t c κs =
+    let p = c .before .before .before .before .pre in
+    (p .1 .0, (p .1 .2, omega arith))
 
 write-stmts-model-requires-2 : (t : ℕ) → write-stmts-lts.Need-model-requires-2 (model-reads.Asked, model-reads.Learnt, write-stmt-below t, write-stmt.Post) (write-stmts-at t) write-stmts.Post write-stmts-Inv-loop write-stmts-μ-loop
-write-stmts-model-requires-2 t c κs = (c .before .before .before .before .before .pre .1 .0, (c .before .before .before .before .before .pre .1 .2, omega arith))
+write-stmts-model-requires-2 t c κs =
+    let p = c .before .before .before .before .before .pre in
+    (p .1 .0, (p .1 .2, omega arith))
 
 write-stmts-loop-holds : (t : ℕ) → write-stmts-lts.Need-loop-holds (model-reads.Asked, model-reads.Learnt, write-stmt-below t, write-stmt.Post) (write-stmts-at t) write-stmts.Post write-stmts-Inv-loop write-stmts-μ-loop
-write-stmts-loop-holds t c = recording-start (c .before .before .before .before .before .before .args .f .now) (c .before .before .before .before .before .before .args .s) (c .before .before .before .before .before .before .args .k) (c .before .before .before .before .before .before .args .m) (c .before .before .before .before .before .before .args .rows .now) (c .before .before .before .before .before .before .args .level) (c .before .before .before .before .before .before .args .out .now) (c .before .before .before .before .before .before .args .done .stmts) (c .before .before .before .before .before .before .args .done .nodes) (c .before .before .if1 .left) (c .before .before .before .before .before .before .pre .1 .3 .2)
+write-stmts-loop-holds t c =
+    let a = c .before .before .before .before .before .before .args in
+    recording-start (a .f .now) (a .s) (a .k) (a .m) (a .rows .now) (a .level) (a .out .now) (a .done .stmts) (a .done .nodes) (c .before .before .if1 .left) (c .before .before .before .before .before .before .pre .1 .3 .2)
 
 write-stmts-sub-write-stmt : (t : ℕ) → write-stmts-lts.Need-sub-write-stmt (model-reads.Asked, model-reads.Learnt, write-stmt-below t, write-stmt.Post) (write-stmts-at t) write-stmts.Post write-stmts-Inv-loop write-stmts-μ-loop
 write-stmts-sub-write-stmt t c = omega (arith, c .before .before .before .before .before .if1 .left)
 
 write-stmts-add-write-stmt : (t : ℕ) → write-stmts-lts.Need-add-write-stmt (model-reads.Asked, model-reads.Learnt, write-stmt-below t, write-stmt.Post) (write-stmts-at t) write-stmts.Post write-stmts-Inv-loop write-stmts-μ-loop
-write-stmts-add-write-stmt t c = omega (arith, model-is (c .before .before .before .before .before .before .before .before .before .args .f .now) (c .before .before .before .before .before .before .before .before .before .args .s) (c .before .before .before .before .before .before .before .before .before .pre .1 .0) (c .before .before .before .before .before .before .before .before .before .args .m) (c .before .before .before .before .before .before .before .before .before .pre .1 .2) .stmts-within, c .before .before .before .before .model .ensures .0, c .before .before .before .model2 .ensures .0, c .before .before .before .before .before .before .before .before .before .pre .1 .0 .laid .within .stmts)
+write-stmts-add-write-stmt t c =
+    let a = c .before .before .before .before .before .before .before .before .before .args in
+    let p = c .before .before .before .before .before .before .before .before .before .pre in
+    omega (arith, model-is (a .f .now) (a .s) (p .1 .0) (a .m) (p .1 .2) .stmts-within, c .before .before .before .before .model .ensures .0, c .before .before .before .model2 .ensures .0, p .1 .0 .laid .within .stmts)
 
 write-stmts-write-stmt-requires : (t : ℕ) → write-stmts-lts.Need-write-stmt-requires (model-reads.Asked, model-reads.Learnt, write-stmt-below t, write-stmt.Post) (write-stmts-at t) write-stmts.Post write-stmts-Inv-loop write-stmts-μ-loop
-write-stmts-write-stmt-requires t c κs = let p = c .before .before .before .before .before .before .before .before .before .before .pre .1 in let v = c .before .before .before .loop .inv in (omega (arith, c .before .before .before .before .before .before .before .before .before .before .pre .0, c .before .before .before .before .before .before .if1 .left), (p .0, p .1, omega (arith, model-is (c .before .before .before .before .before .before .before .before .before .before .args .f .now) (c .before .before .before .before .before .before .before .before .before .before .args .s) (c .before .before .before .before .before .before .before .before .before .before .pre .1 .0) (c .before .before .before .before .before .before .before .before .before .before .args .m) (c .before .before .before .before .before .before .before .before .before .before .pre .1 .2) .stmts-within, c .before .before .before .before .before .model .ensures .0, c .before .before .before .before .model2 .ensures .0), (omega (arith, p .3 .0, c .before .before .before .before .before .before .if1 .left), omega (arith, p .3 .1, v .long, c .before .before .before .before .before .before .if1 .left), v .fit), recording-room (c .before .before .before .before .before .before .before .before .before .before .args .f .now) (c .before .before .before .before .before .before .before .before .before .before .args .s) (c .before .before .before .before .before .before .before .before .before .before .args .k) (c .before .before .before .before .before .before .before .before .before .before .args .m) (c .before .before .before .before .before .before .before .before .before .before .args .rows .now) (c .before .before .before .before .before .before .before .before .before .before .args .level) (c .before .before .before .before .before .before .before .before .before .before .args .out .now) (c .before .before .before .before .before .before .before .before .before .before .args .done .stmts) (c .before .before .before .before .before .before .before .before .before .before .args .done .nodes) (c .before .before .before .before .before .before .before .before .before .before .pre .1 .0) (c .before .before .before .before .before .before .before .before .before .before .pre .1 .2) (c .before .before .before .before .before .before .before .before .before .before .pre .1 .4) _ _ _ _ _ (c .before .before .before .loop .inv) _ (omega (arith, c .before .before .loop-test .taken, c .before .before .before .before .model2 .ensures .0)) (c .before .before .before .before .before .model .ensures .0)))
+write-stmts-write-stmt-requires t c κs =
+    let a = c .before .before .before .before .before .before .before .before .before .before .args in
+    let pre = c .before .before .before .before .before .before .before .before .before .before .pre in
+    let p = pre .1 in
+    let v = c .before .before .before .loop .inv in
+    (omega (arith, pre .0, c .before .before .before .before .before .before .if1 .left), (p .0, p .1, omega (arith, model-is (a .f .now) (a .s) (pre .1 .0) (a .m) (pre .1 .2) .stmts-within, c .before .before .before .before .before .model .ensures .0, c .before .before .before .before .model2 .ensures .0), (omega (arith, p .3 .0, c .before .before .before .before .before .before .if1 .left), omega (arith, p .3 .1, v .long, c .before .before .before .before .before .before .if1 .left), v .fit), recording-room (a .f .now) (a .s) (a .k) (a .m) (a .rows .now) (a .level) (a .out .now) (a .done .stmts) (a .done .nodes) (pre .1 .0) (pre .1 .2) (pre .1 .4) _ _ _ _ _ (c .before .before .before .loop .inv) _ (omega (arith, c .before .before .loop-test .taken, c .before .before .before .before .model2 .ensures .0)) (c .before .before .before .before .before .model .ensures .0)))
 
 write-stmts-add-i : (t : ℕ) → write-stmts-lts.Need-add-i (model-reads.Asked, model-reads.Learnt, write-stmt-below t, write-stmt.Post) (write-stmts-at t) write-stmts.Post write-stmts-Inv-loop write-stmts-μ-loop
 write-stmts-add-i t c = omega arith
@@ -132,7 +186,10 @@ write-stmts-loop-less : (t : ℕ) → write-stmts-lts.Need-loop-less (model-read
 write-stmts-loop-less t c = omega arith
 
 write-stmts-loop-again : (t : ℕ) → write-stmts-lts.Need-loop-again (model-reads.Asked, model-reads.Learnt, write-stmt-below t, write-stmt.Post) (write-stmts-at t) write-stmts.Post write-stmts-Inv-loop write-stmts-μ-loop
-write-stmts-loop-again t c = recording-step (c .before .before .before .before .before .before .before .before .before .before .before .before .before .before .before .args .f .now) (c .before .before .before .before .before .before .before .before .before .before .before .before .before .before .before .args .s) (c .before .before .before .before .before .before .before .before .before .before .before .before .before .before .before .args .k) (c .before .before .before .before .before .before .before .before .before .before .before .before .before .before .before .args .m) (c .before .before .before .before .before .before .before .before .before .before .before .before .before .before .before .args .rows .now) (c .before .before .before .before .before .before .before .before .before .before .before .before .before .before .before .args .level) (c .before .before .before .before .before .before .before .before .before .before .before .before .before .before .before .args .out .now) (c .before .before .before .before .before .before .before .before .before .before .before .before .before .before .before .args .done .stmts) (c .before .before .before .before .before .before .before .before .before .before .before .before .before .before .before .args .done .nodes) (c .before .before .before .before .before .before .before .before .before .before .before .before .before .before .before .pre .1 .0) (c .before .before .before .before .before .before .before .before .before .before .before .before .before .before .before .pre .1 .2) (c .before .before .before .before .before .before .before .before .before .before .before .before .before .before .before .pre .1 .4) _ _ _ _ _ (c .before .before .before .before .before .before .before .before .loop .inv) _ (omega (arith, c .before .before .before .before .before .before .before .loop-test .taken, c .before .before .before .before .before .before .before .before .before .model2 .ensures .0)) (c .before .before .before .before .before .before .before .before .before .before .model .ensures .0) _ _ _ _ (c .before .before .before .before .write-stmt .ensures)
+write-stmts-loop-again t c =
+    let a = c .before .before .before .before .before .before .before .before .before .before .before .before .before .before .before .args in
+    let p = c .before .before .before .before .before .before .before .before .before .before .before .before .before .before .before .pre in
+    recording-step (a .f .now) (a .s) (a .k) (a .m) (a .rows .now) (a .level) (a .out .now) (a .done .stmts) (a .done .nodes) (p .1 .0) (p .1 .2) (p .1 .4) _ _ _ _ _ (c .before .before .before .before .before .before .before .before .loop .inv) _ (omega (arith, c .before .before .before .before .before .before .before .loop-test .taken, c .before .before .before .before .before .before .before .before .before .model2 .ensures .0)) (c .before .before .before .before .before .before .before .before .before .before .model .ensures .0) _ _ _ _ (c .before .before .before .before .write-stmt .ensures)
 
 write-stmts-same-length : (t : ℕ) → write-stmts-lts.Need-same-length (model-reads.Asked, model-reads.Learnt, write-stmt-below t, write-stmt.Post) (write-stmts-at t) write-stmts.Post write-stmts-Inv-loop write-stmts-μ-loop
 write-stmts-same-length t c = c .before .loop .inv .long
@@ -141,7 +198,11 @@ write-stmts-same-length-2 : (t : ℕ) → write-stmts-lts.Need-same-length-2 (mo
 write-stmts-same-length-2 t c = c .before .loop .inv .room
 
 write-stmts-returns-2 : (t : ℕ) → write-stmts-lts.Need-returns-2 (model-reads.Asked, model-reads.Learnt, write-stmt-below t, write-stmt.Post) (write-stmts-at t) write-stmts.Post write-stmts-Inv-loop write-stmts-μ-loop
-write-stmts-returns-2 t c = let v = c .before .loop .inv in (recording-end (c .before .before .before .before .before .before .before .before .args .f .now) (c .before .before .before .before .before .before .before .before .args .s) (c .before .before .before .before .before .before .before .before .args .k) (c .before .before .before .before .before .before .before .before .args .m) (c .before .before .before .before .before .before .before .before .args .rows .now) (c .before .before .before .before .before .before .before .before .args .level) (c .before .before .before .before .before .before .before .before .args .out .now) (c .before .before .before .before .before .before .before .before .args .done .stmts) (c .before .before .before .before .before .before .before .before .args .done .nodes) (c .before .before .before .before .before .before .before .before .pre .1 .0) (c .before .before .before .before .before .before .before .before .pre .1 .2) (c .before .before .before .before .before .before .before .before .pre .1 .4) _ _ _ _ _ (c .before .loop .inv) (omega (arith, c .before .before .model2 .ensures .0)), (v .long, v .kept, v .fit))
+write-stmts-returns-2 t c =
+    let a = c .before .before .before .before .before .before .before .before .args in
+    let p = c .before .before .before .before .before .before .before .before .pre in
+    let v = c .before .loop .inv in
+    (recording-end (a .f .now) (a .s) (a .k) (a .m) (a .rows .now) (a .level) (a .out .now) (a .done .stmts) (a .done .nodes) (p .1 .0) (p .1 .2) (p .1 .4) _ _ _ _ _ (c .before .loop .inv) (omega (arith, c .before .before .model2 .ensures .0)), (v .long, v .kept, v .fit))
 
 pub +write-stmt+write-stmts-spec : {M : Type 1} → statement M
 +write-stmt+write-stmts-spec = close μ-write-stmt μ-write-stmts (λ t. write-stmt-lts.spec (stmt-reads.Asked, stmt-reads.Learnt, write-record-reads.Asked, write-record-reads.Learnt, find-replacements-reads.Asked, find-replacements-reads.Learnt, write-stmts-below t, write-stmts.Post)

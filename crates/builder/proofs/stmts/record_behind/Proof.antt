@@ -24,7 +24,9 @@ same-length : tie.Need-same-length
 same-length c = search needs
 
 returns : tie.Need-returns
-returns c = lent-put (c .before .before .before .before .before .args .out .now) _ _ (32 * c .before .before .before .before .before .args .count) (omega (arith, c .before .before .before .before .before .pre .1)) (c .before .before .put-record .ensures)
+returns c =
+    let a = c .before .before .before .before .before .args in
+    lent-put (a .out .now) _ _ (32 * a .count) (omega (arith, c .before .before .before .before .before .pre .1)) (c .before .before .put-record .ensures)
 
 pub record-behind-spec : {M : Type 1} → statement M
 record-behind-spec =

@@ -35,67 +35,122 @@ cast-name : tie.Need-cast-name
 cast-name c = search needs
 
 measure-expr-requires : tie.Need-measure-expr-requires
-measure-expr-requires c κs = (ready (c .before .before .before .before .before .before .before .before .before .args .f .now) (c .before .before .before .before .before .before .before .before .before .args .s) (c .before .before .before .before .before .before .before .before .before .pre .0) (c .before .before .before .before .before .before .before .before .before .args .rows .now) (c .before .before .before .before .before .before .before .before .before .pre .2 .2), (c .before .before .before .before .before .before .before .before .before .pre .2 .0, c .before .before .before .before .before .before .before .before .before .pre .2 .1), readable (c .before .before .before .before .before .before .before .before .before .args .f .now) (c .before .before .before .before .before .before .before .before .before .args .s) (c .before .before .before .before .before .before .before .before .before .pre .0) _ _ (c .before .before .before .stmt3 .ensures .0) ((stmt-is (c .before .before .before .before .before .before .before .before .before .args .f .now) (c .before .before .before .before .before .before .before .before .before .args .s) (c .before .before .before .before .before .before .before .before .before .pre .0) (c .before .before .before .before .before .before .before .before .before .args .q) (c .before .before .before .before .before .before .before .before .before .pre .1 .0) .right)))
+measure-expr-requires c κs =
+    let a = c .before .before .before .before .before .before .before .before .before .args in
+    let p = c .before .before .before .before .before .before .before .before .before .pre in
+    (ready (a .f .now) (a .s) (p .0) (a .rows .now) (p .2 .2), (p .2 .0, p .2 .1), readable (a .f .now) (a .s) (p .0) _ _ (c .before .before .before .stmt3 .ensures .0) ((stmt-is (a .f .now) (a .s) (p .0) (a .q) (p .1 .0) .right)))
 
 add-right : tie.Need-add-right
 add-right c = omega (arith, at-most-le _ _ _ (c .measure-expr .ensures), c .before .before .before .before .before .before .before .before .before .before .pre .3 .1 .1)
 
 sub-record-behind : tie.Need-sub-record-behind
-sub-record-behind c = let z = rate-fits (c .before .before .before .before .before .before .before .before .before .before .before .args .f .now) (c .before .before .before .before .before .before .before .before .before .before .before .args .s) (c .before .before .before .before .before .before .before .before .before .before .before .pre .0) (c .before .before .before .before .before .before .before .before .before .before .before .args .rows .now) (c .before .before .before .before .before .before .before .before .before .before .before .args .level) (c .before .before .before .before .before .before .before .before .before .before .before .args .q) (c .before .before .before .before .before .before .before .before .before .before .before .pre .3 .0) (c .before .before .before .before .before .before .before .before .before .before .before .args .done .stmts) (c .before .before .before .before .before .before .before .before .before .before .before .args .done .nodes) (length (c .before .before .before .before .before .before .before .before .before .before .before .args .out .now)) (c .before .before .before .before .before .before .before .before .before .before .before .pre .3 .1) _ _ (c .before .before .before .before .before .before .before .stmt .ensures .0) (c .before .before .before .before .before .before .stmt2 .ensures .0) _ _ _ (sym (c .before .before .before .before .stmt4 .ensures .0) ∙ c .before .before .before .if1 .taken) (c .before .before .before .before .before .stmt3 .ensures .0) (c .before .before .stmt5 .ensures .0) (c .before .measure-expr .ensures) in omega (arith, z .1)
+sub-record-behind c =
+    let a = c .before .before .before .before .before .before .before .before .before .before .before .args in
+    let p = c .before .before .before .before .before .before .before .before .before .before .before .pre in
+    let z = rate-fits (a .f .now) (a .s) (p .0) (a .rows .now) (a .level) (a .q) (p .3 .0) (a .done .stmts) (a .done .nodes) (length (a .out .now)) (p .3 .1) _ _ (c .before .before .before .before .before .before .before .stmt .ensures .0) (c .before .before .before .before .before .before .stmt2 .ensures .0) _ _ _ (sym (c .before .before .before .before .stmt4 .ensures .0) ∙ c .before .before .before .if1 .taken) (c .before .before .before .before .before .stmt3 .ensures .0) (c .before .before .stmt5 .ensures .0) (c .before .measure-expr .ensures) in
+    omega (arith, z .1)
 
 cast-record-behind : tie.Need-cast-record-behind
-cast-record-behind c = let z = rate-fits (c .before .before .before .before .before .before .before .before .before .before .before .args .f .now) (c .before .before .before .before .before .before .before .before .before .before .before .args .s) (c .before .before .before .before .before .before .before .before .before .before .before .pre .0) (c .before .before .before .before .before .before .before .before .before .before .before .args .rows .now) (c .before .before .before .before .before .before .before .before .before .before .before .args .level) (c .before .before .before .before .before .before .before .before .before .before .before .args .q) (c .before .before .before .before .before .before .before .before .before .before .before .pre .3 .0) (c .before .before .before .before .before .before .before .before .before .before .before .args .done .stmts) (c .before .before .before .before .before .before .before .before .before .before .before .args .done .nodes) (length (c .before .before .before .before .before .before .before .before .before .before .before .args .out .now)) (c .before .before .before .before .before .before .before .before .before .before .before .pre .3 .1) _ _ (c .before .before .before .before .before .before .before .stmt .ensures .0) (c .before .before .before .before .before .before .stmt2 .ensures .0) _ _ _ (sym (c .before .before .before .before .stmt4 .ensures .0) ∙ c .before .before .before .if1 .taken) (c .before .before .before .before .before .stmt3 .ensures .0) (c .before .before .stmt5 .ensures .0) (c .before .measure-expr .ensures) in omega (arith, z .2)
+cast-record-behind c =
+    let a = c .before .before .before .before .before .before .before .before .before .before .before .args in
+    let p = c .before .before .before .before .before .before .before .before .before .before .before .pre in
+    let z = rate-fits (a .f .now) (a .s) (p .0) (a .rows .now) (a .level) (a .q) (p .3 .0) (a .done .stmts) (a .done .nodes) (length (a .out .now)) (p .3 .1) _ _ (c .before .before .before .before .before .before .before .stmt .ensures .0) (c .before .before .before .before .before .before .stmt2 .ensures .0) _ _ _ (sym (c .before .before .before .before .stmt4 .ensures .0) ∙ c .before .before .before .if1 .taken) (c .before .before .before .before .before .stmt3 .ensures .0) (c .before .before .stmt5 .ensures .0) (c .before .measure-expr .ensures) in
+    omega (arith, z .2)
 
 record-behind-requires : tie.Need-record-behind-requires
-record-behind-requires c κs = let z = rate-fits (c .before .before .before .before .before .before .before .before .before .before .before .args .f .now) (c .before .before .before .before .before .before .before .before .before .before .before .args .s) (c .before .before .before .before .before .before .before .before .before .before .before .pre .0) (c .before .before .before .before .before .before .before .before .before .before .before .args .rows .now) (c .before .before .before .before .before .before .before .before .before .before .before .args .level) (c .before .before .before .before .before .before .before .before .before .before .before .args .q) (c .before .before .before .before .before .before .before .before .before .before .before .pre .3 .0) (c .before .before .before .before .before .before .before .before .before .before .before .args .done .stmts) (c .before .before .before .before .before .before .before .before .before .before .before .args .done .nodes) (length (c .before .before .before .before .before .before .before .before .before .before .before .args .out .now)) (c .before .before .before .before .before .before .before .before .before .before .before .pre .3 .1) _ _ (c .before .before .before .before .before .before .before .stmt .ensures .0) (c .before .before .before .before .before .before .stmt2 .ensures .0) _ _ _ (sym (c .before .before .before .before .stmt4 .ensures .0) ∙ c .before .before .before .if1 .taken) (c .before .before .before .before .before .stmt3 .ensures .0) (c .before .before .stmt5 .ensures .0) (c .before .measure-expr .ensures) in (z .3, z .4)
+record-behind-requires c κs =
+    let a = c .before .before .before .before .before .before .before .before .before .before .before .args in
+    let p = c .before .before .before .before .before .before .before .before .before .before .before .pre in
+    let z = rate-fits (a .f .now) (a .s) (p .0) (a .rows .now) (a .level) (a .q) (p .3 .0) (a .done .stmts) (a .done .nodes) (length (a .out .now)) (p .3 .1) _ _ (c .before .before .before .before .before .before .before .stmt .ensures .0) (c .before .before .before .before .before .before .stmt2 .ensures .0) _ _ _ (sym (c .before .before .before .before .stmt4 .ensures .0) ∙ c .before .before .before .if1 .taken) (c .before .before .before .before .before .stmt3 .ensures .0) (c .before .before .stmt5 .ensures .0) (c .before .measure-expr .ensures) in
+    (z .3, z .4)
 
-add-t22 : tie.Need-add-t22
-add-t22 c = let z = rate-fits (c .before .before .before .before .before .before .before .before .before .before .before .before .before .before .args .f .now) (c .before .before .before .before .before .before .before .before .before .before .before .before .before .before .args .s) (c .before .before .before .before .before .before .before .before .before .before .before .before .before .before .pre .0) (c .before .before .before .before .before .before .before .before .before .before .before .before .before .before .args .rows .now) (c .before .before .before .before .before .before .before .before .before .before .before .before .before .before .args .level) (c .before .before .before .before .before .before .before .before .before .before .before .before .before .before .args .q) (c .before .before .before .before .before .before .before .before .before .before .before .before .before .before .pre .3 .0) (c .before .before .before .before .before .before .before .before .before .before .before .before .before .before .args .done .stmts) (c .before .before .before .before .before .before .before .before .before .before .before .before .before .before .args .done .nodes) (length (c .before .before .before .before .before .before .before .before .before .before .before .before .before .before .args .out .now)) (c .before .before .before .before .before .before .before .before .before .before .before .before .before .before .pre .3 .1) _ _ (c .before .before .before .before .before .before .before .before .before .before .stmt .ensures .0) (c .before .before .before .before .before .before .before .before .before .stmt2 .ensures .0) _ _ _ (sym (c .before .before .before .before .before .before .before .stmt4 .ensures .0) ∙ c .before .before .before .before .before .before .if1 .taken) (c .before .before .before .before .before .before .before .before .stmt3 .ensures .0) (c .before .before .before .before .before .stmt5 .ensures .0) (c .before .before .before .before .measure-expr .ensures) in omega (arith, z .3)
+add-t24 : tie.Need-add-t24
+add-t24 c =
+    let a = c .before .before .before .before .before .before .before .before .before .before .before .before .before .before .args in
+    let p = c .before .before .before .before .before .before .before .before .before .before .before .before .before .before .pre in
+    let z = rate-fits (a .f .now) (a .s) (p .0) (a .rows .now) (a .level) (a .q) (p .3 .0) (a .done .stmts) (a .done .nodes) (length (a .out .now)) (p .3 .1) _ _ (c .before .before .before .before .before .before .before .before .before .before .stmt .ensures .0) (c .before .before .before .before .before .before .before .before .before .stmt2 .ensures .0) _ _ _ (sym (c .before .before .before .before .before .before .before .stmt4 .ensures .0) ∙ c .before .before .before .before .before .before .if1 .taken) (c .before .before .before .before .before .before .before .before .stmt3 .ensures .0) (c .before .before .before .before .before .stmt5 .ensures .0) (c .before .before .before .before .measure-expr .ensures) in
+    omega (arith, z .3)
 
 same-length : tie.Need-same-length
 same-length c = search needs
 
 returns : tie.Need-returns
-returns c = λ sub. rate-recorded (c .before .before .before .before .before .before .before .before .before .before .before .before .before .before .args .f .now) (c .before .before .before .before .before .before .before .before .before .before .before .before .before .before .args .s) (c .before .before .before .before .before .before .before .before .before .before .before .before .before .before .pre .0) (c .before .before .before .before .before .before .before .before .before .before .before .before .before .before .args .rows .now) (c .before .before .before .before .before .before .before .before .before .before .before .before .before .before .args .level) (c .before .before .before .before .before .before .before .before .before .before .before .before .before .before .args .q) sub (c .before .before .before .before .before .before .before .before .before .before .before .before .before .before .args .done .stmts) (c .before .before .before .before .before .before .before .before .before .before .before .before .before .before .args .done .nodes) (length (c .before .before .before .before .before .before .before .before .before .before .before .before .before .before .args .out .now)) (rate-any (c .before .before .before .before .before .before .before .before .before .before .before .before .before .before .args .f .now) (c .before .before .before .before .before .before .before .before .before .before .before .before .before .before .args .s) (c .before .before .before .before .before .before .before .before .before .before .before .before .before .before .pre .0) (c .before .before .before .before .before .before .before .before .before .before .before .before .before .before .args .rows .now) (c .before .before .before .before .before .before .before .before .before .before .before .before .before .before .args .level) (c .before .before .before .before .before .before .before .before .before .before .before .before .before .before .args .q) _ _ _ (c .before .before .before .before .before .before .before .before .before .before .before .before .before .before .pre .3 .0) sub (sym (c .before .before .before .before .before .before .before .stmt4 .ensures .0) ∙ c .before .before .before .before .before .before .if1 .taken) (c .before .before .before .before .before .before .before .before .before .before .before .before .before .before .pre .3 .1)) _ _ (c .before .before .before .before .before .before .before .before .before .before .stmt .ensures .0) (c .before .before .before .before .before .before .before .before .before .stmt2 .ensures .0) _ _ _ (sym (c .before .before .before .before .before .before .before .stmt4 .ensures .0) ∙ c .before .before .before .before .before .before .if1 .taken) (c .before .before .before .before .before .before .before .before .stmt3 .ensures .0) (c .before .before .before .before .before .stmt5 .ensures .0) (c .before .before .before .before .measure-expr .ensures) (c .before .before .before .before .before .before .before .before .before .before .before .before .before .before .args .out .now) _ (c .before .before .record-behind .ensures)
+returns c =
+    let a = c .before .before .before .before .before .before .before .before .before .before .before .before .before .before .args in
+    let p = c .before .before .before .before .before .before .before .before .before .before .before .before .before .before .pre in
+    λ sub. rate-recorded (a .f .now) (a .s) (p .0) (a .rows .now) (a .level) (a .q) sub (a .done .stmts) (a .done .nodes) (length (a .out .now)) (rate-any (a .f .now) (a .s) (p .0) (a .rows .now) (a .level) (a .q) _ _ _ (p .3 .0) sub (sym (c .before .before .before .before .before .before .before .stmt4 .ensures .0) ∙ c .before .before .before .before .before .before .if1 .taken) (p .3 .1)) _ _ (c .before .before .before .before .before .before .before .before .before .before .stmt .ensures .0) (c .before .before .before .before .before .before .before .before .before .stmt2 .ensures .0) _ _ _ (sym (c .before .before .before .before .before .before .before .stmt4 .ensures .0) ∙ c .before .before .before .before .before .before .if1 .taken) (c .before .before .before .before .before .before .before .before .stmt3 .ensures .0) (c .before .before .before .before .before .stmt5 .ensures .0) (c .before .before .before .before .measure-expr .ensures) (a .out .now) _ (c .before .before .record-behind .ensures)
 
 stmt-requires-6 : tie.Need-stmt-requires-6
 stmt-requires-6 c κs = search needs
 
 measure-expr-requires-2 : tie.Need-measure-expr-requires-2
-measure-expr-requires-2 c κs = (ready (c .before .before .before .before .before .before .before .before .before .args .f .now) (c .before .before .before .before .before .before .before .before .before .args .s) (c .before .before .before .before .before .before .before .before .before .pre .0) (c .before .before .before .before .before .before .before .before .before .args .rows .now) (c .before .before .before .before .before .before .before .before .before .pre .2 .2), (c .before .before .before .before .before .before .before .before .before .pre .2 .0, c .before .before .before .before .before .before .before .before .before .pre .2 .1), readable (c .before .before .before .before .before .before .before .before .before .args .f .now) (c .before .before .before .before .before .before .before .before .before .args .s) (c .before .before .before .before .before .before .before .before .before .pre .0) _ _ (c .stmt6 .ensures .0) ((equation-sides (c .before .before .before .before .before .before .before .before .before .args .f .now) (c .before .before .before .before .before .before .before .before .before .args .s) (c .before .before .before .before .before .before .before .before .before .pre .0) (c .before .before .before .before .before .before .before .before .before .args .q) (c .before .before .before .before .before .before .before .before .before .pre .1 .0) (is-equation (c .before .before .before .before .before .before .before .before .before .args .f .now) (c .before .before .before .before .before .before .before .before .before .args .s) (c .before .before .before .before .before .before .before .before .before .pre .0) (c .before .before .before .before .before .before .before .before .before .args .q) (c .before .before .before .before .before .before .before .before .before .pre .1 .0) (λ e. c .before .if1 .left (c .before .before .stmt4 .ensures .0 ∙ e)) (c .before .before .before .before .before .before .before .before .before .pre .1 .1))) .0))
+measure-expr-requires-2 c κs =
+    let a = c .before .before .before .before .before .before .before .before .before .args in
+    let p = c .before .before .before .before .before .before .before .before .before .pre in
+    (ready (a .f .now) (a .s) (p .0) (a .rows .now) (p .2 .2), (p .2 .0, p .2 .1), readable (a .f .now) (a .s) (p .0) _ _ (c .stmt6 .ensures .0) ((equation-sides (a .f .now) (a .s) (p .0) (a .q) (p .1 .0) (is-equation (a .f .now) (a .s) (p .0) (a .q) (p .1 .0) (λ e. c .before .if1 .left (c .before .before .stmt4 .ensures .0 ∙ e)) (p .1 .1))) .0))
 
 add-left : tie.Need-add-left
 add-left c = omega (arith, at-most-le _ _ _ (c .measure-expr2 .ensures), c .before .before .before .before .before .before .before .before .before .before .pre .3 .1 .1)
 
 measure-expr-requires-3 : tie.Need-measure-expr-requires-3
-measure-expr-requires-3 c κs = (ready (c .before .before .before .before .before .before .before .before .before .before .args .f .now) (c .before .before .before .before .before .before .before .before .before .before .args .s) (c .before .before .before .before .before .before .before .before .before .before .pre .0) (c .before .before .before .before .before .before .before .before .before .before .args .rows .now) (c .before .before .before .before .before .before .before .before .before .before .pre .2 .2), (c .before .before .before .before .before .before .before .before .before .before .pre .2 .0, c .before .before .before .before .before .before .before .before .before .before .pre .2 .1), readable (c .before .before .before .before .before .before .before .before .before .before .args .f .now) (c .before .before .before .before .before .before .before .before .before .before .args .s) (c .before .before .before .before .before .before .before .before .before .before .pre .0) _ _ (c .before .before .before .before .stmt3 .ensures .0) ((equation-sides (c .before .before .before .before .before .before .before .before .before .before .args .f .now) (c .before .before .before .before .before .before .before .before .before .before .args .s) (c .before .before .before .before .before .before .before .before .before .before .pre .0) (c .before .before .before .before .before .before .before .before .before .before .args .q) (c .before .before .before .before .before .before .before .before .before .before .pre .1 .0) (is-equation (c .before .before .before .before .before .before .before .before .before .before .args .f .now) (c .before .before .before .before .before .before .before .before .before .before .args .s) (c .before .before .before .before .before .before .before .before .before .before .pre .0) (c .before .before .before .before .before .before .before .before .before .before .args .q) (c .before .before .before .before .before .before .before .before .before .before .pre .1 .0) (λ e. c .before .before .if1 .left (c .before .before .before .stmt4 .ensures .0 ∙ e)) (c .before .before .before .before .before .before .before .before .before .before .pre .1 .1))) .1))
+measure-expr-requires-3 c κs =
+    let a = c .before .before .before .before .before .before .before .before .before .before .args in
+    let p = c .before .before .before .before .before .before .before .before .before .before .pre in
+    (ready (a .f .now) (a .s) (p .0) (a .rows .now) (p .2 .2), (p .2 .0, p .2 .1), readable (a .f .now) (a .s) (p .0) _ _ (c .before .before .before .before .stmt3 .ensures .0) ((equation-sides (a .f .now) (a .s) (p .0) (a .q) (p .1 .0) (is-equation (a .f .now) (a .s) (p .0) (a .q) (p .1 .0) (λ e. c .before .before .if1 .left (c .before .before .before .stmt4 .ensures .0 ∙ e)) (p .1 .1))) .1))
 
 add-right-2 : tie.Need-add-right-2
 add-right-2 c = omega (arith, at-most-le _ _ _ (c .before .measure-expr2 .ensures), at-most-le _ _ _ (c .measure-expr3 .ensures), c .before .before .before .before .before .before .before .before .before .before .before .pre .3 .1 .1)
 
-sub-record-behind-2 : tie.Need-sub-record-behind-2
-sub-record-behind-2 c = let z = equation-fits (c .before .before .before .before .before .before .before .before .before .before .before .before .args .f .now) (c .before .before .before .before .before .before .before .before .before .before .before .before .args .s) (c .before .before .before .before .before .before .before .before .before .before .before .before .pre .0) (c .before .before .before .before .before .before .before .before .before .before .before .before .args .rows .now) (c .before .before .before .before .before .before .before .before .before .before .before .before .args .level) (c .before .before .before .before .before .before .before .before .before .before .before .before .args .q) (c .before .before .before .before .before .before .before .before .before .before .before .before .pre .3 .0) (c .before .before .before .before .before .before .before .before .before .before .before .before .args .done .stmts) (c .before .before .before .before .before .before .before .before .before .before .before .before .args .done .nodes) (length (c .before .before .before .before .before .before .before .before .before .before .before .before .args .out .now)) (c .before .before .before .before .before .before .before .before .before .before .before .before .pre .3 .1) _ _ (c .before .before .before .before .before .before .before .before .stmt .ensures .0) (c .before .before .before .before .before .before .before .stmt2 .ensures .0) _ _ _ _ (is-equation (c .before .before .before .before .before .before .before .before .before .before .before .before .args .f .now) (c .before .before .before .before .before .before .before .before .before .before .before .before .args .s) (c .before .before .before .before .before .before .before .before .before .before .before .before .pre .0) (c .before .before .before .before .before .before .before .before .before .before .before .before .args .q) (c .before .before .before .before .before .before .before .before .before .before .before .before .pre .1 .0) (λ e. c .before .before .before .before .if1 .left (c .before .before .before .before .before .stmt4 .ensures .0 ∙ e)) (c .before .before .before .before .before .before .before .before .before .before .before .before .pre .1 .1)) (c .before .before .before .stmt6 .ensures .0) (c .before .before .before .before .before .before .stmt3 .ensures .0) (c .before .before .measure-expr2 .ensures) (c .before .measure-expr3 .ensures) in omega (arith, z .2)
+sub-l : tie.Need-sub-l
+sub-l c =
+    let a = c .before .before .before .before .before .before .before .before .before .before .before .args in
+    let p = c .before .before .before .before .before .before .before .before .before .before .before .pre in
+    let z = equation-fits (a .f .now) (a .s) (p .0) (a .rows .now) (a .level) (a .q) (p .3 .0) (a .done .stmts) (a .done .nodes) (length (a .out .now)) (p .3 .1) _ _ (c .before .before .before .before .before .before .before .stmt .ensures .0) (c .before .before .before .before .before .before .stmt2 .ensures .0) _ _ _ _ (is-equation (a .f .now) (a .s) (p .0) (a .q) (p .1 .0) (λ e. c .before .before .before .if1 .left (c .before .before .before .before .stmt4 .ensures .0 ∙ e)) (p .1 .1)) (c .before .before .stmt6 .ensures .0) (c .before .before .before .before .before .stmt3 .ensures .0) (c .before .measure-expr2 .ensures) (c .measure-expr3 .ensures) in
+    omega (arith, z .2)
 
-cast-record-behind-2 : tie.Need-cast-record-behind-2
-cast-record-behind-2 c = let z = equation-fits (c .before .before .before .before .before .before .before .before .before .before .before .before .args .f .now) (c .before .before .before .before .before .before .before .before .before .before .before .before .args .s) (c .before .before .before .before .before .before .before .before .before .before .before .before .pre .0) (c .before .before .before .before .before .before .before .before .before .before .before .before .args .rows .now) (c .before .before .before .before .before .before .before .before .before .before .before .before .args .level) (c .before .before .before .before .before .before .before .before .before .before .before .before .args .q) (c .before .before .before .before .before .before .before .before .before .before .before .before .pre .3 .0) (c .before .before .before .before .before .before .before .before .before .before .before .before .args .done .stmts) (c .before .before .before .before .before .before .before .before .before .before .before .before .args .done .nodes) (length (c .before .before .before .before .before .before .before .before .before .before .before .before .args .out .now)) (c .before .before .before .before .before .before .before .before .before .before .before .before .pre .3 .1) _ _ (c .before .before .before .before .before .before .before .before .stmt .ensures .0) (c .before .before .before .before .before .before .before .stmt2 .ensures .0) _ _ _ _ (is-equation (c .before .before .before .before .before .before .before .before .before .before .before .before .args .f .now) (c .before .before .before .before .before .before .before .before .before .before .before .before .args .s) (c .before .before .before .before .before .before .before .before .before .before .before .before .pre .0) (c .before .before .before .before .before .before .before .before .before .before .before .before .args .q) (c .before .before .before .before .before .before .before .before .before .before .before .before .pre .1 .0) (λ e. c .before .before .before .before .if1 .left (c .before .before .before .before .before .stmt4 .ensures .0 ∙ e)) (c .before .before .before .before .before .before .before .before .before .before .before .before .pre .1 .1)) (c .before .before .before .stmt6 .ensures .0) (c .before .before .before .before .before .before .stmt3 .ensures .0) (c .before .before .measure-expr2 .ensures) (c .before .measure-expr3 .ensures) in omega (arith, z .3)
+cast-l : tie.Need-cast-l
+cast-l c =
+    let a = c .before .before .before .before .before .before .before .before .before .before .before .args in
+    let p = c .before .before .before .before .before .before .before .before .before .before .before .pre in
+    let z = equation-fits (a .f .now) (a .s) (p .0) (a .rows .now) (a .level) (a .q) (p .3 .0) (a .done .stmts) (a .done .nodes) (length (a .out .now)) (p .3 .1) _ _ (c .before .before .before .before .before .before .before .stmt .ensures .0) (c .before .before .before .before .before .before .stmt2 .ensures .0) _ _ _ _ (is-equation (a .f .now) (a .s) (p .0) (a .q) (p .1 .0) (λ e. c .before .before .before .if1 .left (c .before .before .before .before .stmt4 .ensures .0 ∙ e)) (p .1 .1)) (c .before .before .stmt6 .ensures .0) (c .before .before .before .before .before .stmt3 .ensures .0) (c .before .measure-expr2 .ensures) (c .measure-expr3 .ensures) in
+    omega (arith, z .3)
 
-sub-record-behind-3 : tie.Need-sub-record-behind-3
-sub-record-behind-3 c = let z = equation-fits (c .before .before .before .before .before .before .before .before .before .before .before .before .args .f .now) (c .before .before .before .before .before .before .before .before .before .before .before .before .args .s) (c .before .before .before .before .before .before .before .before .before .before .before .before .pre .0) (c .before .before .before .before .before .before .before .before .before .before .before .before .args .rows .now) (c .before .before .before .before .before .before .before .before .before .before .before .before .args .level) (c .before .before .before .before .before .before .before .before .before .before .before .before .args .q) (c .before .before .before .before .before .before .before .before .before .before .before .before .pre .3 .0) (c .before .before .before .before .before .before .before .before .before .before .before .before .args .done .stmts) (c .before .before .before .before .before .before .before .before .before .before .before .before .args .done .nodes) (length (c .before .before .before .before .before .before .before .before .before .before .before .before .args .out .now)) (c .before .before .before .before .before .before .before .before .before .before .before .before .pre .3 .1) _ _ (c .before .before .before .before .before .before .before .before .stmt .ensures .0) (c .before .before .before .before .before .before .before .stmt2 .ensures .0) _ _ _ _ (is-equation (c .before .before .before .before .before .before .before .before .before .before .before .before .args .f .now) (c .before .before .before .before .before .before .before .before .before .before .before .before .args .s) (c .before .before .before .before .before .before .before .before .before .before .before .before .pre .0) (c .before .before .before .before .before .before .before .before .before .before .before .before .args .q) (c .before .before .before .before .before .before .before .before .before .before .before .before .pre .1 .0) (λ e. c .before .before .before .before .if1 .left (c .before .before .before .before .before .stmt4 .ensures .0 ∙ e)) (c .before .before .before .before .before .before .before .before .before .before .before .before .pre .1 .1)) (c .before .before .before .stmt6 .ensures .0) (c .before .before .before .before .before .before .stmt3 .ensures .0) (c .before .before .measure-expr2 .ensures) (c .before .measure-expr3 .ensures) in omega (arith, z .2)
+sub-r : tie.Need-sub-r
+sub-r c =
+    let a = c .before .before .before .before .before .before .before .before .before .before .before .args in
+    let p = c .before .before .before .before .before .before .before .before .before .before .before .pre in
+    let z = equation-fits (a .f .now) (a .s) (p .0) (a .rows .now) (a .level) (a .q) (p .3 .0) (a .done .stmts) (a .done .nodes) (length (a .out .now)) (p .3 .1) _ _ (c .before .before .before .before .before .before .before .stmt .ensures .0) (c .before .before .before .before .before .before .stmt2 .ensures .0) _ _ _ _ (is-equation (a .f .now) (a .s) (p .0) (a .q) (p .1 .0) (λ e. c .before .before .before .if1 .left (c .before .before .before .before .stmt4 .ensures .0 ∙ e)) (p .1 .1)) (c .before .before .stmt6 .ensures .0) (c .before .before .before .before .before .stmt3 .ensures .0) (c .before .measure-expr2 .ensures) (c .measure-expr3 .ensures) in
+    omega (arith, z .2)
 
-cast-record-behind-3 : tie.Need-cast-record-behind-3
-cast-record-behind-3 c = let z = equation-fits (c .before .before .before .before .before .before .before .before .before .before .before .before .args .f .now) (c .before .before .before .before .before .before .before .before .before .before .before .before .args .s) (c .before .before .before .before .before .before .before .before .before .before .before .before .pre .0) (c .before .before .before .before .before .before .before .before .before .before .before .before .args .rows .now) (c .before .before .before .before .before .before .before .before .before .before .before .before .args .level) (c .before .before .before .before .before .before .before .before .before .before .before .before .args .q) (c .before .before .before .before .before .before .before .before .before .before .before .before .pre .3 .0) (c .before .before .before .before .before .before .before .before .before .before .before .before .args .done .stmts) (c .before .before .before .before .before .before .before .before .before .before .before .before .args .done .nodes) (length (c .before .before .before .before .before .before .before .before .before .before .before .before .args .out .now)) (c .before .before .before .before .before .before .before .before .before .before .before .before .pre .3 .1) _ _ (c .before .before .before .before .before .before .before .before .stmt .ensures .0) (c .before .before .before .before .before .before .before .stmt2 .ensures .0) _ _ _ _ (is-equation (c .before .before .before .before .before .before .before .before .before .before .before .before .args .f .now) (c .before .before .before .before .before .before .before .before .before .before .before .before .args .s) (c .before .before .before .before .before .before .before .before .before .before .before .before .pre .0) (c .before .before .before .before .before .before .before .before .before .before .before .before .args .q) (c .before .before .before .before .before .before .before .before .before .before .before .before .pre .1 .0) (λ e. c .before .before .before .before .if1 .left (c .before .before .before .before .before .stmt4 .ensures .0 ∙ e)) (c .before .before .before .before .before .before .before .before .before .before .before .before .pre .1 .1)) (c .before .before .before .stmt6 .ensures .0) (c .before .before .before .before .before .before .stmt3 .ensures .0) (c .before .before .measure-expr2 .ensures) (c .before .measure-expr3 .ensures) in omega (arith, z .3)
+cast-r : tie.Need-cast-r
+cast-r c =
+    let a = c .before .before .before .before .before .before .before .before .before .before .before .args in
+    let p = c .before .before .before .before .before .before .before .before .before .before .before .pre in
+    let z = equation-fits (a .f .now) (a .s) (p .0) (a .rows .now) (a .level) (a .q) (p .3 .0) (a .done .stmts) (a .done .nodes) (length (a .out .now)) (p .3 .1) _ _ (c .before .before .before .before .before .before .before .stmt .ensures .0) (c .before .before .before .before .before .before .stmt2 .ensures .0) _ _ _ _ (is-equation (a .f .now) (a .s) (p .0) (a .q) (p .1 .0) (λ e. c .before .before .before .if1 .left (c .before .before .before .before .stmt4 .ensures .0 ∙ e)) (p .1 .1)) (c .before .before .stmt6 .ensures .0) (c .before .before .before .before .before .stmt3 .ensures .0) (c .before .measure-expr2 .ensures) (c .measure-expr3 .ensures) in
+    omega (arith, z .3)
 
 record-behind-requires-2 : tie.Need-record-behind-requires-2
-record-behind-requires-2 c κs = let z = equation-fits (c .before .before .before .before .before .before .before .before .before .before .before .before .args .f .now) (c .before .before .before .before .before .before .before .before .before .before .before .before .args .s) (c .before .before .before .before .before .before .before .before .before .before .before .before .pre .0) (c .before .before .before .before .before .before .before .before .before .before .before .before .args .rows .now) (c .before .before .before .before .before .before .before .before .before .before .before .before .args .level) (c .before .before .before .before .before .before .before .before .before .before .before .before .args .q) (c .before .before .before .before .before .before .before .before .before .before .before .before .pre .3 .0) (c .before .before .before .before .before .before .before .before .before .before .before .before .args .done .stmts) (c .before .before .before .before .before .before .before .before .before .before .before .before .args .done .nodes) (length (c .before .before .before .before .before .before .before .before .before .before .before .before .args .out .now)) (c .before .before .before .before .before .before .before .before .before .before .before .before .pre .3 .1) _ _ (c .before .before .before .before .before .before .before .before .stmt .ensures .0) (c .before .before .before .before .before .before .before .stmt2 .ensures .0) _ _ _ _ (is-equation (c .before .before .before .before .before .before .before .before .before .before .before .before .args .f .now) (c .before .before .before .before .before .before .before .before .before .before .before .before .args .s) (c .before .before .before .before .before .before .before .before .before .before .before .before .pre .0) (c .before .before .before .before .before .before .before .before .before .before .before .before .args .q) (c .before .before .before .before .before .before .before .before .before .before .before .before .pre .1 .0) (λ e. c .before .before .before .before .if1 .left (c .before .before .before .before .before .stmt4 .ensures .0 ∙ e)) (c .before .before .before .before .before .before .before .before .before .before .before .before .pre .1 .1)) (c .before .before .before .stmt6 .ensures .0) (c .before .before .before .before .before .before .stmt3 .ensures .0) (c .before .before .measure-expr2 .ensures) (c .before .measure-expr3 .ensures) in (z .4, z .5)
+record-behind-requires-2 c κs =
+    let a = c .before .before .before .before .before .before .before .before .before .before .before .before .args in
+    let p = c .before .before .before .before .before .before .before .before .before .before .before .before .pre in
+    let z = equation-fits (a .f .now) (a .s) (p .0) (a .rows .now) (a .level) (a .q) (p .3 .0) (a .done .stmts) (a .done .nodes) (length (a .out .now)) (p .3 .1) _ _ (c .before .before .before .before .before .before .before .before .stmt .ensures .0) (c .before .before .before .before .before .before .before .stmt2 .ensures .0) _ _ _ _ (is-equation (a .f .now) (a .s) (p .0) (a .q) (p .1 .0) (λ e. c .before .before .before .before .if1 .left (c .before .before .before .before .before .stmt4 .ensures .0 ∙ e)) (p .1 .1)) (c .before .before .before .stmt6 .ensures .0) (c .before .before .before .before .before .before .stmt3 .ensures .0) (c .before .before .measure-expr2 .ensures) (c .before .measure-expr3 .ensures) in
+    (z .4, z .5)
 
-add-t20 : tie.Need-add-t20
-add-t20 c = let z = equation-fits (c .before .before .before .before .before .before .before .before .before .before .before .before .before .before .before .args .f .now) (c .before .before .before .before .before .before .before .before .before .before .before .before .before .before .before .args .s) (c .before .before .before .before .before .before .before .before .before .before .before .before .before .before .before .pre .0) (c .before .before .before .before .before .before .before .before .before .before .before .before .before .before .before .args .rows .now) (c .before .before .before .before .before .before .before .before .before .before .before .before .before .before .before .args .level) (c .before .before .before .before .before .before .before .before .before .before .before .before .before .before .before .args .q) (c .before .before .before .before .before .before .before .before .before .before .before .before .before .before .before .pre .3 .0) (c .before .before .before .before .before .before .before .before .before .before .before .before .before .before .before .args .done .stmts) (c .before .before .before .before .before .before .before .before .before .before .before .before .before .before .before .args .done .nodes) (length (c .before .before .before .before .before .before .before .before .before .before .before .before .before .before .before .args .out .now)) (c .before .before .before .before .before .before .before .before .before .before .before .before .before .before .before .pre .3 .1) _ _ (c .before .before .before .before .before .before .before .before .before .before .before .stmt .ensures .0) (c .before .before .before .before .before .before .before .before .before .before .stmt2 .ensures .0) _ _ _ _ (is-equation (c .before .before .before .before .before .before .before .before .before .before .before .before .before .before .before .args .f .now) (c .before .before .before .before .before .before .before .before .before .before .before .before .before .before .before .args .s) (c .before .before .before .before .before .before .before .before .before .before .before .before .before .before .before .pre .0) (c .before .before .before .before .before .before .before .before .before .before .before .before .before .before .before .args .q) (c .before .before .before .before .before .before .before .before .before .before .before .before .before .before .before .pre .1 .0) (λ e. c .before .before .before .before .before .before .before .if1 .left (c .before .before .before .before .before .before .before .before .stmt4 .ensures .0 ∙ e)) (c .before .before .before .before .before .before .before .before .before .before .before .before .before .before .before .pre .1 .1)) (c .before .before .before .before .before .before .stmt6 .ensures .0) (c .before .before .before .before .before .before .before .before .before .stmt3 .ensures .0) (c .before .before .before .before .before .measure-expr2 .ensures) (c .before .before .before .before .measure-expr3 .ensures) in omega (arith, z .4)
+add-t22 : tie.Need-add-t22
+add-t22 c =
+    let a = c .before .before .before .before .before .before .before .before .before .before .before .before .before .before .before .args in
+    let p = c .before .before .before .before .before .before .before .before .before .before .before .before .before .before .before .pre in
+    let z = equation-fits (a .f .now) (a .s) (p .0) (a .rows .now) (a .level) (a .q) (p .3 .0) (a .done .stmts) (a .done .nodes) (length (a .out .now)) (p .3 .1) _ _ (c .before .before .before .before .before .before .before .before .before .before .before .stmt .ensures .0) (c .before .before .before .before .before .before .before .before .before .before .stmt2 .ensures .0) _ _ _ _ (is-equation (a .f .now) (a .s) (p .0) (a .q) (p .1 .0) (λ e. c .before .before .before .before .before .before .before .if1 .left (c .before .before .before .before .before .before .before .before .stmt4 .ensures .0 ∙ e)) (p .1 .1)) (c .before .before .before .before .before .before .stmt6 .ensures .0) (c .before .before .before .before .before .before .before .before .before .stmt3 .ensures .0) (c .before .before .before .before .before .measure-expr2 .ensures) (c .before .before .before .before .measure-expr3 .ensures) in
+    omega (arith, z .4)
 
 same-length-2 : tie.Need-same-length-2
 same-length-2 c = search needs
 
 returns-2 : tie.Need-returns-2
-returns-2 c = λ sub. equation-recorded (c .before .before .before .before .before .before .before .before .before .before .before .before .before .before .before .args .f .now) (c .before .before .before .before .before .before .before .before .before .before .before .before .before .before .before .args .s) (c .before .before .before .before .before .before .before .before .before .before .before .before .before .before .before .pre .0) (c .before .before .before .before .before .before .before .before .before .before .before .before .before .before .before .args .rows .now) (c .before .before .before .before .before .before .before .before .before .before .before .before .before .before .before .args .level) (c .before .before .before .before .before .before .before .before .before .before .before .before .before .before .before .args .q) sub (c .before .before .before .before .before .before .before .before .before .before .before .before .before .before .before .args .done .stmts) (c .before .before .before .before .before .before .before .before .before .before .before .before .before .before .before .args .done .nodes) (length (c .before .before .before .before .before .before .before .before .before .before .before .before .before .before .before .args .out .now)) (equation-any (c .before .before .before .before .before .before .before .before .before .before .before .before .before .before .before .args .f .now) (c .before .before .before .before .before .before .before .before .before .before .before .before .before .before .before .args .s) (c .before .before .before .before .before .before .before .before .before .before .before .before .before .before .before .pre .0) (c .before .before .before .before .before .before .before .before .before .before .before .before .before .before .before .args .rows .now) (c .before .before .before .before .before .before .before .before .before .before .before .before .before .before .before .args .level) (c .before .before .before .before .before .before .before .before .before .before .before .before .before .before .before .args .q) _ _ _ (c .before .before .before .before .before .before .before .before .before .before .before .before .before .before .before .pre .3 .0) sub (is-equation (c .before .before .before .before .before .before .before .before .before .before .before .before .before .before .before .args .f .now) (c .before .before .before .before .before .before .before .before .before .before .before .before .before .before .before .args .s) (c .before .before .before .before .before .before .before .before .before .before .before .before .before .before .before .pre .0) (c .before .before .before .before .before .before .before .before .before .before .before .before .before .before .before .args .q) (c .before .before .before .before .before .before .before .before .before .before .before .before .before .before .before .pre .1 .0) (λ e. c .before .before .before .before .before .before .before .if1 .left (c .before .before .before .before .before .before .before .before .stmt4 .ensures .0 ∙ e)) (c .before .before .before .before .before .before .before .before .before .before .before .before .before .before .before .pre .1 .1)) (c .before .before .before .before .before .before .before .before .before .before .before .before .before .before .before .pre .3 .1)) _ _ (c .before .before .before .before .before .before .before .before .before .before .before .stmt .ensures .0) (c .before .before .before .before .before .before .before .before .before .before .stmt2 .ensures .0) _ _ _ _ (is-equation (c .before .before .before .before .before .before .before .before .before .before .before .before .before .before .before .args .f .now) (c .before .before .before .before .before .before .before .before .before .before .before .before .before .before .before .args .s) (c .before .before .before .before .before .before .before .before .before .before .before .before .before .before .before .pre .0) (c .before .before .before .before .before .before .before .before .before .before .before .before .before .before .before .args .q) (c .before .before .before .before .before .before .before .before .before .before .before .before .before .before .before .pre .1 .0) (λ e. c .before .before .before .before .before .before .before .if1 .left (c .before .before .before .before .before .before .before .before .stmt4 .ensures .0 ∙ e)) (c .before .before .before .before .before .before .before .before .before .before .before .before .before .before .before .pre .1 .1)) (c .before .before .before .before .before .before .stmt6 .ensures .0) (c .before .before .before .before .before .before .before .before .before .stmt3 .ensures .0) (c .before .before .before .before .before .measure-expr2 .ensures) (c .before .before .before .before .measure-expr3 .ensures) (c .before .before .before .before .before .before .before .before .before .before .before .before .before .before .before .args .out .now) _ (c .before .before .record-behind2 .ensures)
+returns-2 c =
+    let a = c .before .before .before .before .before .before .before .before .before .before .before .before .before .before .before .args in
+    let p = c .before .before .before .before .before .before .before .before .before .before .before .before .before .before .before .pre in
+    λ sub. equation-recorded (a .f .now) (a .s) (p .0) (a .rows .now) (a .level) (a .q) sub (a .done .stmts) (a .done .nodes) (length (a .out .now)) (equation-any (a .f .now) (a .s) (p .0) (a .rows .now) (a .level) (a .q) _ _ _ (p .3 .0) sub (is-equation (a .f .now) (a .s) (p .0) (a .q) (p .1 .0) (λ e. c .before .before .before .before .before .before .before .if1 .left (c .before .before .before .before .before .before .before .before .stmt4 .ensures .0 ∙ e)) (p .1 .1)) (p .3 .1)) _ _ (c .before .before .before .before .before .before .before .before .before .before .before .stmt .ensures .0) (c .before .before .before .before .before .before .before .before .before .before .stmt2 .ensures .0) _ _ _ _ (is-equation (a .f .now) (a .s) (p .0) (a .q) (p .1 .0) (λ e. c .before .before .before .before .before .before .before .if1 .left (c .before .before .before .before .before .before .before .before .stmt4 .ensures .0 ∙ e)) (p .1 .1)) (c .before .before .before .before .before .before .stmt6 .ensures .0) (c .before .before .before .before .before .before .before .before .before .stmt3 .ensures .0) (c .before .before .before .before .before .measure-expr2 .ensures) (c .before .before .before .before .measure-expr3 .ensures) (a .out .now) _ (c .before .before .record-behind2 .ensures)
 
 pub write-record-spec : {M : Type 1} → statement M
 write-record-spec =
@@ -114,7 +169,7 @@ write-record-spec =
     sub-record-behind
     cast-record-behind
     record-behind-requires
-    add-t22
+    add-t24
     same-length
     returns
     stmt-requires-6
@@ -122,11 +177,11 @@ write-record-spec =
     add-left
     measure-expr-requires-3
     add-right-2
-    sub-record-behind-2
-    cast-record-behind-2
-    sub-record-behind-3
-    cast-record-behind-3
+    sub-l
+    cast-l
+    sub-r
+    cast-r
     record-behind-requires-2
-    add-t20
+    add-t22
     same-length-2
     returns-2)

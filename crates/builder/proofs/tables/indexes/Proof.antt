@@ -25,7 +25,10 @@ shared-slice-read-time-index : tie.Need-shared-slice-read-time-index Inv-loop μ
 shared-slice-read-time-index c = omega (arith, c .before .before .before .before .before .before .pre .0 .few)
 
 cast-time-index : tie.Need-cast-time-index Inv-loop μ-loop
-cast-time-index c = let v = c .before .before .loop .v in omega (arith, c .before .before .before .before .before .before .pre .0 .few, c .before .before .before .before .before .before .pre .0 .rise v (omega arith), c .before .before .before .before .before .before .pre .2 v (omega arith))
+cast-time-index c =
+    let p = c .before .before .before .before .before .before .pre in
+    let v = c .before .before .loop .v in
+    omega (arith, p .0 .few, p .0 .rise v (omega arith), p .2 v (omega arith))
 
 add-time-index : tie.Need-add-time-index Inv-loop μ-loop
 add-time-index c = omega (arith, c .before .before .before .before .before .before .pre .0 .few)
@@ -37,10 +40,16 @@ shared-slice-read-time-index-2 : tie.Need-shared-slice-read-time-index-2 Inv-loo
 shared-slice-read-time-index-2 c = omega (arith, c .before .before .before .before .before .before .before .pre .0 .few)
 
 cast-time-index-2 : tie.Need-cast-time-index-2 Inv-loop μ-loop
-cast-time-index-2 c = let v = c .before .before .before .loop .v in omega (arith, c .before .before .before .before .before .before .before .pre .0 .few, c .before .before .before .before .before .before .before .pre .0 .rise v (omega arith), c .before .before .before .before .before .before .before .pre .2 v (omega arith))
+cast-time-index-2 c =
+    let p = c .before .before .before .before .before .before .before .pre in
+    let v = c .before .before .before .loop .v in
+    omega (arith, p .0 .few, p .0 .rise v (omega arith), p .2 v (omega arith))
 
 time-index-requires : tie.Need-time-index-requires Inv-loop μ-loop
-time-index-requires c κs = let l : c .before .before .before .loop .v < c .before .before .before .before .before .before .before .args .vars = omega arith in (c .before .before .before .before .before .before .before .pre .0 .rise (c .before .before .before .loop .v) l, c .before .before .before .before .before .before .before .pre .0 .within (c .before .before .before .loop .v) l)
+time-index-requires c κs =
+    let p = c .before .before .before .before .before .before .before .pre in
+    let l : c .before .before .before .loop .v < c .before .before .before .before .before .before .before .args .vars = omega arith in
+    (p .0 .rise (c .before .before .before .loop .v) l, p .0 .within (c .before .before .before .loop .v) l)
 
 cast-out : tie.Need-cast-out Inv-loop μ-loop
 cast-out c = omega arith
@@ -58,7 +67,10 @@ loop-less : tie.Need-loop-less Inv-loop μ-loop
 loop-less c = omega arith
 
 loop-again : tie.Need-loop-again Inv-loop μ-loop
-loop-again c = (omega arith, filled-more 129 _ (c .before .before .before .before .loop .v) _ (c .before .before .before .before .loop .out) (omega (arith, c .before .before .before .before .before .before .before .before .pre .0 .few)) (index-word (c .before .before .before .before .before .before .before .before .args .starts .now) (c .before .before .before .before .before .before .before .before .args .deps .now) (c .before .before .before .before .before .before .before .before .args .vars) (c .before .before .before .before .loop .v) (c .time-index .result) (c .before .before .before .before .before .before .before .before .pre .0) (omega arith) (c .before .before .before .before .before .before .before .before .pre .2 (c .before .before .before .before .loop .v) (omega arith)) (c .time-index .ensures)) (c .before .before .before .before .loop .inv .1))
+loop-again c =
+    let a = c .before .before .before .before .before .before .before .before .args in
+    let p = c .before .before .before .before .before .before .before .before .pre in
+    (omega arith, filled-more 129 _ (c .before .before .before .before .loop .v) _ (c .before .before .before .before .loop .out) (omega (arith, p .0 .few)) (index-word (a .starts .now) (a .deps .now) (a .vars) (c .before .before .before .before .loop .v) (c .time-index .result) (p .0) (omega arith) (p .2 (c .before .before .before .before .loop .v) (omega arith)) (c .time-index .ensures)) (c .before .before .before .before .loop .inv .1))
 
 same-length : tie.Need-same-length Inv-loop μ-loop
 same-length c = omega (arith, c .before .loop .inv .1 .long)

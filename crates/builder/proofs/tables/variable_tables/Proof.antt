@@ -7,16 +7,26 @@ use Rattle.builder.proofs.tables.variable_tables.Statement.{statement}
 use Rattle.builder.proofs.tables.variable_tables.Tie as tie
 
 write-deps-requires : tie.Need-write-deps-requires
-write-deps-requires c κs = (c .before .before .before .before .before .before .before .before .before .before .pre .0, c .before .before .before .before .before .before .before .before .before .before .pre .1, c .before .before .before .before .before .before .before .before .before .before .pre .2, c .before .before .before .before .before .before .before .before .before .before .pre .3, c .before .before .before .before .before .before .before .before .before .before .pre .4 .starts-long, c .before .before .before .before .before .before .before .before .before .before .pre .4 .no-start)
+write-deps-requires c κs =
+    let p = c .before .before .before .before .before .before .before .before .before .before .pre in
+    (p .0, p .1, p .2, p .3, p .4 .starts-long, p .4 .no-start)
 
 indexes-requires : tie.Need-indexes-requires
-indexes-requires c κs = (counted-deps (c .before .before .before .before .before .before .before .before .before .before .before .before .before .before .before .before .before .before .args .f .now) (c .before .before .before .before .before .before .before .before .before .before .before .before .before .before .before .before .before .before .args .s) (c .before .before .before .before .before .before .before .before .before .before .before .before .before .before .before .before .before .before .pre .0) (c .before .before .before .before .before .before .before .before .before .before .before .before .before .before .before .before .before .before .args .m) _ (c .before .before .before .before .before .before .before .before .before .before .before .before .before .before .before .before .before .before .args .out .now) _ (c .before .before .before .before .before .before .before .write-deps .ensures .0) (c .before .before .before .before .before .before .before .write-deps .ensures .2) (c .before .before .before .before .before .before .before .before .before .before .before .before .before .before .before .before .before .before .args .vars) (c .before .before .before .before .before .before .before .before .before .before .before .before .before .before .before .before .before .before .pre .2 .count) (c .before .before .before .before .before .before .before .before .before .before .before .before .before .before .before .before .before .before .pre .2 .few) (c .before .before .before .before .before .before .before .before .before .before .before .before .before .before .before .before .before .before .pre .3), c .before .before .before .before .before .before .before .write-deps .ensures .1, counted-starts (c .before .before .before .before .before .before .before .before .before .before .before .before .before .before .before .before .before .before .args .f .now) (c .before .before .before .before .before .before .before .before .before .before .before .before .before .before .before .before .before .before .args .s) (c .before .before .before .before .before .before .before .before .before .before .before .before .before .before .before .before .before .before .pre .0) (c .before .before .before .before .before .before .before .before .before .before .before .before .before .before .before .before .before .before .args .m) _ (c .before .before .before .before .before .before .before .before .before .before .before .before .before .before .before .before .before .before .args .out .now) _ (c .before .before .before .before .before .before .before .write-deps .ensures .0) (c .before .before .before .before .before .before .before .write-deps .ensures .2) (c .before .before .before .before .before .before .before .before .before .before .before .before .before .before .before .before .before .before .args .vars) (c .before .before .before .before .before .before .before .before .before .before .before .before .before .before .before .before .before .before .pre .2 .count) (c .before .before .before .before .before .before .before .before .before .before .before .before .before .before .before .before .before .before .pre .2 .few) (c .before .before .before .before .before .before .before .before .before .before .before .before .before .before .before .before .before .before .pre .3), c .before .before .before .before .before .before .before .before .before .before .before .before .before .before .before .before .before .before .pre .4 .indexes-long)
+indexes-requires c κs =
+    let a = c .before .before .before .before .before .before .before .before .before .before .before .before .before .before .before .before .before .before .args in
+    let p = c .before .before .before .before .before .before .before .before .before .before .before .before .before .before .before .before .before .before .pre in
+    (counted-deps (a .f .now) (a .s) (p .0) (a .m) _ (a .out .now) _ (c .before .before .before .before .before .before .before .write-deps .ensures .0) (c .before .before .before .before .before .before .before .write-deps .ensures .2) (a .vars) (p .2 .count) (p .2 .few) (p .3), c .before .before .before .before .before .before .before .write-deps .ensures .1, counted-starts (a .f .now) (a .s) (p .0) (a .m) _ (a .out .now) _ (c .before .before .before .before .before .before .before .write-deps .ensures .0) (c .before .before .before .before .before .before .before .write-deps .ensures .2) (a .vars) (p .2 .count) (p .2 .few) (p .3), p .4 .indexes-long)
 
 reach-time-requires : tie.Need-reach-time-requires
-reach-time-requires c κs = (counted-deps (c .before .before .before .before .before .before .before .before .before .before .before .before .before .before .before .before .before .before .before .before .before .before .before .before .args .f .now) (c .before .before .before .before .before .before .before .before .before .before .before .before .before .before .before .before .before .before .before .before .before .before .before .before .args .s) (c .before .before .before .before .before .before .before .before .before .before .before .before .before .before .before .before .before .before .before .before .before .before .before .before .pre .0) (c .before .before .before .before .before .before .before .before .before .before .before .before .before .before .before .before .before .before .before .before .before .before .before .before .args .m) _ (c .before .before .before .before .before .before .before .before .before .before .before .before .before .before .before .before .before .before .before .before .before .before .before .before .args .out .now) _ (c .before .before .before .before .before .before .before .before .before .before .before .before .before .write-deps .ensures .0) (c .before .before .before .before .before .before .before .before .before .before .before .before .before .write-deps .ensures .2) (c .before .before .before .before .before .before .before .before .before .before .before .before .before .before .before .before .before .before .before .before .before .before .before .before .args .vars) (c .before .before .before .before .before .before .before .before .before .before .before .before .before .before .before .before .before .before .before .before .before .before .before .before .pre .2 .count) (c .before .before .before .before .before .before .before .before .before .before .before .before .before .before .before .before .before .before .before .before .before .before .before .before .pre .2 .few) (c .before .before .before .before .before .before .before .before .before .before .before .before .before .before .before .before .before .before .before .before .before .before .before .before .pre .3), c .before .before .before .before .before .before .before .before .before .before .before .before .before .write-deps .ensures .1, c .before .before .before .before .before .before .before .before .before .before .before .before .before .before .before .before .before .before .before .before .before .before .before .before .pre .4 .reach-long, c .before .before .before .before .before .before .before .before .before .before .before .before .before .before .before .before .before .before .before .before .before .before .before .before .pre .4 .no-mark)
+reach-time-requires c κs =
+    let a = c .before .before .before .before .before .before .before .before .before .before .before .before .before .before .before .before .before .before .before .before .before .before .before .before .args in
+    let p = c .before .before .before .before .before .before .before .before .before .before .before .before .before .before .before .before .before .before .before .before .before .before .before .before .pre in
+    (counted-deps (a .f .now) (a .s) (p .0) (a .m) _ (a .out .now) _ (c .before .before .before .before .before .before .before .before .before .before .before .before .before .write-deps .ensures .0) (c .before .before .before .before .before .before .before .before .before .before .before .before .before .write-deps .ensures .2) (a .vars) (p .2 .count) (p .2 .few) (p .3), c .before .before .before .before .before .before .before .before .before .before .before .before .before .write-deps .ensures .1, p .4 .reach-long, p .4 .no-mark)
 
 rates-requires : tie.Need-rates-requires
-rates-requires c κs = (c .before .before .before .before .before .before .before .before .before .before .before .before .before .before .before .before .before .before .before .before .before .before .before .before .before .before .before .before .before .before .pre .2 .few, c .before .before .before .before .before .before .before .before .before .before .before .before .before .before .before .before .before .before .before .write-deps .ensures .1, c .before .before .before .before .before .reach-time .ensures .1, c .before .before .before .before .before .before .before .before .before .before .before .before .before .before .before .before .before .before .before .before .before .before .before .before .before .before .before .before .before .before .pre .4 .rates-long)
+rates-requires c κs =
+    let p = c .before .before .before .before .before .before .before .before .before .before .before .before .before .before .before .before .before .before .before .before .before .before .before .before .before .before .before .before .before .before .pre in
+    (p .2 .few, c .before .before .before .before .before .before .before .before .before .before .before .before .before .before .before .before .before .before .before .write-deps .ensures .1, c .before .before .before .before .before .reach-time .ensures .1, p .4 .rates-long)
 
 same-length : tie.Need-same-length
 same-length c = search needs
@@ -34,10 +44,12 @@ same-length-5 : tie.Need-same-length-5
 same-length-5 c = c .before .before .rates .ensures .1 ∙ sym (c .before .before .before .before .before .before .before .before .before .before .before .before .before .before .before .before .before .before .before .before .before .before .before .before .before .before .before .before .before .before .before .before .before .pre .4 .rates-long)
 
 returns : tie.Need-returns
-returns c = (
-  tables-of (c .before .before .before .before .before .before .before .before .before .before .before .before .before .before .before .before .before .before .before .before .before .before .before .before .before .before .before .before .before .before .before .before .before .args .f .now) (c .before .before .before .before .before .before .before .before .before .before .before .before .before .before .before .before .before .before .before .before .before .before .before .before .before .before .before .before .before .before .before .before .before .args .s) (c .before .before .before .before .before .before .before .before .before .before .before .before .before .before .before .before .before .before .before .before .before .before .before .before .before .before .before .before .before .before .before .before .before .pre .0) (c .before .before .before .before .before .before .before .before .before .before .before .before .before .before .before .before .before .before .before .before .before .before .before .before .before .before .before .before .before .before .before .before .before .args .m) _ (c .before .before .before .before .before .before .before .before .before .before .before .before .before .before .before .before .before .before .before .before .before .before .before .before .before .before .before .before .before .before .before .before .before .args .out .now) _ (c .before .before .before .before .before .before .before .before .before .before .before .before .before .before .before .before .before .before .before .before .before .before .write-deps .ensures .0) (c .before .before .before .before .before .before .before .before .before .before .before .before .before .before .before .before .before .before .before .before .before .before .write-deps .ensures .2) (c .before .before .before .before .before .before .before .before .before .before .before .before .before .before .before .before .before .before .before .before .before .before .before .before .before .before .before .before .before .before .before .before .before .args .vars) (c .before .before .before .before .before .before .before .before .before .before .before .before .before .before .before .before .before .before .before .before .before .before .before .before .before .before .before .before .before .before .before .before .before .pre .2 .count) (c .before .before .before .before .before .before .before .before .before .before .before .before .before .before .before .before .before .before .before .before .before .before .before .before .before .before .before .before .before .before .before .before .before .pre .2 .few) (c .before .before .before .before .before .before .before .before .before .before .before .before .before .before .before .before .before .before .before .before .before .before .before .before .before .before .before .before .before .before .before .before .before .pre .3) _ (c .before .before .before .before .before .before .before .before .reach-time .ensures .0) _ _ (c .before .before .before .before .before .before .before .before .before .before .before .before .before .before .before .before .before .before .before .before .before .before .write-deps .ensures .1) (c .before .before .before .before .before .before .before .before .before .before .before .before .before .before .indexes .ensures .1) (c .before .before .before .before .before .before .before .before .reach-time .ensures .1) (c .before .before .rates .ensures .1) (c .before .before .before .before .before .before .before .before .before .before .before .before .before .before .indexes .ensures .0) (c .before .before .rates .ensures .0),
-  c .before .before .before .before .before .before .before .before .before .before .before .before .before .before .before .before .before .before .before .before .before .before .write-deps .ensures .2 ∙ ap (λ ds. front (c .before .before .before .before .before .before .before .before .before .before .before .before .before .before .before .before .before .before .before .before .before .before .before .before .before .before .before .before .before .before .before .before .before .args .out .now) (bytesOf ds)) (sym (model-written (c .before .before .before .before .before .before .before .before .before .before .before .before .before .before .before .before .before .before .before .before .before .before .before .before .before .before .before .before .before .before .before .before .before .args .f .now) (c .before .before .before .before .before .before .before .before .before .before .before .before .before .before .before .before .before .before .before .before .before .before .before .before .before .before .before .before .before .before .before .before .before .args .s) (c .before .before .before .before .before .before .before .before .before .before .before .before .before .before .before .before .before .before .before .before .before .before .before .before .before .before .before .before .before .before .before .before .before .args .m))),
-)
+returns c =
+    let a = c .before .before .before .before .before .before .before .before .before .before .before .before .before .before .before .before .before .before .before .before .before .before .before .before .before .before .before .before .before .before .before .before .before .args in
+    let p = c .before .before .before .before .before .before .before .before .before .before .before .before .before .before .before .before .before .before .before .before .before .before .before .before .before .before .before .before .before .before .before .before .before .pre in (
+      tables-of (a .f .now) (a .s) (p .0) (a .m) _ (a .out .now) _ (c .before .before .before .before .before .before .before .before .before .before .before .before .before .before .before .before .before .before .before .before .before .before .write-deps .ensures .0) (c .before .before .before .before .before .before .before .before .before .before .before .before .before .before .before .before .before .before .before .before .before .before .write-deps .ensures .2) (a .vars) (p .2 .count) (p .2 .few) (p .3) _ (c .before .before .before .before .before .before .before .before .reach-time .ensures .0) _ _ (c .before .before .before .before .before .before .before .before .before .before .before .before .before .before .before .before .before .before .before .before .before .before .write-deps .ensures .1) (c .before .before .before .before .before .before .before .before .before .before .before .before .before .before .indexes .ensures .1) (c .before .before .before .before .before .before .before .before .reach-time .ensures .1) (c .before .before .rates .ensures .1) (c .before .before .before .before .before .before .before .before .before .before .before .before .before .before .indexes .ensures .0) (c .before .before .rates .ensures .0),
+      c .before .before .before .before .before .before .before .before .before .before .before .before .before .before .before .before .before .before .before .before .before .before .write-deps .ensures .2 ∙ ap (λ ds. front (a .out .now) (bytesOf ds)) (sym (model-written (a .f .now) (a .s) (a .m))),
+    )
 
 pub variable-tables-spec : {M : Type 1} → statement M
 variable-tables-spec =

@@ -8,7 +8,10 @@ use Rattle.builder.proofs.variables.put_dep.Statement.{statement}
 use Rattle.builder.proofs.variables.put_dep.Tie as tie
 
 returns : tie.Need-returns
-returns c = let e = below-none (c .before .before .args .v) (c .if1 .taken) in (rw e (omega arith), rw e (sym (words-none (c .before .before .args .out .now) (4 * c .before .before .args .done))))
+returns c =
+    let a = c .before .before .args in
+    let e = below-none (a .v) (c .if1 .taken) in
+    (rw e (omega arith), rw e (sym (words-none (a .out .now) (4 * a .done))))
 
 mul-put-word : tie.Need-mul-put-word
 mul-put-word c = search needs
@@ -17,7 +20,9 @@ sub-put-word : tie.Need-sub-put-word
 sub-put-word c = search needs
 
 put-word-requires : tie.Need-put-word-requires
-put-word-requires c κs = let e = below-one (c .before .before .before .args .v) (c .before .if1 .left) in omega (arith, rw e at (c .before .before .before .pre))
+put-word-requires c κs =
+    let e = below-one (c .before .before .before .args .v) (c .before .if1 .left) in
+    omega (arith, rw e at (c .before .before .before .pre))
 
 add-result : tie.Need-add-result
 add-result c = search needs
@@ -26,7 +31,10 @@ same-length : tie.Need-same-length
 same-length c = search needs
 
 returns-2 : tie.Need-returns-2
-returns-2 c = let e = below-one (c .before .before .before .before .before .before .args .v) (c .before .before .before .before .if1 .left) in (rw e refl, rw e (c .before .before .put-word .ensures ∙ put-first (c .before .before .before .before .before .before .args .out .now) (4 * c .before .before .before .before .before .before .args .done) (c .before .before .before .before .before .before .args .v - 1) (omega (arith, rw e at (c .before .before .before .before .before .before .pre)))))
+returns-2 c =
+    let a = c .before .before .before .before .before .before .args in
+    let e = below-one (a .v) (c .before .before .before .before .if1 .left) in
+    (rw e refl, rw e (c .before .before .put-word .ensures ∙ put-first (a .out .now) (4 * a .done) (a .v - 1) (omega (arith, rw e at (c .before .before .before .before .before .before .pre)))))
 
 pub put-dep-spec : {M : Type 1} → statement M
 put-dep-spec =

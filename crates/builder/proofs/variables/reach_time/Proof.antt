@@ -16,22 +16,31 @@ abbrev μ-loop : tie.MeasureT-loop
 μ-loop deps starts vars table₀ k₀ table k = vars - k
 
 loop-holds : tie.Need-loop-holds Inv-loop μ-loop
-loop-holds c = (omega arith, reached-none (c .before .before .before .args .starts .now) (c .before .before .before .args .deps .now) (c .before .before .before .args .vars) (c .before .before .before .args .table .now) (λ v h. c .before .before .before .pre .3 v), c .before .before .before .pre .2)
+loop-holds c =
+    let a = c .before .before .before .args in
+    let p = c .before .before .before .pre in
+    (omega arith, reached-none (a .starts .now) (a .deps .now) (a .vars) (a .table .now) (λ v h. p .3 v), p .2)
 
 time-round-requires : tie.Need-time-round-requires Inv-loop μ-loop
-time-round-requires c κs = (c .before .before .before .before .before .before .pre .0, c .before .before .before .before .before .before .pre .1, c .before .before .loop .inv .2)
+time-round-requires c κs =
+    let p = c .before .before .before .before .before .before .pre in
+    (p .0, p .1, c .before .before .loop .inv .2)
 
 slice-aggregate-take-marks : tie.Need-slice-aggregate-take-marks Inv-loop μ-loop
 slice-aggregate-take-marks c = search needs
 
 take-marks-requires : tie.Need-take-marks-requires Inv-loop μ-loop
-take-marks-requires c κs = (omega (arith, c .before .before .before .before .before .before .before .before .before .pre .0 .few, c .before .before .before .before .before .loop .inv .2), omega (arith, c .before .before .before .before .before .before .before .before .before .pre .0 .few))
+take-marks-requires c κs =
+    let p = c .before .before .before .before .before .before .before .before .before .pre in
+    (omega (arith, p .0 .few, c .before .before .before .before .before .loop .inv .2), omega (arith, p .0 .few))
 
 same-length : tie.Need-same-length Inv-loop μ-loop
 same-length c = c .before .before .before .take-marks .ensures .1 ∙ c .before .before .before .before .before .before .before .before .before .loop .inv .2 ∙ sym (c .before .before .before .before .before .before .before .before .before .before .before .before .before .pre .2)
 
 returns : tie.Need-returns Inv-loop μ-loop
-returns c = (reached-same (c .before .before .before .before .before .before .before .before .before .before .before .before .before .args .starts .now) (c .before .before .before .before .before .before .before .before .before .before .before .before .before .args .deps .now) (c .before .before .before .before .before .before .before .before .before .before .before .before .before .args .vars) (c .before .before .before .before .before .before .before .before .before .before .before .before .before .args .vars) (c .before .before .before .before .before .before .time-round .result) _ (reached-end (c .before .before .before .before .before .before .before .before .before .before .before .before .before .args .starts .now) (c .before .before .before .before .before .before .before .before .before .before .before .before .before .args .deps .now) (c .before .before .before .before .before .before .before .before .before .before .before .before .before .args .vars) (c .before .before .before .before .before .before .before .before .before .loop .k) (c .before .before .before .before .before .before .before .before .before .loop .table) (c .before .before .before .before .before .before .time-round .result) (omega arith) (c .before .before .before .before .before .before .before .before .before .before .before .before .before .pre .0) (c .before .before .before .before .before .before .before .before .before .loop .inv .1) (c .before .before .before .before .before .before .time-round .ensures) (c .before .before .before .take-marks .ensures .2 (not-true _ (c .if1 .taken)))) (c .before .before .before .take-marks .ensures .0), c .before .before .before .take-marks .ensures .1 ∙ c .before .before .before .before .before .before .before .before .before .loop .inv .2)
+returns c =
+    let a = c .before .before .before .before .before .before .before .before .before .before .before .before .before .args in
+    (reached-same (a .starts .now) (a .deps .now) (a .vars) (a .vars) (c .before .before .before .before .before .before .time-round .result) _ (reached-end (a .starts .now) (a .deps .now) (a .vars) (c .before .before .before .before .before .before .before .before .before .loop .k) (c .before .before .before .before .before .before .before .before .before .loop .table) (c .before .before .before .before .before .before .time-round .result) (omega arith) (c .before .before .before .before .before .before .before .before .before .before .before .before .before .pre .0) (c .before .before .before .before .before .before .before .before .before .loop .inv .1) (c .before .before .before .before .before .before .time-round .ensures) (c .before .before .before .take-marks .ensures .2 (not-true _ (c .if1 .taken)))) (c .before .before .before .take-marks .ensures .0), c .before .before .before .take-marks .ensures .1 ∙ c .before .before .before .before .before .before .before .before .before .loop .inv .2)
 
 add-k : tie.Need-add-k Inv-loop μ-loop
 add-k c = omega (arith, c .before .before .before .before .before .before .before .before .before .before .before .before .before .pre .0 .few)
@@ -40,13 +49,17 @@ loop-less : tie.Need-loop-less Inv-loop μ-loop
 loop-less c = omega arith
 
 loop-again : tie.Need-loop-again Inv-loop μ-loop
-loop-again c = (omega arith, reached-same (c .before .before .before .before .before .before .before .before .before .before .before .before .before .args .starts .now) (c .before .before .before .before .before .before .before .before .before .before .before .before .before .args .deps .now) (c .before .before .before .before .before .before .before .before .before .before .before .before .before .args .vars) (c .before .before .before .before .before .before .before .before .before .loop .k + 1) (c .before .before .before .before .before .before .time-round .result) _ (reached-more (c .before .before .before .before .before .before .before .before .before .before .before .before .before .args .starts .now) (c .before .before .before .before .before .before .before .before .before .before .before .before .before .args .deps .now) (c .before .before .before .before .before .before .before .before .before .before .before .before .before .args .vars) (c .before .before .before .before .before .before .before .before .before .loop .k) (c .before .before .before .before .before .before .before .before .before .loop .table) (c .before .before .before .before .before .before .time-round .result) (c .before .before .before .before .before .before .before .before .before .before .before .before .before .pre .0) (c .before .before .before .before .before .before .before .before .before .loop .inv .1) (c .before .before .before .before .before .before .time-round .ensures)) (c .before .before .before .take-marks .ensures .0), c .before .before .before .take-marks .ensures .1 ∙ c .before .before .before .before .before .before .before .before .before .loop .inv .2)
+loop-again c =
+    let a = c .before .before .before .before .before .before .before .before .before .before .before .before .before .args in
+    (omega arith, reached-same (a .starts .now) (a .deps .now) (a .vars) (c .before .before .before .before .before .before .before .before .before .loop .k + 1) (c .before .before .before .before .before .before .time-round .result) _ (reached-more (a .starts .now) (a .deps .now) (a .vars) (c .before .before .before .before .before .before .before .before .before .loop .k) (c .before .before .before .before .before .before .before .before .before .loop .table) (c .before .before .before .before .before .before .time-round .result) (c .before .before .before .before .before .before .before .before .before .before .before .before .before .pre .0) (c .before .before .before .before .before .before .before .before .before .loop .inv .1) (c .before .before .before .before .before .before .time-round .ensures)) (c .before .before .before .take-marks .ensures .0), c .before .before .before .take-marks .ensures .1 ∙ c .before .before .before .before .before .before .before .before .before .loop .inv .2)
 
 same-length-2 : tie.Need-same-length-2 Inv-loop μ-loop
 same-length-2 c = c .before .loop .inv .2 ∙ sym (c .before .before .before .before .before .pre .2)
 
 returns-2 : tie.Need-returns-2 Inv-loop μ-loop
-returns-2 c = let e : c .before .loop .k ≡ c .before .before .before .before .before .args .vars = omega arith in (rw e at (c .before .loop .inv .1), c .before .loop .inv .2)
+returns-2 c =
+    let e : c .before .loop .k ≡ c .before .before .before .before .before .args .vars = omega arith in
+    (rw e at (c .before .loop .inv .1), c .before .loop .inv .2)
 
 pub reach-time-spec : {M : Type 1} → statement M
 reach-time-spec =

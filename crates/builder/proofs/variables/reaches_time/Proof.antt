@@ -15,7 +15,9 @@ abbrev μ-loop : tie.MeasureT-loop
 μ-loop deps first end old i₀ i = end - i
 
 loop-holds : tie.Need-loop-holds Inv-loop μ-loop
-loop-holds c = (omega arith, omega arith, any-start (c .before .before .args .deps .now) (c .before .before .args .first) (c .before .before .args .end) (omega arith) (omega arith) (leads (c .before .before .args .old .now)))
+loop-holds c =
+    let a = c .before .before .args in
+    (omega arith, omega arith, any-start (a .deps .now) (a .first) (a .end) (omega arith) (omega arith) (leads (a .old .now)))
 
 mul-read-word : tie.Need-mul-read-word Inv-loop μ-loop
 mul-read-word c = omega arith
@@ -27,11 +29,15 @@ cast-d : tie.Need-cast-d Inv-loop μ-loop
 cast-d c = omega arith
 
 shared-slice-read-if1 : tie.Need-shared-slice-read-if1 Inv-loop μ-loop
-shared-slice-read-if1 c = omega (arith, word-below (c .before .before .before .before .before .before .args .deps .now) (c .before .before .before .before .before .before .args .first) (c .before .before .before .before .before .before .args .end) (omega arith) (omega arith) 129 (c .before .before .before .before .before .before .pre .2) (c .before .before .before .loop .i) (omega arith) (omega arith), c .before .read-word .ensures)
+shared-slice-read-if1 c =
+    let a = c .before .before .before .before .before .before .args in
+    omega (arith, word-below (a .deps .now) (a .first) (a .end) (omega arith) (omega arith) 129 (c .before .before .before .before .before .before .pre .2) (c .before .before .before .loop .i) (omega arith) (omega arith), c .before .read-word .ensures)
 
 returns : tie.Need-returns Inv-loop μ-loop
 unfolding leads
-returns c = sym (c .before .before .before .before .loop .inv .2 ∙ any-turn (c .before .before .before .before .before .before .before .args .deps .now) (c .before .before .before .before .before .before .before .args .first) (c .before .before .before .before .before .before .before .args .end) (omega arith) (omega arith) (leads (c .before .before .before .before .before .before .before .args .old .now)) (c .before .before .before .before .loop .i) (omega arith) (omega arith) ∙ rw (← c .before .before .read-word .ensures, c .if1 .taken))
+returns c =
+    let a = c .before .before .before .before .before .before .before .args in
+    sym (c .before .before .before .before .loop .inv .2 ∙ any-turn (a .deps .now) (a .first) (a .end) (omega arith) (omega arith) (leads (a .old .now)) (c .before .before .before .before .loop .i) (omega arith) (omega arith) ∙ rw (← c .before .before .read-word .ensures, c .if1 .taken))
 
 add-i : tie.Need-add-i Inv-loop μ-loop
 add-i c = omega arith
@@ -41,10 +47,14 @@ loop-less c = omega arith
 
 loop-again : tie.Need-loop-again Inv-loop μ-loop
 unfolding leads
-loop-again c = (omega arith, omega arith, c .before .before .before .before .loop .inv .2 ∙ any-turn (c .before .before .before .before .before .before .before .args .deps .now) (c .before .before .before .before .before .before .before .args .first) (c .before .before .before .before .before .before .before .args .end) (omega arith) (omega arith) (leads (c .before .before .before .before .before .before .before .args .old .now)) (c .before .before .before .before .loop .i) (omega arith) (omega arith) ∙ rw (← c .before .before .read-word .ensures, c .if1 .left))
+loop-again c =
+    let a = c .before .before .before .before .before .before .before .args in
+    (omega arith, omega arith, c .before .before .before .before .loop .inv .2 ∙ any-turn (a .deps .now) (a .first) (a .end) (omega arith) (omega arith) (leads (a .old .now)) (c .before .before .before .before .loop .i) (omega arith) (omega arith) ∙ rw (← c .before .before .read-word .ensures, c .if1 .left))
 
 returns-2 : tie.Need-returns-2 Inv-loop μ-loop
-returns-2 c = sym (c .before .loop .inv .2 ∙ any-done (c .before .before .before .before .args .deps .now) (c .before .before .before .before .args .first) (c .before .before .before .before .args .end) (omega arith) (omega arith) (leads (c .before .before .before .before .args .old .now)) (c .before .loop .i) (omega arith))
+returns-2 c =
+    let a = c .before .before .before .before .args in
+    sym (c .before .loop .inv .2 ∙ any-done (a .deps .now) (a .first) (a .end) (omega arith) (omega arith) (leads (a .old .now)) (c .before .loop .i) (omega arith))
 
 pub reaches-time-spec : {M : Type 1} → statement M
 reaches-time-spec =

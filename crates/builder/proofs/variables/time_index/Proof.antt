@@ -32,7 +32,9 @@ sub-result : tie.Need-sub-result Inv-loop μ-loop
 sub-result c = omega arith
 
 returns : tie.Need-returns Inv-loop μ-loop
-returns c = sym (ap plusOne (c .before .before .before .loop .inv .2) ∙ time-found (c .before .before .before .before .before .args .deps .now) (c .before .before .before .before .before .args .first) (c .before .before .before .before .before .args .end) (c .before .before .before .loop .i) (omega arith) (omega arith) (omega arith) (sym (c .before .read-word .ensures) ∙ c .if1 .taken))
+returns c =
+    let a = c .before .before .before .before .before .args in
+    sym (ap plusOne (c .before .before .before .loop .inv .2) ∙ time-found (a .deps .now) (a .first) (a .end) (c .before .before .before .loop .i) (omega arith) (omega arith) (omega arith) (sym (c .before .read-word .ensures) ∙ c .if1 .taken))
 
 sub-i : tie.Need-sub-i Inv-loop μ-loop
 sub-i c = omega arith
@@ -41,10 +43,15 @@ loop-less : tie.Need-loop-less Inv-loop μ-loop
 loop-less c = omega arith
 
 loop-again : tie.Need-loop-again Inv-loop μ-loop
-loop-again c = (omega arith, omega arith, c .before .before .before .loop .inv .2 ∙ time-passed (c .before .before .before .before .before .args .deps .now) (c .before .before .before .before .before .args .first) (c .before .before .before .before .before .args .end) (c .before .before .before .loop .i) (omega arith) (omega arith) (omega arith) (λ e. c .if1 .left (c .before .read-word .ensures ∙ e)))
+loop-again c =
+    let a = c .before .before .before .before .before .args in
+    (omega arith, omega arith, c .before .before .before .loop .inv .2 ∙ time-passed (a .deps .now) (a .first) (a .end) (c .before .before .before .loop .i) (omega arith) (omega arith) (omega arith) (λ e. c .if1 .left (c .before .read-word .ensures ∙ e)))
 
 returns-2 : tie.Need-returns-2 Inv-loop μ-loop
-returns-2 c = let z : c .before .loop .i - c .before .before .before .args .first ≡ 0 = omega arith in sym (ap plusOne (c .before .loop .inv .2) ∙ time-none (wordsFrom (c .before .before .before .args .deps .now) (c .before .before .before .args .first) (c .before .before .before .args .end)) (c .before .loop .i - c .before .before .before .args .first) z)
+returns-2 c =
+    let a = c .before .before .before .args in
+    let z : c .before .loop .i - a .first ≡ 0 = omega arith in
+    sym (ap plusOne (c .before .loop .inv .2) ∙ time-none (wordsFrom (a .deps .now) (a .first) (a .end)) (c .before .loop .i - a .first) z)
 
 pub time-index-spec : {M : Type 1} → statement M
 time-index-spec =

@@ -26,8 +26,10 @@ add-result : tie.Need-add-result Inv-loop μ-loop
 add-result c = omega arith
 
 returns : tie.Need-returns Inv-loop μ-loop
-returns c = let h : 0 < c .before .before .before .before .before .args .count - c .before .before .before .before .loop .n = omega arith in
-    (sym (c .before .before .before .before .loop .inv .1 ∙ zero-here (c .before .before .before .before .before .args .classes .now) (c .before .before .before .before .loop .n) (c .before .before .before .before .before .args .count - c .before .before .before .before .loop .n) h (sym (c .before .is-time .ensures) ∙ c .if1 .taken)), omega arith)
+returns c =
+    let a = c .before .before .before .before .before .args in
+    let h : 0 < a .count - c .before .before .before .before .loop .n = omega arith in
+    (sym (c .before .before .before .before .loop .inv .1 ∙ zero-here (a .classes .now) (c .before .before .before .before .loop .n) (a .count - c .before .before .before .before .loop .n) h (sym (c .before .is-time .ensures) ∙ c .if1 .taken)), omega arith)
 
 add-n : tie.Need-add-n Inv-loop μ-loop
 add-n c = omega arith
@@ -36,13 +38,17 @@ loop-less : tie.Need-loop-less Inv-loop μ-loop
 loop-less c = omega arith
 
 loop-again : tie.Need-loop-again Inv-loop μ-loop
-loop-again c = let h : 0 < c .before .before .before .before .before .args .count - c .before .before .before .before .loop .n = omega arith in
-    let e : c .before .before .before .before .before .args .count - c .before .before .before .before .loop .n - 1 ≡ c .before .before .before .before .before .args .count - (c .before .before .before .before .loop .n + 1) = omega arith in
-    (omega arith, rw e at (c .before .before .before .before .loop .inv .1 ∙ zero-on (c .before .before .before .before .before .args .classes .now) (c .before .before .before .before .loop .n) (c .before .before .before .before .before .args .count - c .before .before .before .before .loop .n) h (sym (c .before .is-time .ensures) ∙ c .if1 .left)))
+loop-again c =
+    let a = c .before .before .before .before .before .args in
+    let h : 0 < a .count - c .before .before .before .before .loop .n = omega arith in
+    let e : a .count - c .before .before .before .before .loop .n - 1 ≡ a .count - (c .before .before .before .before .loop .n + 1) = omega arith in
+    (omega arith, rw e at (c .before .before .before .before .loop .inv .1 ∙ zero-on (a .classes .now) (c .before .before .before .before .loop .n) (a .count - c .before .before .before .before .loop .n) h (sym (c .before .is-time .ensures) ∙ c .if1 .left)))
 
 returns-2 : tie.Need-returns-2 Inv-loop μ-loop
-returns-2 c = let e : c .before .before .args .count - c .before .loop .n ≡ 0 = omega arith in
-    (sym (c .before .loop .inv .1 ∙ zero-end (c .before .before .args .classes .now) (c .before .loop .n) (c .before .before .args .count - c .before .loop .n) e), omega arith)
+returns-2 c =
+    let a = c .before .before .args in
+    let e : a .count - c .before .loop .n ≡ 0 = omega arith in
+    (sym (c .before .loop .inv .1 ∙ zero-end (a .classes .now) (c .before .loop .n) (a .count - c .before .loop .n) e), omega arith)
 
 pub time-name-spec : {M : Type 1} → statement M
 time-name-spec =

@@ -24,7 +24,10 @@ shared-slice-read-reaches-time : tie.Need-shared-slice-read-reaches-time Inv-loo
 shared-slice-read-reaches-time c = omega (arith, c .before .before .before .before .before .before .pre .0 .few)
 
 cast-reaches-time : tie.Need-cast-reaches-time Inv-loop μ-loop
-cast-reaches-time c = let v = c .before .before .loop .v in omega (arith, c .before .before .before .before .before .before .pre .0 .few, c .before .before .before .before .before .before .pre .0 .rise v (omega arith), c .before .before .before .before .before .before .pre .0 .within v (omega arith))
+cast-reaches-time c =
+    let p = c .before .before .before .before .before .before .pre in
+    let v = c .before .before .loop .v in
+    omega (arith, p .0 .few, p .0 .rise v (omega arith), p .0 .within v (omega arith))
 
 add-reaches-time : tie.Need-add-reaches-time Inv-loop μ-loop
 add-reaches-time c = omega (arith, c .before .before .before .before .before .before .pre .0 .few)
@@ -36,11 +39,17 @@ shared-slice-read-reaches-time-2 : tie.Need-shared-slice-read-reaches-time-2 Inv
 shared-slice-read-reaches-time-2 c = omega (arith, c .before .before .before .before .before .before .before .pre .0 .few)
 
 cast-reaches-time-2 : tie.Need-cast-reaches-time-2 Inv-loop μ-loop
-cast-reaches-time-2 c = let v = c .before .before .before .loop .v in omega (arith, c .before .before .before .before .before .before .before .pre .0 .few, c .before .before .before .before .before .before .before .pre .0 .rise v (omega arith), c .before .before .before .before .before .before .before .pre .0 .within v (omega arith))
+cast-reaches-time-2 c =
+    let p = c .before .before .before .before .before .before .before .pre in
+    let v = c .before .before .before .loop .v in
+    omega (arith, p .0 .few, p .0 .rise v (omega arith), p .0 .within v (omega arith))
 
 reaches-time-requires : tie.Need-reaches-time-requires Inv-loop μ-loop
-reaches-time-requires c κs = let l : c .before .before .before .loop .v < c .before .before .before .before .before .before .before .args .vars = omega arith in
-    (c .before .before .before .before .before .before .before .pre .0 .rise (c .before .before .before .loop .v) l, c .before .before .before .before .before .before .before .pre .0 .within (c .before .before .before .loop .v) l, unfold nextIn in all-wider (c .before .before .before .before .before .before .before .args .vars) 129 (nextIn (c .before .before .before .before .before .before .before .args .starts .now) (c .before .before .before .before .before .before .before .args .deps .now) (c .before .before .before .loop .v)) (c .before .before .before .before .before .before .before .pre .0 .few) (c .before .before .before .before .before .before .before .pre .0 .below (c .before .before .before .loop .v) l), c .before .before .before .before .before .before .before .pre .2)
+reaches-time-requires c κs =
+    let a = c .before .before .before .before .before .before .before .args in
+    let p = c .before .before .before .before .before .before .before .pre in
+    let l : c .before .before .before .loop .v < a .vars = omega arith in
+    (p .0 .rise (c .before .before .before .loop .v) l, p .0 .within (c .before .before .before .loop .v) l, unfold nextIn in all-wider (a .vars) 129 (nextIn (a .starts .now) (a .deps .now) (c .before .before .before .loop .v)) (p .0 .few) (p .0 .below (c .before .before .before .loop .v) l), p .2)
 
 mark-requires : tie.Need-mark-requires Inv-loop μ-loop
 mark-requires c κs = tt
@@ -55,10 +64,14 @@ loop-less : tie.Need-loop-less Inv-loop μ-loop
 loop-less c = omega arith
 
 loop-again : tie.Need-loop-again Inv-loop μ-loop
-loop-again c = (omega arith, simp length-set (c .before .before .before .before .before .loop .inv .1), round-more (c .before .before .before .before .before .before .before .before .before .args .starts .now) (c .before .before .before .before .before .before .before .before .before .args .deps .now) (c .before .before .before .before .before .before .before .before .before .args .vars) (c .before .before .before .before .before .before .before .before .before .args .old .now) (c .before .before .before .before .before .loop .new) (c .before .before .before .before .before .loop .v) (c .mark .result) (omega (arith, c .before .before .before .before .before .loop .inv .1, c .before .before .before .before .before .before .before .before .before .pre .0 .few)) (unfold nextIn in c .mark .ensures ∙ ap flag (c .before .reaches-time .ensures)) (c .before .before .before .before .before .loop .inv .2))
+loop-again c =
+    let a = c .before .before .before .before .before .before .before .before .before .args in
+    (omega arith, simp length-set (c .before .before .before .before .before .loop .inv .1), round-more (a .starts .now) (a .deps .now) (a .vars) (a .old .now) (c .before .before .before .before .before .loop .new) (c .before .before .before .before .before .loop .v) (c .mark .result) (omega (arith, c .before .before .before .before .before .loop .inv .1, c .before .before .before .before .before .before .before .before .before .pre .0 .few)) (unfold nextIn in c .mark .ensures ∙ ap flag (c .before .reaches-time .ensures)) (c .before .before .before .before .before .loop .inv .2))
 
 returns : tie.Need-returns Inv-loop μ-loop
-returns c = let e : c .before .loop .v ≡ c .before .before .before .before .before .args .vars = omega arith in record { mark = rw e at (c .before .loop .inv .2) }
+returns c =
+    let e : c .before .loop .v ≡ c .before .before .before .before .before .args .vars = omega arith in
+    record { mark = rw e at (c .before .loop .inv .2) }
 
 pub time-round-spec : {M : Type 1} → statement M
 time-round-spec =

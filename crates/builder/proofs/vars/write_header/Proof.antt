@@ -19,7 +19,9 @@ same-length c = search needs
 
 returns : tie.Need-returns
 unfolding headWords boundsFrom
-returns c = c .before .before .put-last-bounds .ensures ∙ put-more (c .before .before .before .before .before .before .before .before .before .before .before .args .area .now) _ (c .before .before .before .before .before .before .before .before .before .before .before .args .z .nodes ∷ c .before .before .before .before .before .before .before .before .before .before .before .args .z .stmts ∷ c .before .before .before .before .before .before .before .before .before .before .before .args .z .vars ∷ c .before .before .before .before .before .before .before .before .before .before .before .args .z .deps ∷ c .before .before .before .before .before .before .before .before .before .before .before .args .errors ∷ c .before .before .before .before .before .before .before .before .before .before .before .args .instances ∷ []) 0 24 refl (c .before .before .before .before .before .before .put-counts .ensures) _ (omega arith)
+returns c =
+    let a = c .before .before .before .before .before .before .before .before .before .before .before .args in
+    c .before .before .put-last-bounds .ensures ∙ put-more (a .area .now) _ (a .z .nodes ∷ a .z .stmts ∷ a .z .vars ∷ a .z .deps ∷ a .errors ∷ a .instances ∷ []) 0 24 refl (c .before .before .before .before .before .before .put-counts .ensures) _ (omega arith)
 
 pub write-header-spec : {M : Type 1} → statement M
 write-header-spec =

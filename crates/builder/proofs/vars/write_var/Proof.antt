@@ -51,7 +51,9 @@ shared-slice-read-put-lead-4 c = search needs
 
 put-lead-requires : tie.Need-put-lead-requires
 unfolding stmtsAt varsAt depsAt
-put-lead-requires c κs = (omega (arith, c .before .before .before .before .before .before .vars-at .ensures), c .before .before .before .before .before .before .before .before .before .before .before .before .before .before .pre .6 .rises (c .before .before .before .before .before .before .before .before .before .before .before .before .before .before .args .v) (c .before .before .before .before .before .before .before .before .before .before .before .before .before .before .pre .7))
+put-lead-requires c κs =
+    let p = c .before .before .before .before .before .before .before .before .before .before .before .before .before .before .pre in
+    (omega (arith, c .before .before .before .before .before .before .vars-at .ensures), p .6 .rises (c .before .before .before .before .before .before .before .before .before .before .before .before .before .before .args .v) (p .7))
 
 mul-put-var-bounds : tie.Need-mul-put-var-bounds
 mul-put-var-bounds c = search needs
@@ -68,16 +70,21 @@ add-put-var-bounds c = search needs
 
 put-var-bounds-requires : tie.Need-put-var-bounds-requires
 unfolding stmtsAt varsAt depsAt
-put-var-bounds-requires c κs = (c .before .before .before .before .before .before .before .before .before .before .before .before .before .before .before .before .before .before .before .pre .0, c .before .before .before .before .before .before .before .before .before .before .before .before .before .before .before .before .before .before .before .pre .1, c .before .before .before .before .before .before .before .before .before .before .before .before .before .before .before .before .before .before .before .pre .2, c .before .before .before .before .before .before .before .before .before .before .before .before .before .before .before .before .before .before .before .pre .3, omega (arith, c .before .before .before .before .before .before .before .before .before .before .before .vars-at .ensures, c .before .before .before .before .put-lead .kept .0, c .before .before .before .before .before .before .before .before .before .before .before .before .before .before .before .before .before .before .before .pre .4, c .before .before .before .before .before .before .before .before .before .before .before .before .before .before .before .before .before .before .before .pre .5, c .before .before .before .before .before .before .before .before .before .before .before .before .before .before .before .before .before .before .before .pre .7))
+put-var-bounds-requires c κs =
+    let p = c .before .before .before .before .before .before .before .before .before .before .before .before .before .before .before .before .before .before .before .pre in
+    (p .0, p .1, p .2, p .3, omega (arith, c .before .before .before .before .before .before .before .before .before .before .before .vars-at .ensures, c .before .before .before .before .put-lead .kept .0, p .4, p .5, p .7))
 
 same-length : tie.Need-same-length
 same-length c = search needs
 
 returns : tie.Need-returns
 unfolding stmtsAt varsAt depsAt varWords
-returns c = let e : c .before .before .before .before .before .before .before .before .before .before .before .before .before .before .vars-at .result + 48 * c .before .before .before .before .before .before .before .before .before .before .before .before .before .before .before .before .before .before .before .before .before .before .args .v ≡ varsAt (c .before .before .before .before .before .before .before .before .before .before .before .before .before .before .before .before .before .before .before .before .before .before .args .z) + 48 * c .before .before .before .before .before .before .before .before .before .before .before .before .before .before .before .before .before .before .before .before .before .before .args .v = omega (arith, c .before .before .before .before .before .before .before .before .before .before .before .before .before .before .vars-at .ensures) in
-    let l : varsAt (c .before .before .before .before .before .before .before .before .before .before .before .before .before .before .before .before .before .before .before .before .before .before .args .z) + 48 * c .before .before .before .before .before .before .before .before .before .before .before .before .before .before .before .before .before .before .before .before .before .before .args .v + 48 ≤ length (c .before .before .before .before .before .before .before .before .before .before .before .before .before .before .before .before .before .before .before .before .before .before .args .area .now) = omega (arith, c .before .before .before .before .before .before .before .before .before .before .before .before .before .before .before .before .before .before .before .before .before .before .pre .5, c .before .before .before .before .before .before .before .before .before .before .before .before .before .before .before .before .before .before .before .before .before .before .pre .7) in
-    lead-and-bounds (c .before .before .before .before .before .before .before .before .before .before .before .before .before .before .before .before .before .before .before .before .before .before .args .area .now) _ _ (c .before .before .before .before .before .before .before .before .before .before .before .before .before .before .vars-at .result + 48 * c .before .before .before .before .before .before .before .before .before .before .before .before .before .before .before .before .before .before .before .before .before .before .args .v) (varsAt (c .before .before .before .before .before .before .before .before .before .before .before .before .before .before .before .before .before .before .before .before .before .before .args .z) + 48 * c .before .before .before .before .before .before .before .before .before .before .before .before .before .before .before .before .before .before .before .before .before .before .args .v) _ _ _ _ _ _ _ _ _ _ e l (c .before .before .before .before .before .before .before .before .before .before .before .before .before .before .before .before .before .before .before .before .before .before .pre .8) (c .before .before .before .before .before .before .before .before .before .before .before .before .before .before .before .before .before .before .before .before .before .before .pre .9) (c .before .before .before .before .before .before .before .put-lead .ensures) (c .before .before .put-var-bounds .ensures)
+returns c =
+    let a = c .before .before .before .before .before .before .before .before .before .before .before .before .before .before .before .before .before .before .before .before .before .before .args in
+    let p = c .before .before .before .before .before .before .before .before .before .before .before .before .before .before .before .before .before .before .before .before .before .before .pre in
+    let e : c .before .before .before .before .before .before .before .before .before .before .before .before .before .before .vars-at .result + 48 * a .v ≡ varsAt (a .z) + 48 * a .v = omega (arith, c .before .before .before .before .before .before .before .before .before .before .before .before .before .before .vars-at .ensures) in
+    let l : varsAt (a .z) + 48 * a .v + 48 ≤ length (a .area .now) = omega (arith, p .5, p .7) in
+    lead-and-bounds (a .area .now) _ _ (c .before .before .before .before .before .before .before .before .before .before .before .before .before .before .vars-at .result + 48 * a .v) (varsAt (a .z) + 48 * a .v) _ _ _ _ _ _ _ _ _ _ e l (p .8) (p .9) (c .before .before .before .before .before .before .before .put-lead .ensures) (c .before .before .put-var-bounds .ensures)
 
 pub write-var-spec : {M : Type 1} → statement M
 write-var-spec =

@@ -43,12 +43,15 @@ slice-aggregate-note-fates-3 c = search needs
 
 note-fates-requires : tie.Need-note-fates-requires Inv-loop μ-loop
 unfolding stmtsAt varsAt depsAt
-note-fates-requires c κs = let a = c .before .before .before .before .before .before .before .before .before .before .before .before .before .before .args in
-    (c .before .before .before .before .before .before .before .before .before .before .before .before .before .before .pre .4, omega (arith, c .before .before .before .before .before .before .before .before .before .before .before .before .before .before .pre .5), fates-none (a .z .stmts) (stmtsAt (a .z)) (a .area .now) _ _ _ (c .before .before .before .before .before .before .no-fates .ensures) (c .before .before .before .before .before .no-fates2 .ensures) (c .before .before .before .before .no-fates3 .ensures))
+note-fates-requires c κs =
+    let p = c .before .before .before .before .before .before .before .before .before .before .before .before .before .before .pre in
+    let a = c .before .before .before .before .before .before .before .before .before .before .before .before .before .before .args in
+    (p .4, omega (arith, p .5), fates-none (a .z .stmts) (stmtsAt (a .z)) (a .area .now) _ _ _ (c .before .before .before .before .before .before .no-fates .ensures) (c .before .before .before .before .before .no-fates2 .ensures) (c .before .before .before .before .no-fates3 .ensures))
 
 loop-holds : tie.Need-loop-holds Inv-loop μ-loop
 unfolding stmtsAt varsAt depsAt
-loop-holds c = let a = c .before .before .before .before .before .before .before .before .before .before .before .before .before .before .before .before .before .before .args in
+loop-holds c =
+    let a = c .before .before .before .before .before .before .before .before .before .before .before .before .before .before .before .before .before .before .args in
     (omega arith, refl, rw (vars-none (fileIn (a .f .now) (a .s) .names) (modelAt (fileIn (a .f .now) (a .s)) (a .m) .unknowns) (section 8 (a .z .stmts) (stmtsAt (a .z)) (a .area .now)) (a .names .now) (a .starts .now) (a .indexes .now) (a .reach .now)) (sym (words-none (a .area .now) (varsAt (a .z)))))
 
 mul-holds : tie.Need-mul-holds Inv-loop μ-loop
@@ -65,7 +68,9 @@ array-read-initial c = omega (arith, c .if1 .taken, c .before .before .before .b
 
 write-var-requires : tie.Need-write-var-requires Inv-loop μ-loop
 unfolding stmtsAt varsAt depsAt
-write-var-requires c κs = let a = c .before .before .before .before .before .before .before .before .before .before .before .before .before .before .before .before .before .before .before .before .before .before .args in let p = c .before .before .before .before .before .before .before .before .before .before .before .before .before .before .before .before .before .before .before .before .before .before .pre in
+write-var-requires c κs =
+    let a = c .before .before .before .before .before .before .before .before .before .before .before .before .before .before .before .before .before .before .before .before .before .before .args in
+    let p = c .before .before .before .before .before .before .before .before .before .before .before .before .before .before .before .before .before .before .before .before .before .before .pre in
     let few : c .before .before .before .loop .v < 129 = omega (arith, c .before .if1 .taken, p .4 .vars) in
     let k : stmtsAt (a .z) + 32 * a .z .stmts ≤ varsAt (a .z) = omega arith in
     let b : varsAt (a .z) ≤ length (a .area .now) = omega (arith, p .5) in
@@ -80,7 +85,9 @@ loop-less c = omega (arith, c .before .before .before .before .if1 .taken)
 
 loop-again : tie.Need-loop-again Inv-loop μ-loop
 unfolding stmtsAt varsAt depsAt
-loop-again c = let a = c .before .before .before .before .before .before .before .before .before .before .before .before .before .before .before .before .before .before .before .before .before .before .before .before .before .args in let p = c .before .before .before .before .before .before .before .before .before .before .before .before .before .before .before .before .before .before .before .before .before .before .before .before .before .pre in
+loop-again c =
+    let a = c .before .before .before .before .before .before .before .before .before .before .before .before .before .before .before .before .before .before .before .before .before .before .before .before .before .args in
+    let p = c .before .before .before .before .before .before .before .before .before .before .before .before .before .before .before .before .before .before .before .before .before .before .before .before .before .pre in
     let l : varsAt (a .z) + 48 * c .before .before .before .before .before .before .loop .v ≤ length (a .area .now) = omega (arith, p .5, c .before .before .before .before .if1 .taken) in
     let k : stmtsAt (a .z) + 32 * a .z .stmts ≤ varsAt (a .z) = omega arith in
     let b : varsAt (a .z) ≤ length (a .area .now) = omega (arith, l) in
@@ -92,7 +99,9 @@ same-length c = c .before .before .loop .inv .1
 
 returns : tie.Need-returns Inv-loop μ-loop
 unfolding stmtsAt varsAt depsAt
-returns c = let e : c .before .before .loop .v ≡ c .before .before .before .before .before .before .before .before .before .before .before .before .before .before .before .before .before .before .before .before .before .args .z .vars = omega (arith, c .before .before .loop .inv .0, c .if1 .left) in rw (← e) (c .before .before .loop .inv .2)
+returns c =
+    let e : c .before .before .loop .v ≡ c .before .before .before .before .before .before .before .before .before .before .before .before .before .before .before .before .before .before .before .before .before .args .z .vars = omega (arith, c .before .before .loop .inv .0, c .if1 .left) in
+    rw (← e) (c .before .before .loop .inv .2)
 
 pub write-vars-spec : {M : Type 1} → statement M
 write-vars-spec =

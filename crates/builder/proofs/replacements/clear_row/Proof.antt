@@ -4,8 +4,8 @@ use Prim.Native.Nat.{_-_, _≤_, _<_}
 use lib.ListN.{length, take, drop, replicate, length-set}
 use Rattle.builder.proofs.Outputs.{drop-step}
 use Rattle.builder.proofs.Replacing.{zeros-more, zeros-front}
-use Rattle.builder.proofs.flatten.clear_row.Statement.{statement}
-use Rattle.builder.proofs.flatten.clear_row.Tie as tie
+use Rattle.builder.proofs.replacements.clear_row.Statement.{statement}
+use Rattle.builder.proofs.replacements.clear_row.Tie as tie
 
 abbrev Inv-loop : tie.InvT-loop
 Inv-loop row₀ n i₀ row i = (i ≤ n) × (length row ≡ length row₀) × (take i row ≡ replicate i 0) × (drop i row ≡ drop i row₀)
@@ -29,7 +29,8 @@ loop-less : tie.Need-loop-less Inv-loop μ-loop
 loop-less c = omega arith
 
 loop-again : tie.Need-loop-again Inv-loop μ-loop
-loop-again c = let inv = c .before .loop .inv in
+loop-again c =
+    let inv = c .before .loop .inv in
     let l : c .before .loop .i < length (c .before .loop .row) = omega arith in
     (omega arith, simp length-set (inv .1), zeros-more _ _ l (inv .2), drop-step (c .before .loop .row) (c .before .before .args .row .now) (c .before .loop .i) 0 (inv .3))
 
@@ -37,7 +38,8 @@ same-length : tie.Need-same-length Inv-loop μ-loop
 same-length c = c .before .loop .inv .1
 
 returns : tie.Need-returns Inv-loop μ-loop
-returns c = let inv = c .before .loop .inv in
+returns c =
+    let inv = c .before .loop .inv in
     let e : c .before .loop .i ≡ c .before .before .args .n = omega arith in
     rw e at (zeros-front (c .before .before .args .row .now) (c .before .loop .row) (c .before .loop .i) (inv .2) (inv .3))
 

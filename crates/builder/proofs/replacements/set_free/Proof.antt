@@ -4,8 +4,8 @@ use lib.Dec.{eqb}
 use lib.ListN.{getD}
 use borrow.Author.Tests.{eq-eqb, ne-eqb}
 use borrow.Author.Needs.{needs}
-use Rattle.builder.proofs.flatten.set_free.Statement.{statement}
-use Rattle.builder.proofs.flatten.set_free.Tie as tie
+use Rattle.builder.proofs.replacements.set_free.Statement.{statement}
+use Rattle.builder.proofs.replacements.set_free.Tie as tie
 
 mul-if1 : tie.Need-mul-if1
 mul-if1 c = search needs
@@ -23,10 +23,14 @@ same-length : tie.Need-same-length
 same-length c = search needs
 
 returns : tie.Need-returns
-returns c = let e : eqb (getD (c .before .before .args .row .now) (c .before .before .args .j) 0) 0 ≡ true = eq-eqb _ _ (c .if1 .taken) in rw e
+returns c =
+    let e : eqb (getD (c .before .before .args .row .now) (c .before .before .args .j) 0) 0 ≡ true = eq-eqb _ _ (c .if1 .taken) in
+    rw e
 
 returns-2 : tie.Need-returns-2
-returns-2 c = let e : eqb (getD (c .before .before .args .row .now) (c .before .before .args .j) 0) 0 ≡ false = ne-eqb _ _ (c .if1 .left) in rw e
+returns-2 c =
+    let e : eqb (getD (c .before .before .args .row .now) (c .before .before .args .j) 0) 0 ≡ false = ne-eqb _ _ (c .if1 .left) in
+    rw e
 
 pub set-free-spec : {M : Type 1} → statement M
 set-free-spec =

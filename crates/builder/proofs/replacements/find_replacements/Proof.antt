@@ -2,8 +2,8 @@ use native.Mathlib.Omega.{arith}
 use Prim.Native.Nat.{_+_, _*_, _-_}
 use Rattle.builder.proofs.Replacing.{row-taken, row-lent}
 use borrow.Author.Needs.{needs}
-use Rattle.builder.proofs.flatten.find_replacements.Statement.{statement}
-use Rattle.builder.proofs.flatten.find_replacements.Tie as tie
+use Rattle.builder.proofs.replacements.find_replacements.Statement.{statement}
+use Rattle.builder.proofs.replacements.find_replacements.Tie as tie
 
 mul-from : tie.Need-mul-from
 mul-from c = search needs
@@ -24,13 +24,19 @@ part-new-row-end : tie.Need-part-new-row-end
 part-new-row-end c = search needs
 
 new-row-requires : tie.Need-new-row-requires
-new-row-requires c κs = let p = c .before .before .before .pre in (p .0, p .1, p .2, search needs, row-taken _ _ _ (c .before .before .before .args .level) (p .3 .2) (256 * c .before .before .before .args .level + 256 - 256 * c .before .before .before .args .level) (omega arith))
+new-row-requires c κs =
+    let a = c .before .before .before .args in
+    let p = c .before .before .before .pre in
+    (p .0, p .1, p .2, search needs, row-taken _ _ _ (a .level) (p .3 .2) (256 * a .level + 256 - 256 * a .level) (omega arith))
 
 same-length : tie.Need-same-length
 same-length c = search needs
 
 returns : tie.Need-returns
-returns c = let p = c .before .before .before .before .before .before .pre in row-lent _ _ (c .before .before .before .before .before .before .args .rows .now) (c .before .before .before .before .before .before .args .level) (p .3 .2) _ (256 * c .before .before .before .before .before .before .args .level + 256 - 256 * c .before .before .before .before .before .before .args .level) _ (omega arith) (omega arith) (c .before .before .new-row .ensures)
+returns c =
+    let a = c .before .before .before .before .before .before .args in
+    let p = c .before .before .before .before .before .before .pre in
+    row-lent _ _ (a .rows .now) (a .level) (p .3 .2) _ (256 * a .level + 256 - 256 * a .level) _ (omega arith) (omega arith) (c .before .before .new-row .ensures)
 
 pub find-replacements-spec : {M : Type 1} → statement M
 find-replacements-spec =
