@@ -83,9 +83,9 @@ module _ (f : List ℕ) (s : Sections) (m : ℕ) (classes names numbers starts i
 
   -- ---- errors
 
-  module _ (rules calls : List ℕ) (i : ℕ) (ei : i ≡ instances (fileIn f s) (length (fileIn f s .models)) m) (hi : i ≤ 1024) where
-    pub errors-needs : (b : List ℕ) → checking.Tabled f s classes rules calls → Fated (fileIn f s) m z b
-        → checking.Tabled f s classes rules calls × (m < s .counts .models) × (z .vars ≤ length names) × Righted b z × ((n : ℕ) × Flattened n b z) × Tabled z numbers indexes × (129 ≤ length rates) × (length (errorsOf (fileIn f s) (length (fileIn f s .models)) m) < 2 ^ 32)
+  module _ (calls : List ℕ) (i : ℕ) (ei : i ≡ instances (fileIn f s) (length (fileIn f s .models)) m) (hi : i ≤ 1024) where
+    pub errors-needs : (b : List ℕ) → checking.Called f s classes calls → Fated (fileIn f s) m z b
+        → checking.Called f s classes calls × (m < s .counts .models) × (z .vars ≤ length names) × Righted b z × ((n : ℕ) × Flattened n b z) × Tabled z numbers indexes × (129 ≤ length rates) × (length (errorsOf (fileIn f s) (length (fileIn f s .models)) m) < 2 ^ 32)
     errors-needs b t u =
         (t, k .model, omega (arith, k .listing .room, k .listing .few), righted (fileIn f s) m z b (k .sizes) u, (s .counts .names, fated-flattened f s m z b (k .is-open) (k .sizes) u), tabled f s m classes names numbers starts indexes reach rates z k, omega (arith, k .tables .rates-long), omega (arith, errors-few f s (k .is-open) i m ei hi))
 

@@ -116,6 +116,6 @@ module _ (f : List ℕ) (s : Sections) (m n q : ℕ) (r : Roster) (en : n ≡ su
         }
 
     -- and all
-    pub model-known : (classes rules calls : List ℕ) → checking.Tabled f s classes rules calls → length classes ≡ 256 → m < s .counts .models
+    pub model-known : (classes calls : List ℕ) → checking.Called f s classes calls → length classes ≡ 256 → m < s .counts .models
         → Known f s m classes (r .names) (r .numbers) (t .starts) (t .indexes) (t .reach) (t .rates) (record { nodes = n; stmts = q; vars = r .count; deps = getD (t .starts) (r .count) 0 })
-    model-known classes rules calls a l k = record { is-open = o; model = k; classed = a .classes; classes-long = l; listing = v; tables = w; sizes = sizes-known }
+    model-known classes calls a l k = record { is-open = o; model = k; classed = a .classes; classes-long = l; listing = v; tables = w; sizes = sizes-known }

@@ -70,7 +70,13 @@ pub record Against (f : List ℕ) (s : Sections) (m : ℕ) (cs rs vs : List ℕ)
   pub classes : Classes (scopeIn f s m .names) cs
   pub rules : RuleNumbers (scopeIn f s m .names) rs
 
--- The tables that the models of a file are checked with: the classes and rules of the names, and the models that the statements call.
+-- The classes of the names, and the models that the statements call.
+pub record Called (f : List ℕ) (s : Sections) (cs ts : List ℕ) : Type 0 where
+  pub opened : Open f s
+  pub classes : Classes (fileIn f s .names) cs
+  pub callees : Callees f s ts
+
+-- The tables that the models of a file are checked with: these, and the rules of the names.
 pub record Tabled (f : List ℕ) (s : Sections) (cs rs ts : List ℕ) : Type 0 where
   pub opened : Open f s
   pub classes : Classes (fileIn f s .names) cs

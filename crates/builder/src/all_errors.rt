@@ -11,6 +11,7 @@ ghost use Rattle.builder.specs.Root.{errorsBy};
 use super::allocate::roles_errors;
 use super::allocation::Left;
 use super::builder::builder;
+use super::names::rules;
 use super::places::Sizes;
 use super::places::errors_at;
 use super::starting::count_errors;
@@ -22,34 +23,24 @@ fn models_errors(
     f: &[u8],
     s: Sections,
     classes: &[u8; 256],
-    rules: &[u8; 256],
     calls: &[u8; 256],
     m: usize,
     own: &mut [u8],
     z: Sizes,
 ) -> usize
-    requires { ⌜ checking.Tabled (now f) s (now classes) (now rules) (now calls) × (m < s .counts .models) × Small z × (errorsAt z + 4096 ≤ length (now own)) × (length (errorsOf (fileIn (now f) s) (length (fileIn (now f) s .models)) m) < 2 ^ 32) ⌝ }
+    requires { ⌜ checking.Called (now f) s (now classes) (now calls) × (m < s .counts .models) × Small z × (errorsAt z + 4096 ≤ length (now own)) × (length (errorsOf (fileIn (now f) s) (length (fileIn (now f) s .models)) m) < 2 ^ 32) ⌝ }
     ensures { λ r. ⌜ ListsAt (errorsAt z) (now (own .entry)) 0 (errorsOf (fileIn (now (f .entry)) s) (length (fileIn (now (f .entry)) s .models)) m) r (now (own .exit)) ⌝ }
 {
     let at = errors_at(z);
-    builder(
-        f,
-        s,
-        classes,
-        rules,
-        calls,
-        s.counts.models,
-        m,
-        &mut own[at..],
-        0,
-    )
+    let counts = rules(f, s);
+    let k = s.counts.models;
+    builder(f, s, classes, &counts, calls, k, m, &mut own[at..], 0)
 }
 
 pub fn all_errors(
     f: &[u8],
     s: Sections,
     classes: &[u8; 256],
-    rules: &[u8; 256],
     calls: &[u8; 256],
     m: usize,
     names: &[u32],
@@ -61,10 +52,10 @@ pub fn all_errors(
     lower: u64,
     left: Left,
 ) -> usize
-    requires { ⌜ checking.Tabled (now f) s (now classes) (now rules) (now calls) × (m < s .counts .models) × (z .vars ≤ length (now names)) × Righted (now own) z × ((count : ℕ) × Flattened count (now own) z) × Tabled z (now numbers) (now indexes) × (129 ≤ length (now rates)) × (length (errorsOf (fileIn (now f) s) (length (fileIn (now f) s .models)) m) < 2 ^ 32) ⌝ }
+    requires { ⌜ checking.Called (now f) s (now classes) (now calls) × (m < s .counts .models) × (z .vars ≤ length (now names)) × Righted (now own) z × ((count : ℕ) × Flattened count (now own) z) × Tabled z (now numbers) (now indexes) × (129 ≤ length (now rates)) × (length (errorsOf (fileIn (now f) s) (length (fileIn (now f) s .models)) m) < 2 ^ 32) ⌝ }
     ensures { λ r. ⌜ ListsAt (errorsAt z) (now (own .entry)) 0 (errorsBy (now (own .entry)) z (now (numbers .entry)) (now (indexes .entry)) (now (rates .entry)) lower (fileIn (now (f .entry)) s) m (now (names .entry)) (left .stmts) (left .states)) r (now (own .exit)) ⌝ }
 {
-    let built = models_errors(f, s, classes, rules, calls, m, own, z);
+    let built = models_errors(f, s, classes, calls, m, own, z);
     let stated = roles_errors(own, z, numbers, indexes, rates, lower, built);
     let counted = count_errors(f, s, m, own, z, left.stmts, left.states, stated);
     starting_errors(f, s, m, names, own, z, counted)

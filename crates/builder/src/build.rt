@@ -19,7 +19,6 @@ use super::measure::measure;
 use super::models::callees;
 use super::models::find_root;
 use super::names::classes;
-use super::names::rules;
 use super::output::clear;
 use super::output::hand_out;
 use super::output::refuse;
@@ -42,10 +41,7 @@ fn answer_with(
 {
     match measure(f, s, kinds, calls, rows, m) {
         Measured::Refused(number) => Answered::Refused(number),
-        Measured::Sized(i, q, n) => {
-            let counts = rules(f, s);
-            fill(f, s, kinds, &counts, calls, rows, m, own, i, q, n)
-        }
+        Measured::Sized(i, q, n) => fill(f, s, kinds, calls, rows, m, own, i, q, n),
     }
 }
 

@@ -55,7 +55,6 @@ fn finish(
     f: &[u8],
     s: Sections,
     classes: &[u8; 256],
-    rules: &[u8; 256],
     calls: &[u8; 256],
     m: usize,
     own: &mut [u8],
@@ -70,14 +69,13 @@ fn finish(
     lower: u64,
     left: Left,
 ) -> usize
-    requires { ⌜ Known (now f) s m (now classes) (now names) (now numbers) (now starts) (now indexes) (now reach) (now rates) z × checking.Tabled (now f) s (now classes) (now rules) (now calls) × Varied (fileIn (now f) s) m z (now own) × ((i ≡ instances (fileIn (now f) s) (length (fileIn (now f) s .models)) m) × (i ≤ 1024) × (lower ≡ timeAt (fileIn (now f) s) m .lower)) × ((left .stmts ≡ leftCount (rolesAt (fileIn (now f) s) m)) × (left .states ≡ length (lacking (scopeAt (fileIn (now f) s) m .vars) (rolesAt (fileIn (now f) s) m)))) ⌝ }
+    requires { ⌜ Known (now f) s m (now classes) (now names) (now numbers) (now starts) (now indexes) (now reach) (now rates) z × checking.Called (now f) s (now classes) (now calls) × Varied (fileIn (now f) s) m z (now own) × ((i ≡ instances (fileIn (now f) s) (length (fileIn (now f) s .models)) m) × (i ≤ 1024) × (lower ≡ timeAt (fileIn (now f) s) m .lower)) × ((left .stmts ≡ leftCount (rolesAt (fileIn (now f) s) m)) × (left .states ≡ length (lacking (scopeAt (fileIn (now f) s) m .vars) (rolesAt (fileIn (now f) s) m)))) ⌝ }
     ensures { λ u. ⌜ (take u (now (own .exit)) ≡ answerBytes (answerAt (fileIn (now (f .entry)) s) m)) × (u ≤ 55384) ⌝ }
 {
     let errors = all_errors(
         f,
         s,
         classes,
-        rules,
         calls,
         m,
         names,
@@ -98,7 +96,6 @@ fn write_answer(
     f: &[u8],
     s: Sections,
     classes: &[u8; 256],
-    rules: &[u8; 256],
     calls: &[u8; 256],
     m: usize,
     own: &mut [u8],
@@ -112,7 +109,7 @@ fn write_answer(
     i: usize,
     lower: u64,
 ) -> usize
-    requires { ⌜ Known (now f) s m (now classes) (now names) (now numbers) (now starts) (now indexes) (now reach) (now rates) z × checking.Tabled (now f) s (now classes) (now rules) (now calls) × Unfated (fileIn (now f) s) m z (now own) × (i ≡ instances (fileIn (now f) s) (length (fileIn (now f) s .models)) m) × (i ≤ 1024) × (lower ≡ timeAt (fileIn (now f) s) m .lower) ⌝ }
+    requires { ⌜ Known (now f) s m (now classes) (now names) (now numbers) (now starts) (now indexes) (now reach) (now rates) z × checking.Called (now f) s (now classes) (now calls) × Unfated (fileIn (now f) s) m z (now own) × (i ≡ instances (fileIn (now f) s) (length (fileIn (now f) s .models)) m) × (i ≤ 1024) × (lower ≡ timeAt (fileIn (now f) s) m .lower) ⌝ }
     ensures { λ u. ⌜ (take u (now (own .exit)) ≡ answerBytes (answerAt (fileIn (now (f .entry)) s) m)) × (u ≤ 55384) ⌝ }
 {
     let left = allocate_stmts(own, z, numbers, starts, indexes, rates, lower);
@@ -121,7 +118,6 @@ fn write_answer(
         f,
         s,
         classes,
-        rules,
         calls,
         m,
         own,
@@ -143,7 +139,6 @@ fn answer_laid(
     f: &[u8],
     s: Sections,
     classes: &[u8; 256],
-    rules: &[u8; 256],
     calls: &[u8; 256],
     m: usize,
     own: &mut [u8],
@@ -156,7 +151,7 @@ fn answer_laid(
     z: Sizes,
     i: usize,
 ) -> Answered
-    requires { ⌜ Known (now f) s m (now classes) (now names) (now numbers) (now starts) (now indexes) (now reach) (now rates) z × checking.Tabled (now f) s (now classes) (now rules) (now calls) × Unfated (fileIn (now f) s) m z (now own) × (i ≡ instances (fileIn (now f) s) (length (fileIn (now f) s .models)) m) × (i ≤ 1024) ⌝ }
+    requires { ⌜ Known (now f) s m (now classes) (now names) (now numbers) (now starts) (now indexes) (now reach) (now rates) z × checking.Called (now f) s (now classes) (now calls) × Unfated (fileIn (now f) s) m z (now own) × (i ≡ instances (fileIn (now f) s) (length (fileIn (now f) s .models)) m) × (i ≤ 1024) ⌝ }
     ensures { λ a. ⌜ (given a (now (own .exit)) ≡ bytesIn (cond (anyShort (scopeAt (fileIn (now (f .entry)) s) m) (flatsOf (fileIn (now (f .entry)) s) m)) (refusal shortLeftSide) (accepted (answerAt (fileIn (now (f .entry)) s) m)))) × (usedIn a ≤ 55384) ⌝ }
 {
     let lower = time_lower(f, s, classes, m, own, names[0] as usize);
@@ -167,7 +162,6 @@ fn answer_laid(
         f,
         s,
         classes,
-        rules,
         calls,
         m,
         own,
@@ -188,7 +182,6 @@ fn fill_by(
     f: &[u8],
     s: Sections,
     classes: &[u8; 256],
-    rules: &[u8; 256],
     calls: &[u8; 256],
     rows: &mut [u32],
     m: usize,
@@ -203,7 +196,7 @@ fn fill_by(
     reach: &mut [u8],
     rate: &mut [u8],
 ) -> Answered
-    requires { ⌜ checking.Tabled (now f) s (now classes) (now rules) (now calls) × (length (now classes) ≡ 256) × (m < s .counts .models) × ((256 * s .counts .models ≤ length (now rows)) × RowsIn (now f) s (now rows)) × (length (now own) ≡ 55384) × ((i ≡ instances (fileIn (now f) s) (length (fileIn (now f) s .models)) m) × (q ≡ length (flatsOf (fileIn (now f) s) m)) × (n ≡ sumOf flatSize (flatsOf (fileIn (now f) s) m)) × (tooBig (fileIn (now f) s) m (flatsOf (fileIn (now f) s) m) ≡ false)) × (length (now names) ≡ 129) × (length (now numbers) ≡ 256) × ((j : ℕ) → getD (now numbers) j 0 ≡ 0) × NoTables (now starts) (now index) (now reach) (now rate) ⌝ }
+    requires { ⌜ checking.Called (now f) s (now classes) (now calls) × (length (now classes) ≡ 256) × (m < s .counts .models) × ((256 * s .counts .models ≤ length (now rows)) × RowsIn (now f) s (now rows)) × (length (now own) ≡ 55384) × ((i ≡ instances (fileIn (now f) s) (length (fileIn (now f) s .models)) m) × (q ≡ length (flatsOf (fileIn (now f) s) m)) × (n ≡ sumOf flatSize (flatsOf (fileIn (now f) s) m)) × (tooBig (fileIn (now f) s) m (flatsOf (fileIn (now f) s) m) ≡ false)) × (length (now names) ≡ 129) × (length (now numbers) ≡ 256) × ((j : ℕ) → getD (now numbers) j 0 ≡ 0) × NoTables (now starts) (now index) (now reach) (now rate) ⌝ }
     ensures { λ a. ⌜ (given a (now (own .exit)) ≡ bytesIn (cond (anyShort (scopeAt (fileIn (now (f .entry)) s) m) (flatsOf (fileIn (now (f .entry)) s) m)) (refusal shortLeftSide) (accepted (answerAt (fileIn (now (f .entry)) s) m)))) × (usedIn a ≤ 55384) ⌝ }
 {
     let vars = roster_of(f, s, classes, m, names, numbers);
@@ -233,7 +226,6 @@ fn fill_by(
         f,
         s,
         classes,
-        rules,
         calls,
         m,
         own,
@@ -253,7 +245,6 @@ pub fn fill(
     f: &[u8],
     s: Sections,
     classes: &[u8; 256],
-    rules: &[u8; 256],
     calls: &[u8; 256],
     rows: &mut [u32],
     m: usize,
@@ -262,7 +253,7 @@ pub fn fill(
     q: usize,
     n: usize,
 ) -> Answered
-    requires { ⌜ checking.Tabled (now f) s (now classes) (now rules) (now calls) × (length (now classes) ≡ 256) × (m < s .counts .models) × ((256 * s .counts .models ≤ length (now rows)) × RowsIn (now f) s (now rows)) × (length (now own) ≡ 55384) × ((i ≡ instances (fileIn (now f) s) (length (fileIn (now f) s .models)) m) × (q ≡ length (flatsOf (fileIn (now f) s) m)) × (n ≡ sumOf flatSize (flatsOf (fileIn (now f) s) m)) × (tooBig (fileIn (now f) s) m (flatsOf (fileIn (now f) s) m) ≡ false)) ⌝ }
+    requires { ⌜ checking.Called (now f) s (now classes) (now calls) × (length (now classes) ≡ 256) × (m < s .counts .models) × ((256 * s .counts .models ≤ length (now rows)) × RowsIn (now f) s (now rows)) × (length (now own) ≡ 55384) × ((i ≡ instances (fileIn (now f) s) (length (fileIn (now f) s .models)) m) × (q ≡ length (flatsOf (fileIn (now f) s) m)) × (n ≡ sumOf flatSize (flatsOf (fileIn (now f) s) m)) × (tooBig (fileIn (now f) s) m (flatsOf (fileIn (now f) s) m) ≡ false)) ⌝ }
     ensures { λ a. ⌜ (given a (now (own .exit)) ≡ bytesIn (cond (anyShort (scopeAt (fileIn (now (f .entry)) s) m) (flatsOf (fileIn (now (f .entry)) s) m)) (refusal shortLeftSide) (accepted (answerAt (fileIn (now (f .entry)) s) m)))) × (usedIn a ≤ 55384) ⌝ }
 {
     let mut names = no_variables();
@@ -275,7 +266,6 @@ pub fn fill(
         f,
         s,
         classes,
-        rules,
         calls,
         rows,
         m,

@@ -63,14 +63,14 @@ lay-deps-requires c κs =
     let v = c .before .before .before .before .before .before .before .before .before .before .before .before .before .before .before .before .before .before .roster-of .ensures in
     (p .0 .opened, p .2, v, deps-room (a .f .now) (a .s) (a .m) (a .n) (a .q) _ (p .5 .2) (p .5 .1) (p .5 .3) v (a .own .now) _ (p .4) (c .before .before .before .before .before .before .before .before .before .before .before .lay-flats .ensures), p .9)
 
-mul-t34 : tie.Need-mul-t34
-mul-t34 c = search needs
+mul-t33 : tie.Need-mul-t33
+mul-t33 c = search needs
 
-slice-read-t50 : tie.Need-slice-read-t50
-slice-read-t50 c = search needs
+slice-read-t49 : tie.Need-slice-read-t49
+slice-read-t49 c = search needs
 
-cast-t30 : tie.Need-cast-t30
-cast-t30 c =
+cast-t29 : tie.Need-cast-t29
+cast-t29 c =
     let a = c .before .before .before .before .before .before .before .before .before .before .before .before .before .before .before .before .before .before .before .before .before .before .before .before .before .before .before .before .before .before .before .before .before .before .before .before .before .before .before .before .before .before .args in
     let p = c .before .before .before .before .before .before .before .before .before .before .before .before .before .before .before .before .before .before .before .before .before .before .before .before .before .before .before .before .before .before .before .before .before .before .before .before .before .before .before .before .before .before .pre in
     let v = c .before .before .before .before .before .before .before .before .before .before .before .before .before .before .before .before .before .before .before .before .before .before .before .before .before .before .before .before .before .before .roster-of .ensures in
@@ -84,7 +84,7 @@ answer-laid-requires c κs =
     let v = c .before .before .before .before .before .before .before .before .before .before .before .before .before .before .before .before .before .before .before .before .before .before .before .before .before .before .before .before .before .before .before .before .before .before .before .before .before .roster-of .ensures in
     let w = c .before .before .before .before .before .before .before .before .before .before .before .before .before .before .before .before .before .before .lay-deps .ensures in
     let (i, n, q) = few-flats (fileIn (a .f .now) (a .s)) (a .m) (flatsOf (fileIn (a .f .now) (a .s)) (a .m)) (p .5 .3) in
-    (model-known (a .f .now) (a .s) (a .m) (a .n) (a .q) _ (p .5 .2) (p .5 .1) (p .5 .3) v (p .0 .opened) _ (w .0) _ _ _ (p .0) (p .1) (p .2), p .0, laid-out (fileIn (a .f .now) (a .s)) (a .m) _ (a .own .now) _ _ (sizes-known (a .f .now) (a .s) (a .m) (a .n) (a .q) _ (p .5 .2) (p .5 .1) (p .5 .3) v (p .0 .opened) _ (w .0)) (p .4) (c .before .before .before .before .before .before .before .before .before .before .before .before .before .before .before .before .before .before .before .before .before .before .before .before .before .before .before .before .before .before .lay-flats .ensures) (w .1), p .5 .0, omega (arith, i, p .5 .0))
+    (model-known (a .f .now) (a .s) (a .m) (a .n) (a .q) _ (p .5 .2) (p .5 .1) (p .5 .3) v (p .0 .opened) _ (w .0) _ _ (p .0) (p .1) (p .2), p .0, laid-out (fileIn (a .f .now) (a .s)) (a .m) _ (a .own .now) _ _ (sizes-known (a .f .now) (a .s) (a .m) (a .n) (a .q) _ (p .5 .2) (p .5 .1) (p .5 .3) v (p .0 .opened) _ (w .0)) (p .4) (c .before .before .before .before .before .before .before .before .before .before .before .before .before .before .before .before .before .before .before .before .before .before .before .before .before .before .before .before .before .before .lay-flats .ensures) (w .1), p .5 .0, omega (arith, i, p .5 .0))
 
 same-length : tie.Need-same-length
 same-length c = omega (arith, c .before .before .before .before .before .before .before .before .before .before .before .before .before .before .before .before .before .before .before .before .before .before .before .before .before .before .before .before .before .before .before .before .rows .given)
@@ -130,9 +130,9 @@ fill-by-spec =
     mul-at-3
     add-at-3
     lay-deps-requires
-    mul-t34
-    slice-read-t50
-    cast-t30
+    mul-t33
+    slice-read-t49
+    cast-t29
     answer-laid-requires
     same-length
     same-length-2

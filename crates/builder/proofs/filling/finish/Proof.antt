@@ -8,7 +8,7 @@ all-errors-requires : tie.Need-all-errors-requires
 all-errors-requires c κs =
     let a = c .before .before .before .before .before .before .before .before .before .args in
     let p = c .before .before .before .before .before .before .before .before .before .pre in
-    errors-needs (a .f .now) (a .s) (a .m) (a .classes .now) (a .names .now) (a .numbers .now) (a .starts .now) (a .indexes .now) (a .reach .now) (a .rates .now) (a .z) (p .0) (a .rules .now) (a .calls .now) (a .i) (p .3 .0) (p .3 .1) (a .own .now) (p .1) (p .2 .0)
+    errors-needs (a .f .now) (a .s) (a .m) (a .classes .now) (a .names .now) (a .numbers .now) (a .starts .now) (a .indexes .now) (a .reach .now) (a .rates .now) (a .z) (p .0) (a .calls .now) (a .i) (p .3 .0) (p .3 .1) (a .own .now) (p .1) (p .2 .0)
 
 shared-slice-read-write-header : tie.Need-shared-slice-read-write-header
 shared-slice-read-write-header c = search needs
@@ -20,7 +20,7 @@ write-header-requires : tie.Need-write-header-requires
 write-header-requires c κs =
     let a = c .before .before .before .before .before .before .before .before .before .before .before .before .before .before .before .args in
     let p = c .before .before .before .before .before .before .before .before .before .before .before .before .before .before .before .pre in
-    header-needs (a .f .now) (a .s) (a .m) (a .classes .now) (a .names .now) (a .numbers .now) (a .starts .now) (a .indexes .now) (a .reach .now) (a .rates .now) (a .z) (p .0) (a .rules .now) (a .calls .now) (a .i) (p .3 .0) (p .3 .1) (a .lower) (p .3 .2) (a .left .stmts) (a .left .states) (p .4 .0) (p .4 .1) (a .own .now) (c .before .before .before .before .before .all-errors .last .1 .1 .1 .1 .1 .1 .1 .0) (c .before .before .before .before .before .all-errors .result) (p .2) (c .before .before .before .before .before .all-errors .ensures)
+    header-needs (a .f .now) (a .s) (a .m) (a .classes .now) (a .names .now) (a .numbers .now) (a .starts .now) (a .indexes .now) (a .reach .now) (a .rates .now) (a .z) (p .0) (a .calls .now) (a .i) (p .3 .0) (p .3 .1) (a .lower) (p .3 .2) (a .left .stmts) (a .left .states) (p .4 .0) (p .4 .1) (a .own .now) (c .before .before .before .before .before .all-errors .last .1 .1 .1 .1 .1 .1 .0) (c .before .before .before .before .before .all-errors .result) (p .2) (c .before .before .before .before .before .all-errors .ensures)
 
 bytes-used-requires : tie.Need-bytes-used-requires
 bytes-used-requires c κs = c .before .before .before .before .before .before .before .before .before .before .before .before .before .before .before .before .before .before .pre .0 .sizes .small
@@ -32,7 +32,7 @@ returns : tie.Need-returns
 returns c =
     let a = c .before .before .before .before .before .before .before .before .before .before .before .before .before .before .before .before .before .before .before .args in
     let p = c .before .before .before .before .before .before .before .before .before .before .before .before .before .before .before .before .before .before .before .pre in
-    finished (a .f .now) (a .s) (a .m) (a .classes .now) (a .names .now) (a .numbers .now) (a .starts .now) (a .indexes .now) (a .reach .now) (a .rates .now) (a .z) (p .0) (a .rules .now) (a .calls .now) (a .i) (p .3 .0) (p .3 .1) (a .lower) (p .3 .2) (a .left .stmts) (a .left .states) (p .4 .0) (p .4 .1) (a .own .now) (c .before .before .before .before .before .before .before .before .before .all-errors .last .1 .1 .1 .1 .1 .1 .1 .0) (c .before .before .before .before .before .before .before .before .before .all-errors .result) (p .2) (c .before .before .before .before .before .before .before .before .before .all-errors .ensures) (c .before .before .before .write-header .last .1 .1 .1 .1 .0) (c .bytes-used .result) (c .before .before .before .write-header .ensures) (c .bytes-used .ensures)
+    finished (a .f .now) (a .s) (a .m) (a .classes .now) (a .names .now) (a .numbers .now) (a .starts .now) (a .indexes .now) (a .reach .now) (a .rates .now) (a .z) (p .0) (a .calls .now) (a .i) (p .3 .0) (p .3 .1) (a .lower) (p .3 .2) (a .left .stmts) (a .left .states) (p .4 .0) (p .4 .1) (a .own .now) (c .before .before .before .before .before .before .before .before .before .all-errors .last .1 .1 .1 .1 .1 .1 .0) (c .before .before .before .before .before .before .before .before .before .all-errors .result) (p .2) (c .before .before .before .before .before .before .before .before .before .all-errors .ensures) (c .before .before .before .write-header .last .1 .1 .1 .1 .0) (c .bytes-used .result) (c .before .before .before .write-header .ensures) (c .bytes-used .ensures)
 
 pub finish-spec : {M : Type 1} → statement M
 finish-spec =
