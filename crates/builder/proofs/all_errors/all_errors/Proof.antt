@@ -11,19 +11,25 @@ roles-errors-requires : tie.Need-roles-errors-requires
 roles-errors-requires c κs =
     let a = c .before .before .before .before .before .before .before .before .before .before .before .args in
     let p = c .before .before .before .before .before .before .before .before .before .before .before .pre in
-    (flattened-after (a .z) (a .own .now) (c .before .before .before .models-errors .last .1 .1 .1 .1 .1 .0) 0 (c .before .before .before .models-errors .result) _ (p .3) (c .before .before .before .models-errors .ensures) (p .4), p .5, p .6, room-after (a .z) (a .own .now) (c .before .before .before .models-errors .last .1 .1 .1 .1 .1 .0) 0 (c .before .before .before .models-errors .result) _ (p .3) (c .before .before .before .models-errors .ensures), built-few (a .z) (a .own .now) (c .before .before .before .models-errors .last .1 .1 .1 .1 .1 .0) (fileIn (a .f .now) (a .s)) (a .m) (c .before .before .before .models-errors .result) (p .3) (c .before .before .before .models-errors .ensures) (p .7))
+    let models-errors = c .before .before .before .models-errors in
+    (flattened-after (a .z) (a .own .now) (models-errors .last .1 .1 .1 .1 .1 .0) 0 (models-errors .result) _ (p .3) (models-errors .ensures) (p .4), p .5, p .6, room-after (a .z) (a .own .now) (models-errors .last .1 .1 .1 .1 .1 .0) 0 (models-errors .result) _ (p .3) (models-errors .ensures), built-few (a .z) (a .own .now) (models-errors .last .1 .1 .1 .1 .1 .0) (fileIn (a .f .now) (a .s)) (a .m) (models-errors .result) (p .3) (models-errors .ensures) (p .7))
 
 count-errors-requires : tie.Need-count-errors-requires
 count-errors-requires c κs =
     let a = c .before .before .before .before .before .before .before .before .before .before .before .before .before .before .before .args in
     let p = c .before .before .before .before .before .before .before .before .before .before .before .before .before .before .before .pre in
-    (p .0 .opened, p .1, p .3 .small, stated-room (a .z) (a .own .now) (c .before .before .before .before .before .before .before .models-errors .last .1 .1 .1 .1 .1 .0) (fileIn (a .f .now) (a .s)) (a .m) (c .before .before .before .before .before .before .before .models-errors .result) (p .3) (c .before .before .before .before .before .before .before .models-errors .ensures) (c .before .before .before .roles-errors .last .0) (a .numbers .now) (a .indexes .now) (a .rates .now) (a .lower) (c .before .before .before .roles-errors .result) (c .before .before .before .roles-errors .ensures), stated-few (a .z) (a .own .now) (c .before .before .before .before .before .before .before .models-errors .last .1 .1 .1 .1 .1 .0) (fileIn (a .f .now) (a .s)) (a .m) (c .before .before .before .before .before .before .before .models-errors .result) (p .3) (c .before .before .before .before .before .before .before .models-errors .ensures) (c .before .before .before .roles-errors .last .0) (a .numbers .now) (a .indexes .now) (a .rates .now) (a .lower) (c .before .before .before .roles-errors .result) (c .before .before .before .roles-errors .ensures) (p .7))
+    let models-errors = c .before .before .before .before .before .before .before .models-errors in
+    let roles-errors = c .before .before .before .roles-errors in
+    (p .0 .opened, p .1, p .3 .small, stated-room (a .z) (a .own .now) (models-errors .last .1 .1 .1 .1 .1 .0) (fileIn (a .f .now) (a .s)) (a .m) (models-errors .result) (p .3) (models-errors .ensures) (roles-errors .last .0) (a .numbers .now) (a .indexes .now) (a .rates .now) (a .lower) (roles-errors .result) (roles-errors .ensures), stated-few (a .z) (a .own .now) (models-errors .last .1 .1 .1 .1 .1 .0) (fileIn (a .f .now) (a .s)) (a .m) (models-errors .result) (p .3) (models-errors .ensures) (roles-errors .last .0) (a .numbers .now) (a .indexes .now) (a .rates .now) (a .lower) (roles-errors .result) (roles-errors .ensures) (p .7))
 
 starting-errors-requires : tie.Need-starting-errors-requires
 starting-errors-requires c κs =
     let a = c .before .before .before .before .before .before .before .before .before .before .before .before .before .before .before .before .before .before .before .args in
     let p = c .before .before .before .before .before .before .before .before .before .before .before .before .before .before .before .before .before .before .before .pre in
-    (p .0 .opened, p .1, p .2, counted-righted (a .z) (a .own .now) (c .before .before .before .before .before .before .before .before .before .before .before .models-errors .last .1 .1 .1 .1 .1 .0) (fileIn (a .f .now) (a .s)) (a .m) (c .before .before .before .before .before .before .before .before .before .before .before .models-errors .result) (p .3) (c .before .before .before .before .before .before .before .before .before .before .before .models-errors .ensures) (c .before .before .before .before .before .before .before .roles-errors .last .0) (a .numbers .now) (a .indexes .now) (a .rates .now) (a .lower) (c .before .before .before .before .before .before .before .roles-errors .result) (c .before .before .before .before .before .before .before .roles-errors .ensures) (c .before .before .before .count-errors .last .1 .1 .1 .0) (a .left .stmts) (a .left .states) (c .before .before .before .count-errors .result) (c .before .before .before .count-errors .ensures), counted-few (a .z) (a .own .now) (c .before .before .before .before .before .before .before .before .before .before .before .models-errors .last .1 .1 .1 .1 .1 .0) (fileIn (a .f .now) (a .s)) (a .m) (c .before .before .before .before .before .before .before .before .before .before .before .models-errors .result) (p .3) (c .before .before .before .before .before .before .before .before .before .before .before .models-errors .ensures) (c .before .before .before .before .before .before .before .roles-errors .last .0) (a .numbers .now) (a .indexes .now) (a .rates .now) (a .lower) (c .before .before .before .before .before .before .before .roles-errors .result) (c .before .before .before .before .before .before .before .roles-errors .ensures) (c .before .before .before .count-errors .last .1 .1 .1 .0) (a .left .stmts) (a .left .states) (c .before .before .before .count-errors .result) (c .before .before .before .count-errors .ensures) (p .7))
+    let models-errors = c .before .before .before .before .before .before .before .before .before .before .before .models-errors in
+    let roles-errors = c .before .before .before .before .before .before .before .roles-errors in
+    let count-errors = c .before .before .before .count-errors in
+    (p .0 .opened, p .1, p .2, counted-righted (a .z) (a .own .now) (models-errors .last .1 .1 .1 .1 .1 .0) (fileIn (a .f .now) (a .s)) (a .m) (models-errors .result) (p .3) (models-errors .ensures) (roles-errors .last .0) (a .numbers .now) (a .indexes .now) (a .rates .now) (a .lower) (roles-errors .result) (roles-errors .ensures) (count-errors .last .1 .1 .1 .0) (a .left .stmts) (a .left .states) (count-errors .result) (count-errors .ensures), counted-few (a .z) (a .own .now) (models-errors .last .1 .1 .1 .1 .1 .0) (fileIn (a .f .now) (a .s)) (a .m) (models-errors .result) (p .3) (models-errors .ensures) (roles-errors .last .0) (a .numbers .now) (a .indexes .now) (a .rates .now) (a .lower) (roles-errors .result) (roles-errors .ensures) (count-errors .last .1 .1 .1 .0) (a .left .stmts) (a .left .states) (count-errors .result) (count-errors .ensures) (p .7))
 
 same-length : tie.Need-same-length
 same-length c = search needs
@@ -31,7 +37,11 @@ same-length c = search needs
 returns : tie.Need-returns
 returns c =
     let a = c .before .before .before .before .before .before .before .before .before .before .before .before .before .before .before .before .before .before .before .before .before .before .args in
-    all-listed (a .z) (a .own .now) (c .before .before .before .before .before .before .before .before .before .before .before .before .before .before .models-errors .last .1 .1 .1 .1 .1 .0) (fileIn (a .f .now) (a .s)) (a .m) (c .before .before .before .before .before .before .before .before .before .before .before .before .before .before .models-errors .result) (c .before .before .before .before .before .before .before .before .before .before .before .before .before .before .before .before .before .before .before .before .before .before .pre .3) (c .before .before .before .before .before .before .before .before .before .before .before .before .before .before .models-errors .ensures) (c .before .before .before .before .before .before .before .before .before .before .roles-errors .last .0) (a .numbers .now) (a .indexes .now) (a .rates .now) (a .lower) (c .before .before .before .before .before .before .before .before .before .before .roles-errors .result) (c .before .before .before .before .before .before .before .before .before .before .roles-errors .ensures) (c .before .before .before .before .before .before .count-errors .last .1 .1 .1 .0) (a .left .stmts) (a .left .states) (c .before .before .before .before .before .before .count-errors .result) (c .before .before .before .before .before .before .count-errors .ensures) (c .before .before .starting-errors .last .1 .1 .1 .1 .0) (a .names .now) (c .before .before .starting-errors .result) (c .before .before .starting-errors .ensures)
+    let models-errors = c .before .before .before .before .before .before .before .before .before .before .before .before .before .before .models-errors in
+    let roles-errors = c .before .before .before .before .before .before .before .before .before .before .roles-errors in
+    let count-errors = c .before .before .before .before .before .before .count-errors in
+    let starting-errors = c .before .before .starting-errors in
+    all-listed (a .z) (a .own .now) (models-errors .last .1 .1 .1 .1 .1 .0) (fileIn (a .f .now) (a .s)) (a .m) (models-errors .result) (c .before .before .before .before .before .before .before .before .before .before .before .before .before .before .before .before .before .before .before .before .before .before .pre .3) (models-errors .ensures) (roles-errors .last .0) (a .numbers .now) (a .indexes .now) (a .rates .now) (a .lower) (roles-errors .result) (roles-errors .ensures) (count-errors .last .1 .1 .1 .0) (a .left .stmts) (a .left .states) (count-errors .result) (count-errors .ensures) (starting-errors .last .1 .1 .1 .1 .0) (a .names .now) (starting-errors .result) (starting-errors .ensures)
 
 pub all-errors-spec : {M : Type 1} → statement M
 all-errors-spec =

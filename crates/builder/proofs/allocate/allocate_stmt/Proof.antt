@@ -88,22 +88,24 @@ shared-slice-read-if3 : tie.Need-shared-slice-read-if3
 shared-slice-read-if3 c =
     let a = c .before .before .before .before .before .before .before .before .before .before .args in
     let p = c .before .before .before .before .before .before .before .before .before .before .pre in
+    let stmt-of3 = c .before .before .before .stmt-of3 in
     let F = p .0 .1 in
     let n : (wordOf (stmtIn (a .area .now) (a .z) (a .i)) 0 ≡ 1) → ⊥ = λ e. c .before .before .before .before .if1 .left (c .before .before .before .before .before .stmt-of .ensures .0 ∙ e) in
     let m : wordOf (stmtIn (a .area .now) (a .z) (a .i)) 1 < p .0 .0 = rate-name _ _ _ F (a .numbers .now) (a .indexes .now) (a .i) (p .3) n in
-    let q : c .before .before .before .stmt-of3 .result < 256 = omega (arith, c .before .before .before .stmt-of3 .ensures .0, F .few) in
-    let u : getD (a .numbers .now) (c .before .before .before .stmt-of3 .result) 0 ≤ a .z .vars = p .1 .entries (c .before .before .before .stmt-of3 .result) q in
+    let q : stmt-of3 .result < 256 = omega (arith, stmt-of3 .ensures .0, F .few) in
+    let u : getD (a .numbers .now) (stmt-of3 .result) 0 ≤ a .z .vars = p .1 .entries (stmt-of3 .result) q in
     omega (arith, F .small .vars, p .2, c .before .if2 .left)
 
 mul-result : tie.Need-mul-result
 mul-result c =
     let a = c .before .before .before .before .before .before .before .before .before .before .before .args in
     let p = c .before .before .before .before .before .before .before .before .before .before .before .pre in
+    let stmt-of3 = c .before .before .before .before .stmt-of3 in
     let F = p .0 .1 in
     let n : (wordOf (stmtIn (a .area .now) (a .z) (a .i)) 0 ≡ 1) → ⊥ = λ e. c .before .before .before .before .before .if1 .left (c .before .before .before .before .before .before .stmt-of .ensures .0 ∙ e) in
     let m : wordOf (stmtIn (a .area .now) (a .z) (a .i)) 1 < p .0 .0 = rate-name _ _ _ F (a .numbers .now) (a .indexes .now) (a .i) (p .3) n in
-    let q : c .before .before .before .before .stmt-of3 .result < 256 = omega (arith, c .before .before .before .before .stmt-of3 .ensures .0, F .few) in
-    let u : getD (a .numbers .now) (c .before .before .before .before .stmt-of3 .result) 0 ≤ a .z .vars = p .1 .entries (c .before .before .before .before .stmt-of3 .result) q in
+    let q : stmt-of3 .result < 256 = omega (arith, stmt-of3 .ensures .0, F .few) in
+    let u : getD (a .numbers .now) (stmt-of3 .result) 0 ≤ a .z .vars = p .1 .entries (stmt-of3 .result) q in
     omega (arith, F .small .vars)
 
 cast-result : tie.Need-cast-result
@@ -113,13 +115,14 @@ returns-3 : tie.Need-returns-3
 returns-3 c =
     let a = c .before .before .before .before .before .before .before .before .before .before .before .args in
     let p = c .before .before .before .before .before .before .before .before .before .before .before .pre in
+    let stmt-of3 = c .before .before .before .before .stmt-of3 in
     let F = p .0 .1 in
     let n : (wordOf (stmtIn (a .area .now) (a .z) (a .i)) 0 ≡ 1) → ⊥ = λ e. c .before .before .before .before .before .if1 .left (c .before .before .before .before .before .before .stmt-of .ensures .0 ∙ e) in
     let m : wordOf (stmtIn (a .area .now) (a .z) (a .i)) 1 < p .0 .0 = rate-name _ _ _ F (a .numbers .now) (a .indexes .now) (a .i) (p .3) n in
-    let q : c .before .before .before .before .stmt-of3 .result < 256 = omega (arith, c .before .before .before .before .stmt-of3 .ensures .0, F .few) in
-    let u : getD (a .numbers .now) (c .before .before .before .before .stmt-of3 .result) 0 ≤ a .z .vars = p .1 .entries (c .before .before .before .before .stmt-of3 .result) q in
-    let r : (2 * getD (a .numbers .now) (c .before .before .before .before .stmt-of3 .result) 0) % 4294967296 ≡ 2 * getD (a .numbers .now) (c .before .before .before .before .stmt-of3 .result) 0 = omega (arith, F .small .vars) in
-    r ∙ sym (rate-goes _ _ _ F _ _ _ (p .3) n _ _ _ (c .before .before .before .before .stmt-of3 .ensures .0) (c .before .before .if2 .left) (c .if3 .taken))
+    let q : stmt-of3 .result < 256 = omega (arith, stmt-of3 .ensures .0, F .few) in
+    let u : getD (a .numbers .now) (stmt-of3 .result) 0 ≤ a .z .vars = p .1 .entries (stmt-of3 .result) q in
+    let r : (2 * getD (a .numbers .now) (stmt-of3 .result) 0) % 4294967296 ≡ 2 * getD (a .numbers .now) (stmt-of3 .result) 0 = omega (arith, F .small .vars) in
+    r ∙ sym (rate-goes _ _ _ F _ _ _ (p .3) n _ _ _ (stmt-of3 .ensures .0) (c .before .before .if2 .left) (c .if3 .taken))
 
 returns-4 : tie.Need-returns-4
 returns-4 c =

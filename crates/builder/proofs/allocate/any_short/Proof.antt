@@ -25,7 +25,8 @@ is-short-requires c κs =
 returns : tie.Need-returns Inv-loop μ-loop
 returns c =
     let a = c .before .before .before .before .before .before .before .before .args in
-    sym (c .before .before .before .before .loop .inv .1 ∙ any-here (a .area .now) (a .z) (shortBy (a .numbers .now) (a .indexes .now)) (c .before .before .before .before .loop .i) (omega (arith, c .before .before .if1 .taken)) ∙ rw (← c .before .is-short .ensures, c .if2 .taken) refl)
+    let loop = c .before .before .before .before .loop in
+    sym (loop .inv .1 ∙ any-here (a .area .now) (a .z) (shortBy (a .numbers .now) (a .indexes .now)) (loop .i) (omega (arith, c .before .before .if1 .taken)) ∙ rw (← c .before .is-short .ensures, c .if2 .taken) refl)
 
 add-i : tie.Need-add-i Inv-loop μ-loop
 add-i c = omega (arith, c .before .before .before .before .before .before .before .before .pre .0 .1 .small .stmts, c .before .before .if1 .taken)
@@ -36,7 +37,8 @@ loop-less c = omega (arith, c .before .before .if1 .taken)
 loop-again : tie.Need-loop-again Inv-loop μ-loop
 loop-again c =
     let a = c .before .before .before .before .before .before .before .before .args in
-    (omega (arith, c .before .before .if1 .taken), c .before .before .before .before .loop .inv .1 ∙ any-here (a .area .now) (a .z) (shortBy (a .numbers .now) (a .indexes .now)) (c .before .before .before .before .loop .i) (omega (arith, c .before .before .if1 .taken)) ∙ rw (← c .before .is-short .ensures, c .if2 .left) refl)
+    let loop = c .before .before .before .before .loop in
+    (omega (arith, c .before .before .if1 .taken), loop .inv .1 ∙ any-here (a .area .now) (a .z) (shortBy (a .numbers .now) (a .indexes .now)) (loop .i) (omega (arith, c .before .before .if1 .taken)) ∙ rw (← c .before .is-short .ensures, c .if2 .left) refl)
 
 returns-2 : tie.Need-returns-2 Inv-loop μ-loop
 returns-2 c =

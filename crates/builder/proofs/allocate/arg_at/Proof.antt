@@ -44,8 +44,9 @@ node-of-requires-2 c κs =
 
 sub-end : tie.Need-sub-end Inv-loop μ-loop
 sub-end c =
+    let loop = c .before .before .loop in
     let F = c .before .before .before .before .before .pre .0 .1 in
-    let a = last-arg _ _ _ (F .nodes) (c .before .before .loop .end) (c .before .before .loop .left) (c .before .before .loop .inv .2 .0) (c .before .before .loop .inv .0) (c .before .before .loop .inv .2 .1) (λ e. omega (arith, c .before .before .loop .inv .1)) in
+    let a = last-arg _ _ _ (F .nodes) (loop .end) (loop .left) (loop .inv .2 .0) (loop .inv .0) (loop .inv .2 .1) (λ e. omega (arith, loop .inv .1)) in
     omega (arith, a .within, c .node-of2 .ensures .0)
 
 sub-left : tie.Need-sub-left Inv-loop μ-loop
@@ -56,9 +57,10 @@ loop-less c = omega (arith, c .before .before .loop .inv .1)
 
 loop-again : tie.Need-loop-again Inv-loop μ-loop
 loop-again c =
+    let loop = c .before .before .loop in
     let F = c .before .before .before .before .before .pre .0 .1 in
-    let a = last-arg _ _ _ (F .nodes) (c .before .before .loop .end) (c .before .before .loop .left) (c .before .before .loop .inv .2 .0) (c .before .before .loop .inv .0) (c .before .before .loop .inv .2 .1) (λ e. omega (arith, c .before .before .loop .inv .1)) in
-    rw (c .node-of2 .ensures .0) (omega (arith, c .before .before .loop .inv .0), omega (arith, c .before .loop-test .taken), (_, a .rest), c .before .before .loop .inv .3 ∙ arg-before _ _ _ _ (c .before .loop-test .taken))
+    let a = last-arg _ _ _ (F .nodes) (loop .end) (loop .left) (loop .inv .2 .0) (loop .inv .0) (loop .inv .2 .1) (λ e. omega (arith, loop .inv .1)) in
+    rw (c .node-of2 .ensures .0) (omega (arith, loop .inv .0), omega (arith, c .before .loop-test .taken), (_, a .rest), loop .inv .3 ∙ arg-before _ _ _ _ (c .before .loop-test .taken))
 
 sub-result : tie.Need-sub-result Inv-loop μ-loop
 sub-result c =

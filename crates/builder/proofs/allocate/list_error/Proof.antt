@@ -23,7 +23,9 @@ same-length : tie.Need-same-length
 same-length c = search needs
 
 returns : tie.Need-returns
-returns c = rw (← c .before .before .before .before .errors-at .ensures) (c .before .before .put-error .ensures .0, lent-listed (c .before .before .before .before .before .before .args .area .now) _ (c .before .before .before .before .errors-at .result) _ _ (omega (arith, c .before .before .before .before .errors-at .ensures, c .before .before .before .before .before .before .pre .1)) (c .before .before .put-error .ensures .1))
+returns c =
+    let errors-at = c .before .before .before .before .errors-at in
+    rw (← errors-at .ensures) (c .before .before .put-error .ensures .0, lent-listed (c .before .before .before .before .before .before .args .area .now) _ (errors-at .result) _ _ (omega (arith, errors-at .ensures, c .before .before .before .before .before .before .pre .1)) (c .before .before .put-error .ensures .1))
 
 pub list-error-spec : {M : Type 1} → statement M
 list-error-spec =

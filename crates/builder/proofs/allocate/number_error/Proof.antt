@@ -60,7 +60,8 @@ returns-2 : tie.Need-returns-2
 unfolding spanFrom
 returns-2 c =
     let a = c .before .before .before .before .before .before .before .before .before .before .before .before .before .before .before .args in
-    let s : 1 + c .before .before .before .before .record-word3 .result ≡ suc (nameAt (nodesIn (a .area .now) (a .z)) (a .call)) = omega (arith, c .before .before .before .before .record-word3 .ensures) in
+    let record-word3 = c .before .before .before .before .record-word3 in
+    let s : 1 + record-word3 .result ≡ suc (nameAt (nodesIn (a .area .now) (a .z)) (a .call)) = omega (arith, record-word3 .ensures) in
     unless-at _ _ _ _ _ _ _ (sym (same-float _ _) ∙ (rw (← c .before .before .before .before .before .before .before .before .before .before .before .before .record-bits .ensures) (sym (c .before .before .before .before .before .before .before .before .before .before .before .same-number .ensures) ∙ c .before .before .before .before .before .before .before .before .before .before .if1 .left))) (rw (s, c .before .before .before .before .before .before .before .before .record-word .ensures, c .before .before .before .before .before .before .record-word2 .ensures) at (c .before .before .list-error .ensures))
 
 pub number-error-spec : {M : Type 1} → statement M

@@ -40,7 +40,8 @@ cast-v-2 c = omega (arith, c .shared-slice-known3 .given (c .before .record-word
 add-stmt-error : tie.Need-add-stmt-error
 add-stmt-error c =
     let a = c .before .before .before .before .before .before .before .before .before .args in
-    let n : c .before .before .before .record-word .result ≡ wordOf (stmtIn (a .area .now) (a .z) (a .i)) 1 = rw (c .before .before .before .before .stmts-at .ensures) at (c .before .before .before .record-word .ensures) in
+    let record-word = c .before .before .before .record-word in
+    let n : record-word .result ≡ wordOf (stmtIn (a .area .now) (a .z) (a .i)) 1 = rw (c .before .before .before .before .stmts-at .ensures) at (record-word .ensures) in
     omega (arith, c .before .before .before .before .before .before .before .before .before .pre .4)
 
 stmt-error-requires : tie.Need-stmt-error-requires
@@ -52,8 +53,9 @@ same-length c = search needs
 returns : tie.Need-returns
 returns c =
     let a = c .before .before .before .before .before .before .before .before .before .before .before .before .args in
-    let n : c .before .before .before .before .before .before .record-word .result ≡ wordOf (stmtIn (a .area .now) (a .z) (a .i)) 1 = rw (c .before .before .before .before .before .before .before .stmts-at .ensures) at (c .before .before .before .before .before .before .record-word .ensures) in
-    let s : 1 + c .before .before .before .before .before .before .record-word .result ≡ suc (c .before .before .before .before .before .before .record-word .result) = omega arith in
+    let record-word = c .before .before .before .before .before .before .record-word in
+    let n : record-word .result ≡ wordOf (stmtIn (a .area .now) (a .z) (a .i)) 1 = rw (c .before .before .before .before .before .before .before .stmts-at .ensures) at (record-word .ensures) in
+    let s : 1 + record-word .result ≡ suc (record-word .result) = omega arith in
     rw (← n, errors-unknown _ _ _ _ (c .before .before .before .before .if1 .taken)) (rw s at (c .before .before .stmt-error .ensures))
 
 sub-if2 : tie.Need-sub-if2
@@ -62,8 +64,9 @@ sub-if2 c = search needs
 shared-slice-read-if2 : tie.Need-shared-slice-read-if2
 shared-slice-read-if2 c =
     let a = c .before .before .before .before .before .before .before .before .before .args in
-    let n : c .before .before .before .record-word .result ≡ wordOf (stmtIn (a .area .now) (a .z) (a .i)) 1 = rw (c .before .before .before .before .stmts-at .ensures) at (c .before .before .before .record-word .ensures) in
-    let m : getD (a .numbers .now) (c .before .before .before .record-word .result) 0 ≤ length (a .rates .now) = rw n (c .before .before .before .before .before .before .before .before .before .pre .6) in
+    let record-word = c .before .before .before .record-word in
+    let n : record-word .result ≡ wordOf (stmtIn (a .area .now) (a .z) (a .i)) 1 = rw (c .before .before .before .before .stmts-at .ensures) at (record-word .ensures) in
+    let m : getD (a .numbers .now) (record-word .result) 0 ≤ length (a .rates .now) = rw n (c .before .before .before .before .before .before .before .before .before .pre .6) in
     omega (arith, c .before .if1 .left)
 
 same-length-2 : tie.Need-same-length-2
@@ -72,13 +75,15 @@ same-length-2 c = search needs
 returns-2 : tie.Need-returns-2
 returns-2 c =
     let a = c .before .before .before .before .before .before .before .before .before .before .args in
-    let n : c .before .before .before .before .record-word .result ≡ wordOf (stmtIn (a .area .now) (a .z) (a .i)) 1 = rw (c .before .before .before .before .before .stmts-at .ensures) at (c .before .before .before .before .record-word .ensures) in
+    let record-word = c .before .before .before .before .record-word in
+    let n : record-word .result ≡ wordOf (stmtIn (a .area .now) (a .z) (a .i)) 1 = rw (c .before .before .before .before .before .stmts-at .ensures) at (record-word .ensures) in
     rw (← n, errors-known _ _ _ _ (c .before .before .if1 .left)) (passed-at _ _ _ _ _ (eq-eqb _ _ (c .if2 .taken)))
 
 add-stmt-error-2 : tie.Need-add-stmt-error-2
 add-stmt-error-2 c =
     let a = c .before .before .before .before .before .before .before .before .before .before .before .args in
-    let n : c .before .before .before .before .before .record-word .result ≡ wordOf (stmtIn (a .area .now) (a .z) (a .i)) 1 = rw (c .before .before .before .before .before .before .stmts-at .ensures) at (c .before .before .before .before .before .record-word .ensures) in
+    let record-word = c .before .before .before .before .before .record-word in
+    let n : record-word .result ≡ wordOf (stmtIn (a .area .now) (a .z) (a .i)) 1 = rw (c .before .before .before .before .before .before .stmts-at .ensures) at (record-word .ensures) in
     omega (arith, c .before .before .before .before .before .before .before .before .before .before .before .pre .4)
 
 stmt-error-requires-2 : tie.Need-stmt-error-requires-2
@@ -90,8 +95,9 @@ same-length-3 c = search needs
 returns-3 : tie.Need-returns-3
 returns-3 c =
     let a = c .before .before .before .before .before .before .before .before .before .before .before .before .before .before .args in
-    let n : c .before .before .before .before .before .before .before .before .record-word .result ≡ wordOf (stmtIn (a .area .now) (a .z) (a .i)) 1 = rw (c .before .before .before .before .before .before .before .before .before .stmts-at .ensures) at (c .before .before .before .before .before .before .before .before .record-word .ensures) in
-    let s : 1 + c .before .before .before .before .before .before .before .before .record-word .result ≡ suc (c .before .before .before .before .before .before .before .before .record-word .result) = omega arith in
+    let record-word = c .before .before .before .before .before .before .before .before .record-word in
+    let n : record-word .result ≡ wordOf (stmtIn (a .area .now) (a .z) (a .i)) 1 = rw (c .before .before .before .before .before .before .before .before .before .stmts-at .ensures) at (record-word .ensures) in
+    let s : 1 + record-word .result ≡ suc (record-word .result) = omega arith in
     rw (← n, errors-known _ _ _ _ (c .before .before .before .before .before .before .if1 .left)) (unless-at _ _ _ _ _ _ _ (ne-eqb _ _ (c .before .before .before .before .if2 .left)) (rw s at (c .before .before .stmt-error2 .ensures)))
 
 pub rate-errors-spec : {M : Type 1} → statement M

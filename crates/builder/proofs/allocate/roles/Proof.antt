@@ -34,7 +34,9 @@ loop-less : tie.Need-loop-less Inv-loop μ-loop
 loop-less c = omega (arith, c .before .if1 .taken)
 
 loop-again : tie.Need-loop-again Inv-loop μ-loop
-loop-again c = (omega (arith, c .before .if1 .taken), filled-more 256 _ (c .before .before .before .loop .i) _ _ (omega (arith, c .before .before .before .before .before .before .before .before .pre .0 .1 .small .stmts, c .before .if1 .taken)) (c .allocate-stmt .ensures) (c .before .before .before .loop .inv .1))
+loop-again c =
+    let loop = c .before .before .before .loop in
+    (omega (arith, c .before .if1 .taken), filled-more 256 _ (loop .i) _ _ (omega (arith, c .before .before .before .before .before .before .before .before .pre .0 .1 .small .stmts, c .before .if1 .taken)) (c .allocate-stmt .ensures) (loop .inv .1))
 
 returns : tie.Need-returns Inv-loop μ-loop
 returns c =

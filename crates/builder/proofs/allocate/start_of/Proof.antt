@@ -54,13 +54,14 @@ shared-slice-read-index : tie.Need-shared-slice-read-index
 shared-slice-read-index c =
     let a = c .before .before .before .before .before .before .before .before .before .args in
     let p = c .before .before .before .before .before .before .before .before .before .pre in
+    let node-of2 = c .before .before .before .node-of2 in
     let F = p .0 .1 in
     let T = p .1 in
     let k : kindAt (nodesIn (a .area .now) (a .z)) (a .i) ≡ 5 = sym (c .before .before .before .before .before .node-of .ensures .0) ∙ c .before .before .before .before .if1 .left in
     let O = node-ok _ _ _ (F .nodes) _ (p .2) in
     let m : nameAt (nodesIn (a .area .now) (a .z)) (a .i) < p .0 .0 = ltb-true _ _ (O .call-name k) in
-    let q : c .before .before .before .node-of2 .result < 256 = omega (arith, c .before .before .before .node-of2 .ensures .0, F .few) in
-    omega (arith, T .entries (c .before .before .before .node-of2 .result) q, F .small .vars, T .vars, c .before .if2 .left)
+    let q : node-of2 .result < 256 = omega (arith, node-of2 .ensures .0, F .few) in
+    omega (arith, T .entries (node-of2 .result) q, F .small .vars, T .vars, c .before .if2 .left)
 
 cast-index : tie.Need-cast-index
 cast-index c = omega (arith, c .shared-slice-known5 .given (getD (c .before .before .before .before .before .before .before .before .before .args .numbers .now) (c .before .before .before .node-of2 .result) 0 - 1))
@@ -100,24 +101,26 @@ sub-node-of : tie.Need-sub-node-of
 sub-node-of c =
     let args = c .before .before .before .before .before .before .before .before .before .before .before .before .before .args in
     let p = c .before .before .before .before .before .before .before .before .before .before .before .before .before .pre in
+    let node-of2 = c .before .before .before .before .before .before .before .node-of2 in
     let F = p .0 .1 in
     let T = p .1 in
     let k : kindAt (nodesIn (args .area .now) (args .z)) (args .i) ≡ 5 = sym (c .before .before .before .before .before .before .before .before .before .node-of .ensures .0) ∙ c .before .before .before .before .before .before .before .before .if1 .left in
-    let G : getD (args .indexes .now) (getD (args .numbers .now) (c .before .before .before .before .before .before .before .node-of2 .result) 0 - 1) 0 - 1 < opAt (nodesIn (args .area .now) (args .z)) (args .i) = omega (arith, c .before .if4 .left, c .before .before .node-of3 .ensures .0) in
+    let G : getD (args .indexes .now) (getD (args .numbers .now) (node-of2 .result) 0 - 1) 0 - 1 < opAt (nodesIn (args .area .now) (args .z)) (args .i) = omega (arith, c .before .if4 .left, c .before .before .node-of3 .ensures .0) in
     let O = node-ok _ _ _ (F .nodes) _ (p .2) in
-    let a = arg-node _ _ _ (F .nodes) (getD (args .indexes .now) (getD (args .numbers .now) (c .before .before .before .before .before .before .before .node-of2 .result) 0 - 1) 0 - 1) _ (args .i) _ (omega (arith, p .2)) (O .call k) G in
+    let a = arg-node _ _ _ (F .nodes) (getD (args .indexes .now) (getD (args .numbers .now) (node-of2 .result) 0 - 1) 0 - 1) _ (args .i) _ (omega (arith, p .2)) (O .call k) G in
     omega (arith, a .low, c .arg-at .ensures)
 
 node-of-requires-4 : tie.Need-node-of-requires-4
 node-of-requires-4 c κs =
     let args = c .before .before .before .before .before .before .before .before .before .before .before .before .before .args in
     let p = c .before .before .before .before .before .before .before .before .before .before .before .before .before .pre in
+    let node-of2 = c .before .before .before .before .before .before .before .node-of2 in
     let F = p .0 .1 in
     let T = p .1 in
     let k : kindAt (nodesIn (args .area .now) (args .z)) (args .i) ≡ 5 = sym (c .before .before .before .before .before .before .before .before .before .node-of .ensures .0) ∙ c .before .before .before .before .before .before .before .before .if1 .left in
-    let G : getD (args .indexes .now) (getD (args .numbers .now) (c .before .before .before .before .before .before .before .node-of2 .result) 0 - 1) 0 - 1 < opAt (nodesIn (args .area .now) (args .z)) (args .i) = omega (arith, c .before .if4 .left, c .before .before .node-of3 .ensures .0) in
+    let G : getD (args .indexes .now) (getD (args .numbers .now) (node-of2 .result) 0 - 1) 0 - 1 < opAt (nodesIn (args .area .now) (args .z)) (args .i) = omega (arith, c .before .if4 .left, c .before .before .node-of3 .ensures .0) in
     let O = node-ok _ _ _ (F .nodes) _ (p .2) in
-    let a = arg-node _ _ _ (F .nodes) (getD (args .indexes .now) (getD (args .numbers .now) (c .before .before .before .before .before .before .before .node-of2 .result) 0 - 1) 0 - 1) _ (args .i) _ (omega (arith, p .2)) (O .call k) G in
+    let a = arg-node _ _ _ (F .nodes) (getD (args .indexes .now) (getD (args .numbers .now) (node-of2 .result) 0 - 1) 0 - 1) _ (args .i) _ (omega (arith, p .2)) (O .call k) G in
     (omega (arith, F .long), omega (arith, a .low, a .below, c .arg-at .ensures), omega arith)
 
 sub-t15 : tie.Need-sub-t15
@@ -126,16 +129,18 @@ sub-t15 c = search needs
 returns-5 : tie.Need-returns-5
 returns-5 c =
     let a = c .before .before .before .before .before .before .before .before .before .before .before .before .before .before .before .args in
+    let node-of2 = c .before .before .before .before .before .before .before .before .before .node-of2 in
     let k : kindAt (nodesIn (a .area .now) (a .z)) (a .i) ≡ 5 = sym (c .before .before .before .before .before .before .before .before .before .before .before .node-of .ensures .0) ∙ c .before .before .before .before .before .before .before .before .before .before .if1 .left in
-    let G : getD (a .indexes .now) (getD (a .numbers .now) (c .before .before .before .before .before .before .before .before .before .node-of2 .result) 0 - 1) 0 - 1 < opAt (nodesIn (a .area .now) (a .z)) (a .i) = omega (arith, c .before .before .before .if4 .left, c .before .before .before .before .node-of3 .ensures .0) in
-    sym (start-arg _ _ _ _ k _ (c .before .before .before .before .before .before .before .before .before .node-of2 .ensures .0) (c .before .before .before .before .before .before .before .if2 .left) (c .before .before .before .before .before .if3 .left) G ∙ rw (← c .before .before .arg-at .ensures) (arg-number _ _ _ (sym (c .before .node-of4 .ensures .0) ∙ c .if5 .taken)))
+    let G : getD (a .indexes .now) (getD (a .numbers .now) (node-of2 .result) 0 - 1) 0 - 1 < opAt (nodesIn (a .area .now) (a .z)) (a .i) = omega (arith, c .before .before .before .if4 .left, c .before .before .before .before .node-of3 .ensures .0) in
+    sym (start-arg _ _ _ _ k _ (node-of2 .ensures .0) (c .before .before .before .before .before .before .before .if2 .left) (c .before .before .before .before .before .if3 .left) G ∙ rw (← c .before .before .arg-at .ensures) (arg-number _ _ _ (sym (c .before .node-of4 .ensures .0) ∙ c .if5 .taken)))
 
 returns-6 : tie.Need-returns-6
 returns-6 c =
     let a = c .before .before .before .before .before .before .before .before .before .before .before .before .before .before .before .args in
+    let node-of2 = c .before .before .before .before .before .before .before .before .before .node-of2 in
     let k : kindAt (nodesIn (a .area .now) (a .z)) (a .i) ≡ 5 = sym (c .before .before .before .before .before .before .before .before .before .before .before .node-of .ensures .0) ∙ c .before .before .before .before .before .before .before .before .before .before .if1 .left in
-    let G : getD (a .indexes .now) (getD (a .numbers .now) (c .before .before .before .before .before .before .before .before .before .node-of2 .result) 0 - 1) 0 - 1 < opAt (nodesIn (a .area .now) (a .z)) (a .i) = omega (arith, c .before .before .before .if4 .left, c .before .before .before .before .node-of3 .ensures .0) in
-    sym (start-arg _ _ _ _ k _ (c .before .before .before .before .before .before .before .before .before .node-of2 .ensures .0) (c .before .before .before .before .before .before .before .if2 .left) (c .before .before .before .before .before .if3 .left) G ∙ rw (← c .before .before .arg-at .ensures) (arg-other _ _ _ (λ e. c .if5 .left (c .before .node-of4 .ensures .0 ∙ e))))
+    let G : getD (a .indexes .now) (getD (a .numbers .now) (node-of2 .result) 0 - 1) 0 - 1 < opAt (nodesIn (a .area .now) (a .z)) (a .i) = omega (arith, c .before .before .before .if4 .left, c .before .before .before .before .node-of3 .ensures .0) in
+    sym (start-arg _ _ _ _ k _ (node-of2 .ensures .0) (c .before .before .before .before .before .before .before .if2 .left) (c .before .before .before .before .before .if3 .left) G ∙ rw (← c .before .before .arg-at .ensures) (arg-other _ _ _ (λ e. c .if5 .left (c .before .node-of4 .ensures .0 ∙ e))))
 
 pub start-of-spec : {M : Type 1} → statement M
 start-of-spec =

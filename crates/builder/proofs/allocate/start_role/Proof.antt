@@ -47,9 +47,10 @@ enum-told-2 c = search needs
 returns : tie.Need-returns
 returns c =
     let p = c .before .before .before .before .before .before .before .pre in
-    λ f. let N = number-fits _ _ _ _ (c .before .before .before .before .start .given .1) (p .2) in
-    let m : (2 * c .before .before .before .before .start .given .0 .0 + 1) % 4294967296 ≡ 2 * c .before .before .before .before .start .given .0 .0 + 1 = omega (arith, N .0, p .1 .vars) in
-    m ∙ sym (role-lower _ _ _ _ _ _ (c .before .before .before .before .start .given .1) (sym (same-float _ _) ∙ (rw (← c .before .before .record-bits .ensures) (sym (c .before .same-number .ensures) ∙ c .if1 .taken))))
+    let start = c .before .before .before .before .start in
+    λ f. let N = number-fits _ _ _ _ (start .given .1) (p .2) in
+    let m : (2 * start .given .0 .0 + 1) % 4294967296 ≡ 2 * start .given .0 .0 + 1 = omega (arith, N .0, p .1 .vars) in
+    m ∙ sym (role-lower _ _ _ _ _ _ (start .given .1) (sym (same-float _ _) ∙ (rw (← c .before .before .record-bits .ensures) (sym (c .before .same-number .ensures) ∙ c .if1 .taken))))
 
 returns-2 : tie.Need-returns-2
 returns-2 c = λ f. sym (role-wrong _ _ _ _ _ _ (c .before .before .before .before .start .given .1) (sym (same-float _ _) ∙ (rw (← c .before .before .record-bits .ensures) (sym (c .before .same-number .ensures) ∙ c .if1 .left))))

@@ -34,7 +34,9 @@ write-fates-requires : tie.Need-write-fates-requires
 write-fates-requires c κs =
     let a = c .before .before .before .before .before .before .before .before .before .before .before .before .before .before .before .before .args in
     let p = c .before .before .before .before .before .before .before .before .before .before .before .before .before .before .before .before .pre in
-    (p .0 .1 .small, flattened-long _ _ _ (p .0 .1), roles-long (a .own .now) (a .z) (a .numbers .now) (a .indexes .now) (a .rates .now) (a .lower) (c .before .before .before .before .before .before .before .before .before .roles .result) (c .before .before .before .before .before .before .before .before .before .roles .ensures), omega (arith, c .paired .ensures, paired-few (c .before .before .before .before .before .before .before .left-count .result) (c .before .before .before .before .before .lacking .result .count), c .before .before .before .before .before .lacking .ensures .0, c .before .before .before .before .before .lacking .ensures .1, p .0 .1 .small .vars))
+    let roles = c .before .before .before .before .before .before .before .before .before .roles in
+    let lacking = c .before .before .before .before .before .lacking in
+    (p .0 .1 .small, flattened-long _ _ _ (p .0 .1), roles-long (a .own .now) (a .z) (a .numbers .now) (a .indexes .now) (a .rates .now) (a .lower) (roles .result) (roles .ensures), omega (arith, c .paired .ensures, paired-few (c .before .before .before .before .before .before .before .left-count .result) (lacking .result .count), lacking .ensures .0, lacking .ensures .1, p .0 .1 .small .vars))
 
 same-length : tie.Need-same-length
 same-length c = search needs
@@ -42,8 +44,12 @@ same-length c = search needs
 returns : tie.Need-returns
 returns c =
     let a = c .before .before .before .before .before .before .before .before .before .before .before .before .before .before .before .before .before .before .before .args in
-    let h : c .before .before .before .before .before .before .before .before .lacking .result .count ≤ length (c .before .before .before .before .before .before .before .before .lacking .result .states) = omega (arith, c .before .before .before .before .before .before .before .before .lacking .ensures .0, c .before .before .before .before .before .before .before .before .lacking .ensures .1, c .before .before .before .before .before .before .before .before .before .before .before .before .before .before .before .before .before .before .before .pre .0 .1 .small .vars) in
-    (left-by (a .own .now) (a .z) (a .numbers .now) (a .indexes .now) (a .rates .now) (a .lower) (c .before .before .before .before .before .before .before .before .before .before .before .before .roles .result) (c .before .before .before .before .before .before .before .before .before .before .before .before .roles .ensures) _ (c .before .before .before .before .before .before .before .before .before .before .left-count .ensures), states-by (a .own .now) (a .z) (a .numbers .now) (a .indexes .now) (a .rates .now) (a .lower) (c .before .before .before .before .before .before .before .before .before .before .before .before .roles .result) (c .before .before .before .before .before .before .before .before .before .before .before .before .roles .ensures) (a .starts .now) (c .before .before .before .before .before .before .before .before .lacking .result .states) (c .before .before .before .before .before .before .before .before .lacking .result .count) h (c .before .before .before .before .before .before .before .before .lacking .ensures .2), fated-by (a .own .now) (a .z) (a .numbers .now) (a .indexes .now) (a .rates .now) (a .lower) (c .before .before .before .before .before .before .before .before .before .before .before .before .roles .result) (c .before .before .before .before .before .before .before .before .before .before .before .before .roles .ensures) (a .starts .now) (c .before .before .before .before .before .before .before .before .lacking .result .states) (c .before .before .before .before .before .before .before .before .lacking .result .count) h (c .before .before .before .before .before .before .before .before .lacking .ensures .2) (c .before .before .before .before .before .before .before .before .before .before .left-count .result) (c .before .before .before .paired .result) (c .before .before .before .before .before .before .before .before .before .before .left-count .ensures) (c .before .before .before .paired .ensures) _ (c .before .before .write-fates .ensures))
+    let roles = c .before .before .before .before .before .before .before .before .before .before .before .before .roles in
+    let left-count = c .before .before .before .before .before .before .before .before .before .before .left-count in
+    let lacking = c .before .before .before .before .before .before .before .before .lacking in
+    let paired = c .before .before .before .paired in
+    let h : lacking .result .count ≤ length (lacking .result .states) = omega (arith, lacking .ensures .0, lacking .ensures .1, c .before .before .before .before .before .before .before .before .before .before .before .before .before .before .before .before .before .before .before .pre .0 .1 .small .vars) in
+    (left-by (a .own .now) (a .z) (a .numbers .now) (a .indexes .now) (a .rates .now) (a .lower) (roles .result) (roles .ensures) _ (left-count .ensures), states-by (a .own .now) (a .z) (a .numbers .now) (a .indexes .now) (a .rates .now) (a .lower) (roles .result) (roles .ensures) (a .starts .now) (lacking .result .states) (lacking .result .count) h (lacking .ensures .2), fated-by (a .own .now) (a .z) (a .numbers .now) (a .indexes .now) (a .rates .now) (a .lower) (roles .result) (roles .ensures) (a .starts .now) (lacking .result .states) (lacking .result .count) h (lacking .ensures .2) (left-count .result) (paired .result) (left-count .ensures) (paired .ensures) _ (c .before .before .write-fates .ensures))
 
 pub allocate-stmts-spec : {M : Type 1} → statement M
 allocate-stmts-spec =

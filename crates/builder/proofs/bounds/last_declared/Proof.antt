@@ -64,7 +64,9 @@ returns : tie.Need-returns Inv-loop μ-loop
 returns c =
     let a = c .before .before .before .before .before .before .before .args in
     let p = c .before .before .before .before .before .before .before .pre in
-    decided-found (a .f .now) (a .s) (p .0) (a .m) (p .1) (a .name) (c .before .before .before .loop .i) (c .before .before .before .before .before .model .result) (c .before .unknown .result) (omega arith) (c .before .before .before .loop .inv .0) (c .before .before .before .before .before .model .ensures .0) (c .before .unknown .ensures .0) (c .before .before .before .loop .inv .1) (c .if1 .taken)
+    let model = c .before .before .before .before .before .model in
+    let loop = c .before .before .before .loop in
+    decided-found (a .f .now) (a .s) (p .0) (a .m) (p .1) (a .name) (loop .i) (model .result) (c .before .unknown .result) (omega arith) (loop .inv .0) (model .ensures .0) (c .before .unknown .ensures .0) (loop .inv .1) (c .if1 .taken)
 
 sub-i : tie.Need-sub-i Inv-loop μ-loop
 sub-i c = omega arith
@@ -76,7 +78,9 @@ loop-again : tie.Need-loop-again Inv-loop μ-loop
 loop-again c =
     let a = c .before .before .before .before .before .before .before .args in
     let p = c .before .before .before .before .before .before .before .pre in
-    (omega arith, decided-next (a .f .now) (a .s) (p .0) (a .m) (p .1) (a .name) (c .before .before .before .loop .i) (c .before .before .before .before .before .model .result) (c .before .unknown .result) (omega arith) (c .before .before .before .loop .inv .0) (c .before .before .before .before .before .model .ensures .0) (c .before .unknown .ensures .0) (c .before .before .before .loop .inv .1) (c .if1 .left))
+    let model = c .before .before .before .before .before .model in
+    let loop = c .before .before .before .loop in
+    (omega arith, decided-next (a .f .now) (a .s) (p .0) (a .m) (p .1) (a .name) (loop .i) (model .result) (c .before .unknown .result) (omega arith) (loop .inv .0) (model .ensures .0) (c .before .unknown .ensures .0) (loop .inv .1) (c .if1 .left))
 
 returns-2 : tie.Need-returns-2 Inv-loop μ-loop
 returns-2 c =

@@ -32,7 +32,8 @@ returns : tie.Need-returns
 unfolding low high
 returns c =
     let a = c .before .before .before .before .before .before .before .before .before .before .args in
-    rw (← c .before .before .before .before .before .before .before .before .bits-of .ensures) (c .before .before .put-word2 .ensures ∙ put-next (a .out .now) _ (low (c .before .before .before .before .before .before .before .before .bits-of .result) ∷ []) (a .place) _ refl (c .before .before .before .before .before .before .put-word .ensures ∙ put-first (a .out .now) (a .place) (low (c .before .before .before .before .before .before .before .before .bits-of .result)) (omega arith)) (high (c .before .before .before .before .before .before .before .before .bits-of .result)) (omega arith))
+    let bits-of = c .before .before .before .before .before .before .before .before .bits-of in
+    rw (← bits-of .ensures) (c .before .before .put-word2 .ensures ∙ put-next (a .out .now) _ (low (bits-of .result) ∷ []) (a .place) _ refl (c .before .before .before .before .before .before .put-word .ensures ∙ put-first (a .out .now) (a .place) (low (bits-of .result)) (omega arith)) (high (bits-of .result)) (omega arith))
 
 pub put-number-spec : {M : Type 1} → statement M
 put-number-spec =

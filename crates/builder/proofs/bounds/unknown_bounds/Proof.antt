@@ -46,8 +46,9 @@ unfolding contentsOf
 returns c =
     let a = c .before .before .before .before .before .before .before .before .args in
     let p = c .before .before .before .before .before .before .before .before .pre in
+    let is-time = c .before .before .before .is-time in
     let n : wordOf (unknownRecord (a .f .now) (a .s) (a .u)) 0 < length (Opens.fileIn (a .f .now) (a .s) .names) = omega (arith, unknown-is (a .f .now) (a .s) (p .0) (a .u) (p .3) .name-below, names-long (a .f .now) (a .s)) in
-    let t : c .before .before .before .is-time .result ≡ isTime (Opens.fileIn (a .f .now) (a .s) .names) (wordOf (unknownRecord (a .f .now) (a .s) (a .u)) 0) = c .before .before .before .is-time .ensures ∙ rw (c .before .before .before .before .before .unknown .ensures .0, p .1 .class (wordOf (unknownRecord (a .f .now) (a .s) (a .u)) 0) n) (class-time (Opens.fileIn (a .f .now) (a .s) .names) (wordOf (unknownRecord (a .f .now) (a .s) (a .u)) 0)) in
+    let t : is-time .result ≡ isTime (Opens.fileIn (a .f .now) (a .s) .names) (wordOf (unknownRecord (a .f .now) (a .s) (a .u)) 0) = is-time .ensures ∙ rw (c .before .before .before .before .before .unknown .ensures .0, p .1 .class (wordOf (unknownRecord (a .f .now) (a .s) (a .u)) 0) n) (class-time (Opens.fileIn (a .f .now) (a .s) .names) (wordOf (unknownRecord (a .f .now) (a .s) (a .u)) 0)) in
     let d : c .before .read-domain .result ≡ domainValue (domainOf (unknownRecord (a .f .now) (a .s) (a .u))) = rw (← ranges (a .f .now) (a .s) (p .0) .starts .unknowns) (c .before .read-domain .ensures) in
     c .domain-bounds .ensures ∙ rw (d, t, c .before .before .is-positive .ensures) (unknown-floats (a .f .now) (a .s) (a .u) (p .0) (p .3))
 

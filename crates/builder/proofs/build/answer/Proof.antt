@@ -20,7 +20,9 @@ answer-with-requires : tie.Need-answer-with-requires
 answer-with-requires c κs =
     let a = c .before .before .before .before .before .before .before .before .before .before .before .args in
     let p = c .before .before .before .before .before .before .before .before .before .before .before .pre in
-    (p .0, p .1, (c .before .before .before .before .before .before .before .before .classes .ensures, c .before .before .before .before .before .before .before .before .classes .ok .1 .0 .1, c .before .before .before .before .before .before .before .callees .ensures), (omega (arith, c .before .before .before .before .few-rows .ensures .0, c .before .before .before .before .before .if1 .taken), zeros-in (a .f .now) (a .s) (c .before .before .before .before .few-rows .result) (c .before .before .before .before .few-rows .ensures .1)), p .2)
+    let classes = c .before .before .before .before .before .before .before .before .classes in
+    let few-rows = c .before .before .before .before .few-rows in
+    (p .0, p .1, (classes .ensures, classes .ok .1 .0 .1, c .before .before .before .before .before .before .before .callees .ensures), (omega (arith, few-rows .ensures .0, c .before .before .before .before .before .if1 .taken), zeros-in (a .f .now) (a .s) (few-rows .result) (few-rows .ensures .1)), p .2)
 
 same-length : tie.Need-same-length
 same-length c = search needs
@@ -38,7 +40,9 @@ answer-with-requires-2 : tie.Need-answer-with-requires-2
 answer-with-requires-2 c κs =
     let a = c .before .before .before .before .before .before .before .before .before .before .before .args in
     let p = c .before .before .before .before .before .before .before .before .before .before .before .pre in
-    (p .0, p .1, (c .before .before .before .before .before .before .before .before .classes .ensures, c .before .before .before .before .before .before .before .before .classes .ok .1 .0 .1, c .before .before .before .before .before .before .before .callees .ensures), (omega (arith, c .before .before .before .before .no-rows .ensures .0, p .0 .laid .within .models), zeros-in (a .f .now) (a .s) (c .before .before .before .before .no-rows .result) (c .before .before .before .before .no-rows .ensures .1)), p .2)
+    let classes = c .before .before .before .before .before .before .before .before .classes in
+    let no-rows = c .before .before .before .before .no-rows in
+    (p .0, p .1, (classes .ensures, classes .ok .1 .0 .1, c .before .before .before .before .before .before .before .callees .ensures), (omega (arith, no-rows .ensures .0, p .0 .laid .within .models), zeros-in (a .f .now) (a .s) (no-rows .result) (no-rows .ensures .1)), p .2)
 
 same-length-2 : tie.Need-same-length-2
 same-length-2 c = search needs

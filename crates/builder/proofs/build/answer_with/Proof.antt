@@ -16,9 +16,10 @@ enum-known-i c = search needs
 
 fill-requires : tie.Need-fill-requires
 fill-requires c κs =
-    let z = measured-sized _ _ _ _ _ (sym (c .before .before .before .i .given .1) ∙ c .before .before .before .before .before .before .before .measure .ensures .0) in
+    let measure = c .before .before .before .before .before .before .before .measure in
+    let z = measured-sized _ _ _ _ _ (sym (c .before .before .before .i .given .1) ∙ measure .ensures .0) in
     let p = c .before .before .before .before .before .before .before .before .before .before .before .before .pre in
-    (record { opened = p .0; classes = p .2 .0; callees = p .2 .2 }, p .2 .1, p .1, (c .before .before .before .before .before .before .before .measure .ensures .1, c .before .before .before .before .before .before .before .measure .ensures .2), p .4, (z .0, z .1, z .2, z .3))
+    (record { opened = p .0; classes = p .2 .0; callees = p .2 .2 }, p .2 .1, p .1, (measure .ensures .1, measure .ensures .2), p .4, (z .0, z .1, z .2, z .3))
 
 same-length : tie.Need-same-length
 same-length c = search needs
@@ -33,7 +34,9 @@ same-length-3 : tie.Need-same-length-3
 same-length-3 c = search needs
 
 returns-2 : tie.Need-returns-2
-returns-2 c = (c .before .before .before .before .fill .ensures .0 ∙ sym (ap bytesIn (measured-sized _ _ _ _ _ (sym (c .before .before .before .before .before .before .before .before .i .given .1) ∙ c .before .before .before .before .before .before .before .before .before .before .before .before .measure .ensures .0) .4)), c .before .before .before .before .fill .ensures .1)
+returns-2 c =
+    let fill = c .before .before .before .before .fill in
+    (fill .ensures .0 ∙ sym (ap bytesIn (measured-sized _ _ _ _ _ (sym (c .before .before .before .before .before .before .before .before .i .given .1) ∙ c .before .before .before .before .before .before .before .before .before .before .before .before .measure .ensures .0) .4)), fill .ensures .1)
 
 pub answer-with-spec : {M : Type 1} → statement M
 answer-with-spec =

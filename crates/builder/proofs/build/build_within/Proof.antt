@@ -26,7 +26,8 @@ returns : tie.Need-returns
 returns c =
     let a = c .before .before .before .before .before .before .before .before .before .before .args in
     let p = c .before .before .before .before .before .before .before .before .before .before .pre in
-    given-within (a .area .now) _ _ _ _ _ (p .2) (c .before .before .before .before .before .before .answer .ensures) (c .before .before .before .before .before .before .answer .kept .1 .1 .1 .0 ∙ length-take-le 55384 (a .area .now) (p .2)) (c .before .before .keep .ensures)
+    let answer = c .before .before .before .before .before .before .answer in
+    given-within (a .area .now) _ _ _ _ _ (p .2) (answer .ensures) (answer .kept .1 .1 .1 .0 ∙ length-take-le 55384 (a .area .now) (p .2)) (c .before .before .keep .ensures)
 
 pub build-within-spec : {M : Type 1} → statement M
 build-within-spec =

@@ -43,10 +43,11 @@ same-length-2 c = search needs
 returns-2 : tie.Need-returns-2
 returns-2 c =
     let p = c .before .before .before .before .before .before .before .before .pre in
+    let a2 = c .before .before .before .before .before .a2 in
     let d = c .before .before .before .before .before .before .before .before .args .area .now in
-    let e = hands-used (length d) _ _ d (c .before .before .before .before .before .a2 .given .1) in
-    let u = used-is _ _ (c .before .before .before .before .before .a2 .given .1) in
-    let k = kept d _ (c .before .before .before .before .before .a2 .given .0 .0) (omega (arith, u, p .0, p .1)) (c .before .before .clear .ensures) in
+    let e = hands-used (length d) _ _ d (a2 .given .1) in
+    let u = used-is _ _ (a2 .given .1) in
+    let k = kept d _ (a2 .given .0 .0) (omega (arith, u, p .0, p .1)) (c .before .before .clear .ensures) in
     (k .0 ∙ sym (ap told e), k .1 ∙ sym (ap (resultArea (length d)) e))
 
 pub keep-spec : {M : Type 1} → statement M

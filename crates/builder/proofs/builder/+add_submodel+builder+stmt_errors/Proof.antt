@@ -133,7 +133,8 @@ add-submodel-order-errors-requires : (t : ℕ) → add-submodel-lts.Need-order-e
 add-submodel-order-errors-requires t c κs =
     let a = c .before .before .before .before .before .before .before .before .before .before .before .before .args in
     let p = c .before .before .before .before .before .before .before .before .before .before .before .before .pre in
-    (call-args (call-in (p .1 .0 .opened) (a .q) (p .1 .1) 3 (sym (p .1 .2)) refl (c .before .before .before .before .before .before .before .before .before .stmt .result) (c .before .before .before .before .before .before .before .before .before .stmt .ensures .0)) (c .before .before .node2 .result) (c .before .node3 .result) (c .before .before .node2 .ensures .0) (c .before .node3 .ensures .0), room-then (submodel-found (p .1 .0) (a .q) (p .1 .1) 3 (sym (p .1 .2)) refl (c .before .before .before .before .before .before .before .before .before .stmt .result) (c .before .before .before .before .before .before .before .before .before .stmt .ensures .0) (λ j. errorsOf (fileIn (a .f .now) (a .s)) (a .k) j) (scopeIn (a .f .now) (a .s) 0) (c .before .before .before .before .before .before .before .if1 .left) (c .before .before .node2 .result) (c .before .node3 .result) (c .before .before .node2 .ensures .0) (c .before .node3 .ensures .0)) _ _ (p .1 .4 (scopeIn (a .f .now) (a .s) 0)) (c .before .before .before .before .before .builder .ensures))
+    let node2 = c .before .before .node2 in
+    (call-args (call-in (p .1 .0 .opened) (a .q) (p .1 .1) 3 (sym (p .1 .2)) refl (c .before .before .before .before .before .before .before .before .before .stmt .result) (c .before .before .before .before .before .before .before .before .before .stmt .ensures .0)) (node2 .result) (c .before .node3 .result) (node2 .ensures .0) (c .before .node3 .ensures .0), room-then (submodel-found (p .1 .0) (a .q) (p .1 .1) 3 (sym (p .1 .2)) refl (c .before .before .before .before .before .before .before .before .before .stmt .result) (c .before .before .before .before .before .before .before .before .before .stmt .ensures .0) (λ j. errorsOf (fileIn (a .f .now) (a .s)) (a .k) j) (scopeIn (a .f .now) (a .s) 0) (c .before .before .before .before .before .before .before .if1 .left) (node2 .result) (c .before .node3 .result) (node2 .ensures .0) (c .before .node3 .ensures .0)) _ _ (p .1 .4 (scopeIn (a .f .now) (a .s) 0)) (c .before .before .before .before .before .builder .ensures))
 
 add-submodel-same-length-2 : (t : ℕ) → add-submodel-lts.Need-same-length-2 (stmt-reads.Asked, stmt-reads.Learnt, node-reads.Asked, node-reads.Learnt, missing-error-reads.Asked, missing-error-reads.Learnt, builder-below t, builder.Post, order-errors-reads.Asked, order-errors-reads.Learnt) (add-submodel-at t) add-submodel.Post
 add-submodel-same-length-2 t c = omega arith
@@ -142,7 +143,9 @@ add-submodel-returns-2 : (t : ℕ) → add-submodel-lts.Need-returns-2 (stmt-rea
 add-submodel-returns-2 t c =
     let a = c .before .before .before .before .before .before .before .before .before .before .before .before .before .before .before .args in
     let p = c .before .before .before .before .before .before .before .before .before .before .before .before .before .before .before .pre in
-    λ o. lists-then (submodel-found (p .1 .0) (a .q) (p .1 .1) 3 (sym (p .1 .2)) refl (c .before .before .before .before .before .before .before .before .before .before .before .before .stmt .result) (c .before .before .before .before .before .before .before .before .before .before .before .before .stmt .ensures .0) (λ j. errorsOf (fileIn (a .f .now) (a .s)) (a .k) j) o (c .before .before .before .before .before .before .before .before .before .before .if1 .left) (c .before .before .before .before .before .node2 .result) (c .before .before .before .before .node3 .result) (c .before .before .before .before .before .node2 .ensures .0) (c .before .before .before .before .node3 .ensures .0)) _ _ _ _ _ _ (c .before .before .before .before .before .before .before .before .builder .ensures) (c .before .before .order-errors .ensures)
+    let node2 = c .before .before .before .before .before .node2 in
+    let node3 = c .before .before .before .before .node3 in
+    λ o. lists-then (submodel-found (p .1 .0) (a .q) (p .1 .1) 3 (sym (p .1 .2)) refl (c .before .before .before .before .before .before .before .before .before .before .before .before .stmt .result) (c .before .before .before .before .before .before .before .before .before .before .before .before .stmt .ensures .0) (λ j. errorsOf (fileIn (a .f .now) (a .s)) (a .k) j) o (c .before .before .before .before .before .before .before .before .before .before .if1 .left) (node2 .result) (node3 .result) (node2 .ensures .0) (node3 .ensures .0)) _ _ _ _ _ _ (c .before .before .before .before .before .before .before .before .builder .ensures) (c .before .before .order-errors .ensures)
 
 abbrev builder-Inv-loop : builder-lts.InvT-loop
 builder-Inv-loop f s classes rules calls k m out₀ count vars first stmts listed₀ i₀ out listed i = (i ≤ stmts) × Lists out₀ listed₀ (each (stmtErrors (fileIn f s) (λ j. errorsOf (fileIn f s) (k - 1) j) (scopeIn f s m)) (take i (modelAt (fileIn f s) m .stmts))) listed out
@@ -191,7 +194,8 @@ builder-add-q : (t : ℕ) → builder-lts.Need-add-q (no-marks-reads.Asked, no-m
 builder-add-q t c =
     let a = c .before .before .before .before .before .before .before .before .before .before .before .before .before .before .before .args in
     let p = c .before .before .before .before .before .before .before .before .before .before .before .before .before .before .before .pre in
-    omega (arith, stmts-below (a .f .now) (a .s) (p .1 .0 .opened) (a .m) (p .1 .1) (c .before .before .before .before .before .before .before .model .result) (c .before .before .before .before .before .before .model2 .result) (c .before .loop .i) (c .before .before .before .before .before .before .before .model .ensures .0) (c .before .before .before .before .before .before .model2 .ensures .0) (c .loop-test .taken), p .1 .0 .opened .laid .within .stmts)
+    let model2 = c .before .before .before .before .before .before .model2 in
+    omega (arith, stmts-below (a .f .now) (a .s) (p .1 .0 .opened) (a .m) (p .1 .1) (c .before .before .before .before .before .before .before .model .result) (model2 .result) (c .before .loop .i) (c .before .before .before .before .before .before .before .model .ensures .0) (model2 .ensures .0) (c .loop-test .taken), p .1 .0 .opened .laid .within .stmts)
 
 builder-sub-stmt-errors : (t : ℕ) → builder-lts.Need-sub-stmt-errors (no-marks-reads.Asked, no-marks-reads.Learnt, model-vars-reads.Asked, model-vars-reads.Learnt, model-reads.Asked, model-reads.Learnt, unknowns-errors-reads.Asked, unknowns-errors-reads.Learnt, stmt-errors-below t, stmt-errors.Post) (builder-at t) builder.Post builder-Inv-loop builder-μ-loop
 builder-sub-stmt-errors t c = omega (arith, c .before .before .before .before .before .before .before .before .before .before .before .before .before .if1 .left)
@@ -200,13 +204,18 @@ builder-stmt-errors-requires : (t : ℕ) → builder-lts.Need-stmt-errors-requir
 builder-stmt-errors-requires t c κs =
     let a = c .before .before .before .before .before .before .before .before .before .before .before .before .before .before .before .before .before .args in
     let p = c .before .before .before .before .before .before .before .before .before .before .before .before .before .before .before .before .before .pre in
-    (omega (arith, p .0, c .before .before .before .before .before .before .before .before .before .before .before .before .before .before .if1 .left), (p .1 .0, against (p .1 .0) (a .m) (p .1 .1) (c .before .before .before .before .before .before .before .before .before .before .before .model-vars .ensures .0), stmts-below (a .f .now) (a .s) (p .1 .0 .opened) (a .m) (p .1 .1) (c .before .before .before .before .before .before .before .before .before .model .result) (c .before .before .before .before .before .before .before .before .model2 .result) (c .before .before .before .loop .i) (c .before .before .before .before .before .before .before .before .before .model .ensures .0) (c .before .before .before .before .before .before .before .before .model2 .ensures .0) (c .before .before .loop-test .taken), omega (arith, p .1 .2), run-room (stmtErrors (fileIn (a .f .now) (a .s)) (λ j. errorsOf (fileIn (a .f .now) (a .s)) (a .k - 1) j) (scopeIn (a .f .now) (a .s) (a .m))) (modelAt (fileIn (a .f .now) (a .s)) (a .m) .stmts) (stmtIn (a .f .now) (a .s) (c .before .before .before .before .before .before .before .before .before .model .result + c .before .before .before .loop .i)) (c .before .before .before .loop .i) (stmt-there (a .f .now) (a .s) (p .1 .0 .opened) (a .m) (p .1 .1) (c .before .before .before .before .before .before .before .before .before .model .result) (c .before .before .before .before .before .before .before .before .model2 .result) (c .before .before .before .loop .i) (c .before .before .before .before .before .before .before .before .before .model .ensures .0) (c .before .before .before .before .before .before .before .before .model2 .ensures .0) (c .before .before .loop-test .taken)) (stmt-here (a .f .now) (a .s) (p .1 .0 .opened) (a .m) (p .1 .1) (c .before .before .before .before .before .before .before .before .before .model .result) (c .before .before .before .before .before .before .before .before .model2 .result) (c .before .before .before .loop .i) (c .before .before .before .before .before .before .before .before .before .model .ensures .0) (c .before .before .before .before .before .before .before .before .model2 .ensures .0) (c .before .before .loop-test .taken)) _ _ _ _ (room-then (errors-more (fileIn (a .f .now) (a .s)) (a .k) (a .m) (c .before .before .before .before .before .before .before .before .before .before .before .before .before .before .if1 .left)) _ _ (p .1 .3) (c .before .before .before .before .before .before .unknowns-errors .ensures)) (c .before .before .before .loop .inv .1)))
+    let if1 = c .before .before .before .before .before .before .before .before .before .before .before .before .before .before .if1 in
+    let model2 = c .before .before .before .before .before .before .before .before .model2 in
+    let loop = c .before .before .before .loop in
+    let loop-test = c .before .before .loop-test in
+    (omega (arith, p .0, if1 .left), (p .1 .0, against (p .1 .0) (a .m) (p .1 .1) (c .before .before .before .before .before .before .before .before .before .before .before .model-vars .ensures .0), stmts-below (a .f .now) (a .s) (p .1 .0 .opened) (a .m) (p .1 .1) (c .before .before .before .before .before .before .before .before .before .model .result) (model2 .result) (loop .i) (c .before .before .before .before .before .before .before .before .before .model .ensures .0) (model2 .ensures .0) (loop-test .taken), omega (arith, p .1 .2), run-room (stmtErrors (fileIn (a .f .now) (a .s)) (λ j. errorsOf (fileIn (a .f .now) (a .s)) (a .k - 1) j) (scopeIn (a .f .now) (a .s) (a .m))) (modelAt (fileIn (a .f .now) (a .s)) (a .m) .stmts) (stmtIn (a .f .now) (a .s) (c .before .before .before .before .before .before .before .before .before .model .result + loop .i)) (loop .i) (stmt-there (a .f .now) (a .s) (p .1 .0 .opened) (a .m) (p .1 .1) (c .before .before .before .before .before .before .before .before .before .model .result) (model2 .result) (loop .i) (c .before .before .before .before .before .before .before .before .before .model .ensures .0) (model2 .ensures .0) (loop-test .taken)) (stmt-here (a .f .now) (a .s) (p .1 .0 .opened) (a .m) (p .1 .1) (c .before .before .before .before .before .before .before .before .before .model .result) (model2 .result) (loop .i) (c .before .before .before .before .before .before .before .before .before .model .ensures .0) (model2 .ensures .0) (loop-test .taken)) _ _ _ _ (room-then (errors-more (fileIn (a .f .now) (a .s)) (a .k) (a .m) (if1 .left)) _ _ (p .1 .3) (c .before .before .before .before .before .before .unknowns-errors .ensures)) (loop .inv .1)))
 
 builder-add-i : (t : ℕ) → builder-lts.Need-add-i (no-marks-reads.Asked, no-marks-reads.Learnt, model-vars-reads.Asked, model-vars-reads.Learnt, model-reads.Asked, model-reads.Learnt, unknowns-errors-reads.Asked, unknowns-errors-reads.Learnt, stmt-errors-below t, stmt-errors.Post) (builder-at t) builder.Post builder-Inv-loop builder-μ-loop
 builder-add-i t c =
     let a = c .before .before .before .before .before .before .before .before .before .before .before .before .before .before .before .before .before .before .before .before .args in
     let p = c .before .before .before .before .before .before .before .before .before .before .before .before .before .before .before .before .before .before .before .before .pre in
-    omega (arith, stmts-below (a .f .now) (a .s) (p .1 .0 .opened) (a .m) (p .1 .1) (c .before .before .before .before .before .before .before .before .before .before .before .before .model .result) (c .before .before .before .before .before .before .before .before .before .before .before .model2 .result) (c .before .before .before .before .before .before .loop .i) (c .before .before .before .before .before .before .before .before .before .before .before .before .model .ensures .0) (c .before .before .before .before .before .before .before .before .before .before .before .model2 .ensures .0) (c .before .before .before .before .before .loop-test .taken), p .1 .0 .opened .laid .within .stmts)
+    let model2 = c .before .before .before .before .before .before .before .before .before .before .before .model2 in
+    omega (arith, stmts-below (a .f .now) (a .s) (p .1 .0 .opened) (a .m) (p .1 .1) (c .before .before .before .before .before .before .before .before .before .before .before .before .model .result) (model2 .result) (c .before .before .before .before .before .before .loop .i) (c .before .before .before .before .before .before .before .before .before .before .before .before .model .ensures .0) (model2 .ensures .0) (c .before .before .before .before .before .loop-test .taken), p .1 .0 .opened .laid .within .stmts)
 
 builder-loop-less : (t : ℕ) → builder-lts.Need-loop-less (no-marks-reads.Asked, no-marks-reads.Learnt, model-vars-reads.Asked, model-vars-reads.Learnt, model-reads.Asked, model-reads.Learnt, unknowns-errors-reads.Asked, unknowns-errors-reads.Learnt, stmt-errors-below t, stmt-errors.Post) (builder-at t) builder.Post builder-Inv-loop builder-μ-loop
 builder-loop-less t c = omega (arith, c .before .before .before .before .before .loop-test .taken)
@@ -215,20 +224,25 @@ builder-loop-again : (t : ℕ) → builder-lts.Need-loop-again (no-marks-reads.A
 builder-loop-again t c =
     let a = c .before .before .before .before .before .before .before .before .before .before .before .before .before .before .before .before .before .before .before .before .args in
     let p = c .before .before .before .before .before .before .before .before .before .before .before .before .before .before .before .before .before .before .before .before .pre in
-    (omega (arith, c .before .before .before .before .before .loop-test .taken), run-goes (stmtErrors (fileIn (a .f .now) (a .s)) (λ j. errorsOf (fileIn (a .f .now) (a .s)) (a .k - 1) j) (scopeIn (a .f .now) (a .s) (a .m))) (modelAt (fileIn (a .f .now) (a .s)) (a .m) .stmts) (stmtIn (a .f .now) (a .s) (c .before .before .before .before .before .before .before .before .before .before .before .before .model .result + c .before .before .before .before .before .before .loop .i)) (c .before .before .before .before .before .before .loop .i) (stmt-there (a .f .now) (a .s) (p .1 .0 .opened) (a .m) (p .1 .1) (c .before .before .before .before .before .before .before .before .before .before .before .before .model .result) (c .before .before .before .before .before .before .before .before .before .before .before .model2 .result) (c .before .before .before .before .before .before .loop .i) (c .before .before .before .before .before .before .before .before .before .before .before .before .model .ensures .0) (c .before .before .before .before .before .before .before .before .before .before .before .model2 .ensures .0) (c .before .before .before .before .before .loop-test .taken)) (stmt-here (a .f .now) (a .s) (p .1 .0 .opened) (a .m) (p .1 .1) (c .before .before .before .before .before .before .before .before .before .before .before .before .model .result) (c .before .before .before .before .before .before .before .before .before .before .before .model2 .result) (c .before .before .before .before .before .before .loop .i) (c .before .before .before .before .before .before .before .before .before .before .before .before .model .ensures .0) (c .before .before .before .before .before .before .before .before .before .before .before .model2 .ensures .0) (c .before .before .before .before .before .loop-test .taken)) _ _ _ _ _ _ (c .before .before .before .before .before .before .loop .inv .1) (c .before .before .stmt-errors .ensures))
+    let model2 = c .before .before .before .before .before .before .before .before .before .before .before .model2 in
+    let loop = c .before .before .before .before .before .before .loop in
+    let loop-test = c .before .before .before .before .before .loop-test in
+    (omega (arith, loop-test .taken), run-goes (stmtErrors (fileIn (a .f .now) (a .s)) (λ j. errorsOf (fileIn (a .f .now) (a .s)) (a .k - 1) j) (scopeIn (a .f .now) (a .s) (a .m))) (modelAt (fileIn (a .f .now) (a .s)) (a .m) .stmts) (stmtIn (a .f .now) (a .s) (c .before .before .before .before .before .before .before .before .before .before .before .before .model .result + loop .i)) (loop .i) (stmt-there (a .f .now) (a .s) (p .1 .0 .opened) (a .m) (p .1 .1) (c .before .before .before .before .before .before .before .before .before .before .before .before .model .result) (model2 .result) (loop .i) (c .before .before .before .before .before .before .before .before .before .before .before .before .model .ensures .0) (model2 .ensures .0) (loop-test .taken)) (stmt-here (a .f .now) (a .s) (p .1 .0 .opened) (a .m) (p .1 .1) (c .before .before .before .before .before .before .before .before .before .before .before .before .model .result) (model2 .result) (loop .i) (c .before .before .before .before .before .before .before .before .before .before .before .before .model .ensures .0) (model2 .ensures .0) (loop-test .taken)) _ _ _ _ _ _ (loop .inv .1) (c .before .before .stmt-errors .ensures))
 
 builder-same-length : (t : ℕ) → builder-lts.Need-same-length (no-marks-reads.Asked, no-marks-reads.Learnt, model-vars-reads.Asked, model-vars-reads.Learnt, model-reads.Asked, model-reads.Learnt, unknowns-errors-reads.Asked, unknowns-errors-reads.Learnt, stmt-errors-below t, stmt-errors.Post) (builder-at t) builder.Post builder-Inv-loop builder-μ-loop
 builder-same-length t c =
     let a = c .before .before .before .before .before .before .before .before .before .before .before .before .before .before .before .args in
     let p = c .before .before .before .before .before .before .before .before .before .before .before .before .before .before .before .pre in
-    let r = room-then (errors-more (fileIn (a .f .now) (a .s)) (a .k) (a .m) (c .before .before .before .before .before .before .before .before .before .before .before .before .if1 .left)) _ _ (p .1 .3) (c .before .before .before .before .unknowns-errors .ensures) in
-    ap length (c .before .loop .inv .1 .1) ∙ length-listed _ _ _ (r .long) ∙ ap length (c .before .before .before .before .unknowns-errors .ensures .1) ∙ length-listed _ _ _ (p .1 .3 .long)
+    let unknowns-errors = c .before .before .before .before .unknowns-errors in
+    let r = room-then (errors-more (fileIn (a .f .now) (a .s)) (a .k) (a .m) (c .before .before .before .before .before .before .before .before .before .before .before .before .if1 .left)) _ _ (p .1 .3) (unknowns-errors .ensures) in
+    ap length (c .before .loop .inv .1 .1) ∙ length-listed _ _ _ (r .long) ∙ ap length (unknowns-errors .ensures .1) ∙ length-listed _ _ _ (p .1 .3 .long)
 
 builder-returns-2 : (t : ℕ) → builder-lts.Need-returns-2 (no-marks-reads.Asked, no-marks-reads.Learnt, model-vars-reads.Asked, model-vars-reads.Learnt, model-reads.Asked, model-reads.Learnt, unknowns-errors-reads.Asked, unknowns-errors-reads.Learnt, stmt-errors-below t, stmt-errors.Post) (builder-at t) builder.Post builder-Inv-loop builder-μ-loop
 builder-returns-2 t c =
     let a = c .before .before .before .before .before .before .before .before .before .before .before .before .before .before .before .args in
     let p = c .before .before .before .before .before .before .before .before .before .before .before .before .before .before .before .pre in
-    lists-then (errors-more (fileIn (a .f .now) (a .s)) (a .k) (a .m) (c .before .before .before .before .before .before .before .before .before .before .before .before .if1 .left)) _ _ _ _ _ _ (c .before .before .before .before .unknowns-errors .ensures) (run-ends (stmtErrors (fileIn (a .f .now) (a .s)) (λ j. errorsOf (fileIn (a .f .now) (a .s)) (a .k - 1) j) (scopeIn (a .f .now) (a .s) (a .m))) (modelAt (fileIn (a .f .now) (a .s)) (a .m) .stmts) (c .before .loop .i) (stmts-past (a .f .now) (a .s) (p .1 .0 .opened) (a .m) (p .1 .1) (c .before .before .before .before .before .before .before .model .result) (c .before .before .before .before .before .before .model2 .result) (c .before .loop .i) (c .before .before .before .before .before .before .before .model .ensures .0) (c .before .before .before .before .before .before .model2 .ensures .0) (c .loop-test .left)) _ _ _ _ (c .before .loop .inv .1))
+    let model2 = c .before .before .before .before .before .before .model2 in
+    lists-then (errors-more (fileIn (a .f .now) (a .s)) (a .k) (a .m) (c .before .before .before .before .before .before .before .before .before .before .before .before .if1 .left)) _ _ _ _ _ _ (c .before .before .before .before .unknowns-errors .ensures) (run-ends (stmtErrors (fileIn (a .f .now) (a .s)) (λ j. errorsOf (fileIn (a .f .now) (a .s)) (a .k - 1) j) (scopeIn (a .f .now) (a .s) (a .m))) (modelAt (fileIn (a .f .now) (a .s)) (a .m) .stmts) (c .before .loop .i) (stmts-past (a .f .now) (a .s) (p .1 .0 .opened) (a .m) (p .1 .1) (c .before .before .before .before .before .before .before .model .result) (model2 .result) (c .before .loop .i) (c .before .before .before .before .before .before .before .model .ensures .0) (model2 .ensures .0) (c .loop-test .left)) _ _ _ _ (c .before .loop .inv .1))
 
 stmt-errors-stmt-requires : (t : ℕ) → stmt-errors-lts.Need-stmt-requires (stmt-reads.Asked, stmt-reads.Learnt, own-errors-reads.Asked, own-errors-reads.Learnt, add-submodel-below t, add-submodel.Post) (stmt-errors-at t) stmt-errors.Post
 stmt-errors-stmt-requires t c κs = (c .before .before .pre .1 .0 .opened, (c .before .before .pre .1 .2, omega arith))

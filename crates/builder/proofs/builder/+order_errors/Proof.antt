@@ -82,15 +82,19 @@ order-errors-has-keyword-requires t c κs = args-rest (c .before .before .before
 order-errors-error-unless-requires : (t : ℕ) → order-errors-lts.Need-error-unless-requires (node-reads.Asked, node-reads.Learnt, order-errors-below t, order-errors.Post, has-keyword-reads.Asked, has-keyword-reads.Learnt, error-unless-reads.Asked, error-unless-reads.Learnt) (order-errors-at t) order-errors.Post
 order-errors-error-unless-requires t c κs =
     let p = c .before .before .before .before .before .before .before .before .before .before .before .pre in
-    let n = arg-node (p .1 .0) (c .before .before .before .before .before .before .before .before .if1 .left) in
-    let r = room-then (order-more (p .1 .0) (c .before .before .before .before .before .before .before .before .if1 .left) (c .before .before .node2 .result) (c .before .before .node2 .ensures .0) (c .before .before .before .before .before .before .before .node .result) (c .before .before .before .before .before .before .before .node .ensures .0) (c .before .has-keyword .result) (c .before .has-keyword .ensures)) _ _ (p .1 .1) (c .before .before .before .before .before .order-errors .ensures) in
+    let if1 = c .before .before .before .before .before .before .before .before .if1 in
+    let n = arg-node (p .1 .0) (if1 .left) in
+    let r = room-then (order-more (p .1 .0) (if1 .left) (c .before .before .node2 .result) (c .before .before .node2 .ensures .0) (c .before .before .before .before .before .before .before .node .result) (c .before .before .before .before .before .before .before .node .ensures .0) (c .before .has-keyword .result) (c .before .has-keyword .ensures)) _ _ (p .1 .1) (c .before .before .before .before .before .order-errors .ensures) in
     (n, omega arith, r .long, omega (arith, r .few))
 
 order-errors-same-length : (t : ℕ) → order-errors-lts.Need-same-length (node-reads.Asked, node-reads.Learnt, order-errors-below t, order-errors.Post, has-keyword-reads.Asked, has-keyword-reads.Learnt, error-unless-reads.Asked, error-unless-reads.Learnt) (order-errors-at t) order-errors.Post
 order-errors-same-length t c = omega arith
 
 order-errors-returns-2 : (t : ℕ) → order-errors-lts.Need-returns-2 (node-reads.Asked, node-reads.Learnt, order-errors-below t, order-errors.Post, has-keyword-reads.Asked, has-keyword-reads.Learnt, error-unless-reads.Asked, error-unless-reads.Learnt) (order-errors-at t) order-errors.Post
-order-errors-returns-2 t c = lists-then (order-more (c .before .before .before .before .before .before .before .before .before .before .before .before .before .before .pre .1 .0) (c .before .before .before .before .before .before .before .before .before .before .before .if1 .left) (c .before .before .before .before .before .node2 .result) (c .before .before .before .before .before .node2 .ensures .0) (c .before .before .before .before .before .before .before .before .before .before .node .result) (c .before .before .before .before .before .before .before .before .before .before .node .ensures .0) (c .before .before .before .before .has-keyword .result) (c .before .before .before .before .has-keyword .ensures)) _ _ _ _ _ _ (c .before .before .before .before .before .before .before .before .order-errors .ensures) (c .before .before .error-unless .ensures)
+order-errors-returns-2 t c =
+    let node2 = c .before .before .before .before .before .node2 in
+    let has-keyword = c .before .before .before .before .has-keyword in
+    lists-then (order-more (c .before .before .before .before .before .before .before .before .before .before .before .before .before .before .pre .1 .0) (c .before .before .before .before .before .before .before .before .before .before .before .if1 .left) (node2 .result) (node2 .ensures .0) (c .before .before .before .before .before .before .before .before .before .before .node .result) (c .before .before .before .before .before .before .before .before .before .before .node .ensures .0) (has-keyword .result) (has-keyword .ensures)) _ _ _ _ _ _ (c .before .before .before .before .before .before .before .before .order-errors .ensures) (c .before .before .error-unless .ensures)
 
 pub +order-errors-spec : {M : Type 1} → statement M
 +order-errors-spec = close μ-order-errors λ t. order-errors-lts.spec (node-reads.Asked, node-reads.Learnt, order-errors-below t, order-errors.Post, has-keyword-reads.Asked, has-keyword-reads.Learnt, error-unless-reads.Asked, error-unless-reads.Learnt)

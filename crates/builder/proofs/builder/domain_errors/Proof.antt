@@ -23,13 +23,17 @@ add-unknown-error c = search needs
 unknown-error-requires : tie.Need-unknown-error-requires
 unknown-error-requires c κs =
     let p = c .before .before .before .before .before .before .before .pre in
-    (p .0 .opened, p .0 .within, omega (arith, domain-small (p .0) (c .before .before .before .before .unknown .result) (c .before .before .unknown2 .result) (c .before .before .before .before .unknown .ensures .0) (c .before .before .before .if1 .left) (c .before .before .unknown2 .ensures .0)), p .1 .long, omega (arith, p .1 .few))
+    let unknown = c .before .before .before .before .unknown in
+    (p .0 .opened, p .0 .within, omega (arith, domain-small (p .0) (unknown .result) (c .before .before .unknown2 .result) (unknown .ensures .0) (c .before .before .before .if1 .left) (c .before .before .unknown2 .ensures .0)), p .1 .long, omega (arith, p .1 .few))
 
 same-length : tie.Need-same-length
 same-length c = search needs
 
 returns-2 : tie.Need-returns-2
-returns-2 c = rw (domain-named (c .before .before .before .before .before .before .before .before .before .before .pre .0) (c .before .before .before .before .before .before .before .unknown .result) (c .before .before .before .before .before .unknown2 .result) (c .before .before .before .before .before .before .before .unknown .ensures .0) (c .before .before .before .before .before .before .if1 .left) (c .before .before .before .before .before .unknown2 .ensures .0)) (c .before .before .unknown-error .ensures)
+returns-2 c =
+    let unknown = c .before .before .before .before .before .before .before .unknown in
+    let unknown2 = c .before .before .before .before .before .unknown2 in
+    rw (domain-named (c .before .before .before .before .before .before .before .before .before .before .pre .0) (unknown .result) (unknown2 .result) (unknown .ensures .0) (c .before .before .before .before .before .before .if1 .left) (unknown2 .ensures .0)) (c .before .before .unknown-error .ensures)
 
 pub domain-errors-spec : {M : Type 1} → statement M
 domain-errors-spec =

@@ -27,7 +27,8 @@ returns : tie.Need-returns
 returns c =
     let a = c .before .before .before .before .before .before .before .before .before .args in
     let p = c .before .before .before .before .before .before .before .before .before .pre in
-    rw (rate-errors (p .0 .scoped .opened) (a .q) (p .1) (c .before .stmt2 .result) (c .before .stmt2 .ensures .0) (λ j. []) (scopeIn (a .f .now) (a .s) (a .m)) (c .if1 .taken) (c .before .before .before .before .before .before .stmt .result) (c .before .before .before .before .before .before .stmt .ensures .0)) (c .before .before .before .before .check-expr .ensures)
+    let stmt = c .before .before .before .before .before .before .stmt in
+    rw (rate-errors (p .0 .scoped .opened) (a .q) (p .1) (c .before .stmt2 .result) (c .before .stmt2 .ensures .0) (λ j. []) (scopeIn (a .f .now) (a .s) (a .m)) (c .if1 .taken) (stmt .result) (stmt .ensures .0)) (c .before .before .before .before .check-expr .ensures)
 
 stmt-requires-3 : tie.Need-stmt-requires-3
 stmt-requires-3 c κs =
@@ -38,7 +39,9 @@ check-expr-requires-2 : tie.Need-check-expr-requires-2
 check-expr-requires-2 c κs =
     let a = c .before .before .before .before .before .before .before .before .before .before .before .args in
     let p = c .before .before .before .before .before .before .before .before .before .before .before .pre in
-    (p .0, left-in (p .0 .scoped .opened) (a .q) (p .1) (c .before .before .before .stmt2 .result) (c .before .before .before .stmt2 .ensures .0) (an-equation (p .0 .scoped .opened) (a .q) (p .1) (c .before .before .before .stmt2 .result) (c .before .before .before .stmt2 .ensures .0) (omega (arith, p .2, c .before .before .before .stmt2 .ensures .0)) (c .before .before .if1 .left)) (c .before .stmt3 .result) (c .before .stmt3 .ensures .0), room-then (equation-errors (p .0 .scoped .opened) (a .q) (p .1) (c .before .before .before .stmt2 .result) (c .before .before .before .stmt2 .ensures .0) (λ j. []) (scopeIn (a .f .now) (a .s) (a .m)) (an-equation (p .0 .scoped .opened) (a .q) (p .1) (c .before .before .before .stmt2 .result) (c .before .before .before .stmt2 .ensures .0) (omega (arith, p .2, c .before .before .before .stmt2 .ensures .0)) (c .before .before .if1 .left)) (c .before .before .before .before .before .before .before .before .stmt .result) (c .before .stmt3 .result) (c .before .before .before .before .before .before .before .before .stmt .ensures .0) (c .before .stmt3 .ensures .0)) _ _ (p .3) (c .before .before .before .before .before .before .check-expr .ensures))
+    let stmt = c .before .before .before .before .before .before .before .before .stmt in
+    let stmt2 = c .before .before .before .stmt2 in
+    (p .0, left-in (p .0 .scoped .opened) (a .q) (p .1) (stmt2 .result) (stmt2 .ensures .0) (an-equation (p .0 .scoped .opened) (a .q) (p .1) (stmt2 .result) (stmt2 .ensures .0) (omega (arith, p .2, stmt2 .ensures .0)) (c .before .before .if1 .left)) (c .before .stmt3 .result) (c .before .stmt3 .ensures .0), room-then (equation-errors (p .0 .scoped .opened) (a .q) (p .1) (stmt2 .result) (stmt2 .ensures .0) (λ j. []) (scopeIn (a .f .now) (a .s) (a .m)) (an-equation (p .0 .scoped .opened) (a .q) (p .1) (stmt2 .result) (stmt2 .ensures .0) (omega (arith, p .2, stmt2 .ensures .0)) (c .before .before .if1 .left)) (stmt .result) (c .before .stmt3 .result) (stmt .ensures .0) (c .before .stmt3 .ensures .0)) _ _ (p .3) (c .before .before .before .before .before .before .check-expr .ensures))
 
 same-length-2 : tie.Need-same-length-2
 same-length-2 c = search needs
@@ -47,7 +50,10 @@ returns-2 : tie.Need-returns-2
 returns-2 c =
     let a = c .before .before .before .before .before .before .before .before .before .before .before .before .before .before .args in
     let p = c .before .before .before .before .before .before .before .before .before .before .before .before .before .before .pre in
-    lists-then (equation-errors (p .0 .scoped .opened) (a .q) (p .1) (c .before .before .before .before .before .before .stmt2 .result) (c .before .before .before .before .before .before .stmt2 .ensures .0) (λ j. []) (scopeIn (a .f .now) (a .s) (a .m)) (an-equation (p .0 .scoped .opened) (a .q) (p .1) (c .before .before .before .before .before .before .stmt2 .result) (c .before .before .before .before .before .before .stmt2 .ensures .0) (omega (arith, p .2, c .before .before .before .before .before .before .stmt2 .ensures .0)) (c .before .before .before .before .before .if1 .left)) (c .before .before .before .before .before .before .before .before .before .before .before .stmt .result) (c .before .before .before .before .stmt3 .result) (c .before .before .before .before .before .before .before .before .before .before .before .stmt .ensures .0) (c .before .before .before .before .stmt3 .ensures .0)) _ _ _ _ _ _ (c .before .before .before .before .before .before .before .before .before .check-expr .ensures) (c .before .before .check-expr2 .ensures)
+    let stmt = c .before .before .before .before .before .before .before .before .before .before .before .stmt in
+    let stmt2 = c .before .before .before .before .before .before .stmt2 in
+    let stmt3 = c .before .before .before .before .stmt3 in
+    lists-then (equation-errors (p .0 .scoped .opened) (a .q) (p .1) (stmt2 .result) (stmt2 .ensures .0) (λ j. []) (scopeIn (a .f .now) (a .s) (a .m)) (an-equation (p .0 .scoped .opened) (a .q) (p .1) (stmt2 .result) (stmt2 .ensures .0) (omega (arith, p .2, stmt2 .ensures .0)) (c .before .before .before .before .before .if1 .left)) (stmt .result) (stmt3 .result) (stmt .ensures .0) (stmt3 .ensures .0)) _ _ _ _ _ _ (c .before .before .before .before .before .before .before .before .before .check-expr .ensures) (c .before .before .check-expr2 .ensures)
 
 pub own-errors-spec : {M : Type 1} → statement M
 own-errors-spec =

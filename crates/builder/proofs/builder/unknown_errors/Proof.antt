@@ -29,14 +29,19 @@ add-unknown-error c = search needs
 unknown-error-requires : tie.Need-unknown-error-requires
 unknown-error-requires c κs =
     let p = c .before .before .before .before .before .before .before .before .before .before .before .pre in
-    let r = room-then (unknown-more (p .0) (c .before .before .before .before .unknown .result) (c .before .before .before .before .unknown .ensures .0) (c .before .before .is-reserved .result) (c .before .is-time .result) (c .before .before .is-reserved .ensures) (c .before .is-time .ensures)) _ _ (p .1) (c .before .before .before .before .before .before .before .domain-errors .ensures) in
-    (p .0 .opened, p .0 .within, omega (arith, unknown-small (p .0) (c .before .before .before .before .unknown .result) (c .before .before .before .before .unknown .ensures .0)), r .long, omega (arith, r .few))
+    let unknown = c .before .before .before .before .unknown in
+    let r = room-then (unknown-more (p .0) (unknown .result) (unknown .ensures .0) (c .before .before .is-reserved .result) (c .before .is-time .result) (c .before .before .is-reserved .ensures) (c .before .is-time .ensures)) _ _ (p .1) (c .before .before .before .before .before .before .before .domain-errors .ensures) in
+    (p .0 .opened, p .0 .within, omega (arith, unknown-small (p .0) (unknown .result) (unknown .ensures .0)), r .long, omega (arith, r .few))
 
 same-length : tie.Need-same-length
 same-length c = search needs
 
 returns : tie.Need-returns
-returns c = lists-then (unknown-more (c .before .before .before .before .before .before .before .before .before .before .before .before .before .before .pre .0) (c .before .before .before .before .before .before .before .unknown .result) (c .before .before .before .before .before .before .before .unknown .ensures .0) (c .before .before .before .before .before .is-reserved .result) (c .before .before .before .before .is-time .result) (c .before .before .before .before .before .is-reserved .ensures) (c .before .before .before .before .is-time .ensures)) _ _ _ _ _ _ (c .before .before .before .before .before .before .before .before .before .before .domain-errors .ensures) (c .before .before .unknown-error .ensures)
+returns c =
+    let unknown = c .before .before .before .before .before .before .before .unknown in
+    let is-reserved = c .before .before .before .before .before .is-reserved in
+    let is-time = c .before .before .before .before .is-time in
+    lists-then (unknown-more (c .before .before .before .before .before .before .before .before .before .before .before .before .before .before .pre .0) (unknown .result) (unknown .ensures .0) (is-reserved .result) (is-time .result) (is-reserved .ensures) (is-time .ensures)) _ _ _ _ _ _ (c .before .before .before .before .before .before .before .before .before .before .domain-errors .ensures) (c .before .before .unknown-error .ensures)
 
 pub unknown-errors-spec : {M : Type 1} → statement M
 unknown-errors-spec =

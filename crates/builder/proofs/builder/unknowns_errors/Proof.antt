@@ -37,13 +37,17 @@ add-unknown-errors : tie.Need-add-unknown-errors Inv-loop μ-loop
 add-unknown-errors c =
     let a = c .before .before .before .before .before .before .args in
     let p = c .before .before .before .before .before .before .pre in
-    omega (arith, unknowns-below (a .f .now) (a .s) (p .0) (a .m) (p .2) (c .before .before .before .model .result) (c .before .before .model2 .result) (c .before .loop .i) (c .before .before .before .model .ensures .0) (c .before .before .model2 .ensures .0) (c .loop-test .taken), p .0 .laid .within .unknowns)
+    let model = c .before .before .before .model in
+    omega (arith, unknowns-below (a .f .now) (a .s) (p .0) (a .m) (p .2) (model .result) (c .before .before .model2 .result) (c .before .loop .i) (model .ensures .0) (c .before .before .model2 .ensures .0) (c .loop-test .taken), p .0 .laid .within .unknowns)
 
 unknown-errors-requires : tie.Need-unknown-errors-requires Inv-loop μ-loop
 unknown-errors-requires c κs =
     let a = c .before .before .before .before .before .before .before .args in
     let p = c .before .before .before .before .before .before .before .pre in
-    (record { opened = p .0; classes = p .1; within = unknowns-below (a .f .now) (a .s) (p .0) (a .m) (p .2) (c .before .before .before .before .model .result) (c .before .before .before .model2 .result) (c .before .before .loop .i) (c .before .before .before .before .model .ensures .0) (c .before .before .before .model2 .ensures .0) (c .before .loop-test .taken) }, run-room (unknownErrors (fileIn (a .f .now) (a .s) .names)) (modelAt (fileIn (a .f .now) (a .s)) (a .m) .unknowns) (unknownIn (a .f .now) (a .s) (c .before .before .before .before .model .result + c .before .before .loop .i)) (c .before .before .loop .i) (unknown-there (a .f .now) (a .s) (p .0) (a .m) (p .2) (c .before .before .before .before .model .result) (c .before .before .before .model2 .result) (c .before .before .loop .i) (c .before .before .before .before .model .ensures .0) (c .before .before .before .model2 .ensures .0) (c .before .loop-test .taken)) (unknown-here (a .f .now) (a .s) (p .0) (a .m) (p .2) (c .before .before .before .before .model .result) (c .before .before .before .model2 .result) (c .before .before .loop .i) (c .before .before .before .before .model .ensures .0) (c .before .before .before .model2 .ensures .0) (c .before .loop-test .taken)) _ _ _ _ (p .3) (c .before .before .loop .inv .1))
+    let model = c .before .before .before .before .model in
+    let model2 = c .before .before .before .model2 in
+    let loop = c .before .before .loop in
+    (record { opened = p .0; classes = p .1; within = unknowns-below (a .f .now) (a .s) (p .0) (a .m) (p .2) (model .result) (model2 .result) (loop .i) (model .ensures .0) (model2 .ensures .0) (c .before .loop-test .taken) }, run-room (unknownErrors (fileIn (a .f .now) (a .s) .names)) (modelAt (fileIn (a .f .now) (a .s)) (a .m) .unknowns) (unknownIn (a .f .now) (a .s) (model .result + loop .i)) (loop .i) (unknown-there (a .f .now) (a .s) (p .0) (a .m) (p .2) (model .result) (model2 .result) (loop .i) (model .ensures .0) (model2 .ensures .0) (c .before .loop-test .taken)) (unknown-here (a .f .now) (a .s) (p .0) (a .m) (p .2) (model .result) (model2 .result) (loop .i) (model .ensures .0) (model2 .ensures .0) (c .before .loop-test .taken)) _ _ _ _ (p .3) (loop .inv .1))
 
 add-i : tie.Need-add-i Inv-loop μ-loop
 add-i c = omega arith
@@ -55,7 +59,11 @@ loop-again : tie.Need-loop-again Inv-loop μ-loop
 loop-again c =
     let a = c .before .before .before .before .before .before .before .before .before .before .args in
     let p = c .before .before .before .before .before .before .before .before .before .before .pre in
-    (omega arith, run-goes (unknownErrors (fileIn (a .f .now) (a .s) .names)) (modelAt (fileIn (a .f .now) (a .s)) (a .m) .unknowns) (unknownIn (a .f .now) (a .s) (c .before .before .before .before .before .before .before .model .result + c .before .before .before .before .before .loop .i)) (c .before .before .before .before .before .loop .i) (unknown-there (a .f .now) (a .s) (p .0) (a .m) (p .2) (c .before .before .before .before .before .before .before .model .result) (c .before .before .before .before .before .before .model2 .result) (c .before .before .before .before .before .loop .i) (c .before .before .before .before .before .before .before .model .ensures .0) (c .before .before .before .before .before .before .model2 .ensures .0) (c .before .before .before .before .loop-test .taken)) (unknown-here (a .f .now) (a .s) (p .0) (a .m) (p .2) (c .before .before .before .before .before .before .before .model .result) (c .before .before .before .before .before .before .model2 .result) (c .before .before .before .before .before .loop .i) (c .before .before .before .before .before .before .before .model .ensures .0) (c .before .before .before .before .before .before .model2 .ensures .0) (c .before .before .before .before .loop-test .taken)) _ _ _ _ _ _ (c .before .before .before .before .before .loop .inv .1) (c .before .before .unknown-errors .ensures))
+    let model = c .before .before .before .before .before .before .before .model in
+    let model2 = c .before .before .before .before .before .before .model2 in
+    let loop = c .before .before .before .before .before .loop in
+    let loop-test = c .before .before .before .before .loop-test in
+    (omega arith, run-goes (unknownErrors (fileIn (a .f .now) (a .s) .names)) (modelAt (fileIn (a .f .now) (a .s)) (a .m) .unknowns) (unknownIn (a .f .now) (a .s) (model .result + loop .i)) (loop .i) (unknown-there (a .f .now) (a .s) (p .0) (a .m) (p .2) (model .result) (model2 .result) (loop .i) (model .ensures .0) (model2 .ensures .0) (loop-test .taken)) (unknown-here (a .f .now) (a .s) (p .0) (a .m) (p .2) (model .result) (model2 .result) (loop .i) (model .ensures .0) (model2 .ensures .0) (loop-test .taken)) _ _ _ _ _ _ (loop .inv .1) (c .before .before .unknown-errors .ensures))
 
 same-length : tie.Need-same-length Inv-loop μ-loop
 same-length c = ap length (c .before .loop .inv .1 .1) ∙ length-listed _ _ _ (c .before .before .before .before .before .before .pre .3 .long)
@@ -64,7 +72,8 @@ returns : tie.Need-returns Inv-loop μ-loop
 returns c =
     let a = c .before .before .before .before .before .before .args in
     let p = c .before .before .before .before .before .before .pre in
-    run-ends (unknownErrors (fileIn (a .f .now) (a .s) .names)) (modelAt (fileIn (a .f .now) (a .s)) (a .m) .unknowns) (c .before .loop .i) (unknowns-past (a .f .now) (a .s) (p .0) (a .m) (p .2) (c .before .before .before .model .result) (c .before .before .model2 .result) (c .before .loop .i) (c .before .before .before .model .ensures .0) (c .before .before .model2 .ensures .0) (c .loop-test .left)) _ _ _ _ (c .before .loop .inv .1)
+    let model = c .before .before .before .model in
+    run-ends (unknownErrors (fileIn (a .f .now) (a .s) .names)) (modelAt (fileIn (a .f .now) (a .s)) (a .m) .unknowns) (c .before .loop .i) (unknowns-past (a .f .now) (a .s) (p .0) (a .m) (p .2) (model .result) (c .before .before .model2 .result) (c .before .loop .i) (model .ensures .0) (c .before .before .model2 .ensures .0) (c .loop-test .left)) _ _ _ _ (c .before .loop .inv .1)
 
 pub unknowns-errors-spec : {M : Type 1} → statement M
 unknowns-errors-spec =

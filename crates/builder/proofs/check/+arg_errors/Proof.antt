@@ -83,9 +83,11 @@ arg-errors-has-keyword-requires t c κs =
 arg-errors-error-unless-requires : (t : ℕ) → arg-errors-lts.Need-error-unless-requires (node-reads.Asked, node-reads.Learnt, arg-errors-below t, arg-errors.Post, has-keyword-reads.Asked, has-keyword-reads.Learnt, error-unless-reads.Asked, error-unless-reads.Learnt, is-dep-of-reads.Asked, is-dep-of-reads.Learnt) (arg-errors-at t) arg-errors.Post
 arg-errors-error-unless-requires t c κs =
     let p = c .before .before .before .before .before .before .before .before .before .before .before .before .pre in
+    let if1 = c .before .before .before .before .before .before .before .before .before .if1 in
+    let node2 = c .before .before .before .node2 in
     let a = p .1 .2 in
-    let n = arg-node a (c .before .before .before .before .before .before .before .before .before .if1 .left) in
-    let e = positional-more a (c .before .before .before .before .before .before .before .before .before .if1 .left) (c .before .before .before .node2 .result) (c .before .before .before .node2 .ensures .0) (c .before .before .before .before .before .before .before .before .node .result) (c .before .before .before .before .before .before .before .before .node .ensures .0) _ (c .before .has-keyword .result) (c .before .before .if2 .taken) (c .before .has-keyword .ensures) in
+    let n = arg-node a (if1 .left) in
+    let e = positional-more a (if1 .left) (node2 .result) (node2 .ensures .0) (c .before .before .before .before .before .before .before .before .node .result) (c .before .before .before .before .before .before .before .before .node .ensures .0) _ (c .before .has-keyword .result) (c .before .before .if2 .taken) (c .before .has-keyword .ensures) in
     let r = room-then e _ _ (p .1 .3) (c .before .before .before .before .before .before .arg-errors .ensures) in
     (n, omega arith, r .long, omega (arith, r .few))
 
@@ -94,8 +96,10 @@ arg-errors-same-length t c = omega arith
 
 arg-errors-returns-2 : (t : ℕ) → arg-errors-lts.Need-returns-2 (node-reads.Asked, node-reads.Learnt, arg-errors-below t, arg-errors.Post, has-keyword-reads.Asked, has-keyword-reads.Learnt, error-unless-reads.Asked, error-unless-reads.Learnt, is-dep-of-reads.Asked, is-dep-of-reads.Learnt) (arg-errors-at t) arg-errors.Post
 arg-errors-returns-2 t c =
+    let node2 = c .before .before .before .before .before .before .node2 in
+    let has-keyword = c .before .before .before .before .has-keyword in
     let a = c .before .before .before .before .before .before .before .before .before .before .before .before .before .before .before .pre .1 .2 in
-    let e = positional-more a (c .before .before .before .before .before .before .before .before .before .before .before .before .if1 .left) (c .before .before .before .before .before .before .node2 .result) (c .before .before .before .before .before .before .node2 .ensures .0) (c .before .before .before .before .before .before .before .before .before .before .before .node .result) (c .before .before .before .before .before .before .before .before .before .before .before .node .ensures .0) _ (c .before .before .before .before .has-keyword .result) (c .before .before .before .before .before .if2 .taken) (c .before .before .before .before .has-keyword .ensures) in
+    let e = positional-more a (c .before .before .before .before .before .before .before .before .before .before .before .before .if1 .left) (node2 .result) (node2 .ensures .0) (c .before .before .before .before .before .before .before .before .before .before .before .node .result) (c .before .before .before .before .before .before .before .before .before .before .before .node .ensures .0) _ (has-keyword .result) (c .before .before .before .before .before .if2 .taken) (has-keyword .ensures) in
     lists-then e _ _ _ _ _ _ (c .before .before .before .before .before .before .before .before .before .arg-errors .ensures) (c .before .before .error-unless .ensures)
 
 arg-errors-sub-is-dep-of : (t : ℕ) → arg-errors-lts.Need-sub-is-dep-of (node-reads.Asked, node-reads.Learnt, arg-errors-below t, arg-errors.Post, has-keyword-reads.Asked, has-keyword-reads.Learnt, error-unless-reads.Asked, error-unless-reads.Learnt, is-dep-of-reads.Asked, is-dep-of-reads.Learnt) (arg-errors-at t) arg-errors.Post
@@ -111,19 +115,23 @@ arg-errors-is-dep-of-requires t c κs =
 arg-errors-error-unless-requires-2 : (t : ℕ) → arg-errors-lts.Need-error-unless-requires-2 (node-reads.Asked, node-reads.Learnt, arg-errors-below t, arg-errors.Post, has-keyword-reads.Asked, has-keyword-reads.Learnt, error-unless-reads.Asked, error-unless-reads.Learnt, is-dep-of-reads.Asked, is-dep-of-reads.Learnt) (arg-errors-at t) arg-errors.Post
 arg-errors-error-unless-requires-2 t c κs =
     let p = c .before .before .before .before .before .before .before .before .before .before .before .before .pre in
+    let if1 = c .before .before .before .before .before .before .before .before .before .if1 in
+    let node2 = c .before .before .before .node2 in
     let a = p .1 .2 in
-    let n = arg-node a (c .before .before .before .before .before .before .before .before .before .if1 .left) in
-    let e = named-more a (c .before .before .before .before .before .before .before .before .before .if1 .left) (c .before .before .before .node2 .result) (c .before .before .before .node2 .ensures .0) (c .before .before .before .before .before .before .before .before .node .result) (c .before .before .before .before .before .before .before .before .node .ensures .0) _ (c .before .is-dep-of .result) (c .before .before .if2 .left) (c .before .is-dep-of .ensures) in
+    let n = arg-node a (if1 .left) in
+    let e = named-more a (if1 .left) (node2 .result) (node2 .ensures .0) (c .before .before .before .before .before .before .before .before .node .result) (c .before .before .before .before .before .before .before .before .node .ensures .0) _ (c .before .is-dep-of .result) (c .before .before .if2 .left) (c .before .is-dep-of .ensures) in
     let r = room-then e _ _ (p .1 .3) (c .before .before .before .before .before .before .arg-errors .ensures) in
-    (n, omega (arith, c .before .before .before .node2 .ensures .1), r .long, omega (arith, r .few))
+    (n, omega (arith, node2 .ensures .1), r .long, omega (arith, r .few))
 
 arg-errors-same-length-2 : (t : ℕ) → arg-errors-lts.Need-same-length-2 (node-reads.Asked, node-reads.Learnt, arg-errors-below t, arg-errors.Post, has-keyword-reads.Asked, has-keyword-reads.Learnt, error-unless-reads.Asked, error-unless-reads.Learnt, is-dep-of-reads.Asked, is-dep-of-reads.Learnt) (arg-errors-at t) arg-errors.Post
 arg-errors-same-length-2 t c = omega arith
 
 arg-errors-returns-3 : (t : ℕ) → arg-errors-lts.Need-returns-3 (node-reads.Asked, node-reads.Learnt, arg-errors-below t, arg-errors.Post, has-keyword-reads.Asked, has-keyword-reads.Learnt, error-unless-reads.Asked, error-unless-reads.Learnt, is-dep-of-reads.Asked, is-dep-of-reads.Learnt) (arg-errors-at t) arg-errors.Post
 arg-errors-returns-3 t c =
+    let node2 = c .before .before .before .before .before .before .node2 in
+    let is-dep-of = c .before .before .before .before .is-dep-of in
     let a = c .before .before .before .before .before .before .before .before .before .before .before .before .before .before .before .pre .1 .2 in
-    let e = named-more a (c .before .before .before .before .before .before .before .before .before .before .before .before .if1 .left) (c .before .before .before .before .before .before .node2 .result) (c .before .before .before .before .before .before .node2 .ensures .0) (c .before .before .before .before .before .before .before .before .before .before .before .node .result) (c .before .before .before .before .before .before .before .before .before .before .before .node .ensures .0) _ (c .before .before .before .before .is-dep-of .result) (c .before .before .before .before .before .if2 .left) (c .before .before .before .before .is-dep-of .ensures) in
+    let e = named-more a (c .before .before .before .before .before .before .before .before .before .before .before .before .if1 .left) (node2 .result) (node2 .ensures .0) (c .before .before .before .before .before .before .before .before .before .before .before .node .result) (c .before .before .before .before .before .before .before .before .before .before .before .node .ensures .0) _ (is-dep-of .result) (c .before .before .before .before .before .if2 .left) (is-dep-of .ensures) in
     lists-then e _ _ _ _ _ _ (c .before .before .before .before .before .before .before .before .before .arg-errors .ensures) (c .before .before .error-unless2 .ensures)
 
 pub +arg-errors-spec : {M : Type 1} → statement M

@@ -82,10 +82,11 @@ check-args-sub-check-args t c = omega arith
 check-args-check-args-requires : (t : ℕ) → check-args-lts.Need-check-args-requires (node-reads.Asked, node-reads.Learnt, check-args-below t, check-args.Post, check-expr-below t, check-expr.Post) (check-args-at t) check-args.Post
 check-args-check-args-requires t c κs =
     let p = c .before .before .before .before .before .pre in
+    let if1 = c .before .before .if1 in
     let a = p .1 .1 in
-    let l = arg-last a (c .before .before .if1 .left) in
-    let e = args-more-errors a (c .before .before .if1 .left) (c .before .node .result) (c .before .node .ensures .0) _ in
-    (omega (arith, p .0, c .before .node .ensures .0, l .le, l .eq), (p .1 .0, args-rest a (c .before .before .if1 .left) (c .before .node .result) (c .before .node .ensures .0), room-first e (p .1 .2)))
+    let l = arg-last a (if1 .left) in
+    let e = args-more-errors a (if1 .left) (c .before .node .result) (c .before .node .ensures .0) _ in
+    (omega (arith, p .0, c .before .node .ensures .0, l .le, l .eq), (p .1 .0, args-rest a (if1 .left) (c .before .node .result) (c .before .node .ensures .0), room-first e (p .1 .2)))
 
 check-args-sub-check-expr : (t : ℕ) → check-args-lts.Need-sub-check-expr (node-reads.Asked, node-reads.Learnt, check-args-below t, check-args.Post, check-expr-below t, check-expr.Post) (check-args-at t) check-args.Post
 check-args-sub-check-expr t c =
@@ -96,10 +97,11 @@ check-args-sub-check-expr t c =
 check-args-check-expr-requires : (t : ℕ) → check-args-lts.Need-check-expr-requires (node-reads.Asked, node-reads.Learnt, check-args-below t, check-args.Post, check-expr-below t, check-expr.Post) (check-args-at t) check-args.Post
 check-args-check-expr-requires t c κs =
     let p = c .before .before .before .before .before .before .before .before .before .pre in
+    let if1 = c .before .before .before .before .before .before .if1 in
     let a = p .1 .1 in
-    let l = arg-last a (c .before .before .before .before .before .before .if1 .left) in
-    let e = args-more-errors a (c .before .before .before .before .before .before .if1 .left) (c .before .before .before .before .before .node .result) (c .before .before .before .before .before .node .ensures .0) _ in
-    (omega (arith, p .0, l .le, l .eq), (p .1 .0, arg-child a (c .before .before .before .before .before .before .if1 .left), room-then e _ _ (p .1 .2) (c .before .before .before .check-args .ensures)))
+    let l = arg-last a (if1 .left) in
+    let e = args-more-errors a (if1 .left) (c .before .before .before .before .before .node .result) (c .before .before .before .before .before .node .ensures .0) _ in
+    (omega (arith, p .0, l .le, l .eq), (p .1 .0, arg-child a (if1 .left), room-then e _ _ (p .1 .2) (c .before .before .before .check-args .ensures)))
 
 check-args-same-length : (t : ℕ) → check-args-lts.Need-same-length (node-reads.Asked, node-reads.Learnt, check-args-below t, check-args.Post, check-expr-below t, check-expr.Post) (check-args-at t) check-args.Post
 check-args-same-length t c = omega arith
@@ -160,9 +162,11 @@ check-expr-check-expr-requires t c κs =
 check-expr-check-expr-requires-2 : (t : ℕ) → check-expr-lts.Need-check-expr-requires-2 (node-reads.Asked, node-reads.Learnt, name-errors-reads.Asked, name-errors-reads.Learnt, check-expr-below t, check-expr.Post, call-errors-reads.Asked, call-errors-reads.Learnt, check-args-below t, check-args.Post) (check-expr-at t) check-expr.Post
 check-expr-check-expr-requires-2 t c κs =
     let p = c .before .before .before .before .before .before .before .before .before .before .before .before .pre in
+    let if3 = c .before .before .before .before .before .before .if3 in
+    let node2 = c .before .before .before .before .before .node2 in
     let q = p .1 .1 in
-    let w = two-in q (c .before .before .before .before .before .before .before .before .before .node .result) (c .before .before .before .before .before .before .before .before .before .node .ensures .0) (c .before .before .before .before .before .before .if3 .taken) (c .before .before .before .before .before .node2 .result) (c .before .before .before .before .before .node2 .ensures .0) in
-    let e = binary-errors q (c .before .before .before .before .before .before .before .before .before .node .result) (c .before .before .before .before .before .before .before .before .before .node .ensures .0) (c .before .before .before .before .before .before .if3 .taken) (c .before .before .before .before .before .node2 .result) (c .before .before .before .before .before .node2 .ensures .0) _ in
+    let w = two-in q (c .before .before .before .before .before .before .before .before .before .node .result) (c .before .before .before .before .before .before .before .before .before .node .ensures .0) (if3 .taken) (node2 .result) (node2 .ensures .0) in
+    let e = binary-errors q (c .before .before .before .before .before .before .before .before .before .node .result) (c .before .before .before .before .before .before .before .before .before .node .ensures .0) (if3 .taken) (node2 .result) (node2 .ensures .0) _ in
     (omega (arith, p .0, w .right-less), (p .1 .0, w .right, room-then e _ _ (p .1 .2) (c .before .before .before .check-expr .ensures)))
 
 check-expr-same-length-2 : (t : ℕ) → check-expr-lts.Need-same-length-2 (node-reads.Asked, node-reads.Learnt, name-errors-reads.Asked, name-errors-reads.Learnt, check-expr-below t, check-expr.Post, call-errors-reads.Asked, call-errors-reads.Learnt, check-args-below t, check-args.Post) (check-expr-at t) check-expr.Post
@@ -170,8 +174,9 @@ check-expr-same-length-2 t c = omega arith
 
 check-expr-returns-3 : (t : ℕ) → check-expr-lts.Need-returns-3 (node-reads.Asked, node-reads.Learnt, name-errors-reads.Asked, name-errors-reads.Learnt, check-expr-below t, check-expr.Post, call-errors-reads.Asked, call-errors-reads.Learnt, check-args-below t, check-args.Post) (check-expr-at t) check-expr.Post
 check-expr-returns-3 t c =
+    let node2 = c .before .before .before .before .before .before .before .before .node2 in
     let q = c .before .before .before .before .before .before .before .before .before .before .before .before .before .before .before .pre .1 .1 in
-    let e = binary-errors q (c .before .before .before .before .before .before .before .before .before .before .before .before .node .result) (c .before .before .before .before .before .before .before .before .before .before .before .before .node .ensures .0) (c .before .before .before .before .before .before .before .before .before .if3 .taken) (c .before .before .before .before .before .before .before .before .node2 .result) (c .before .before .before .before .before .before .before .before .node2 .ensures .0) _ in
+    let e = binary-errors q (c .before .before .before .before .before .before .before .before .before .before .before .before .node .result) (c .before .before .before .before .before .before .before .before .before .before .before .before .node .ensures .0) (c .before .before .before .before .before .before .before .before .before .if3 .taken) (node2 .result) (node2 .ensures .0) _ in
     lists-then e _ _ _ _ _ _ (c .before .before .before .before .before .before .check-expr .ensures) (c .before .before .check-expr2 .ensures)
 
 check-expr-sub-check-expr : (t : ℕ) → check-expr-lts.Need-sub-check-expr (node-reads.Asked, node-reads.Learnt, name-errors-reads.Asked, name-errors-reads.Learnt, check-expr-below t, check-expr.Post, call-errors-reads.Asked, call-errors-reads.Learnt, check-args-below t, check-args.Post) (check-expr-at t) check-expr.Post
@@ -198,9 +203,11 @@ check-expr-returns-4 t c =
 check-expr-call-errors-requires : (t : ℕ) → check-expr-lts.Need-call-errors-requires (node-reads.Asked, node-reads.Learnt, name-errors-reads.Asked, name-errors-reads.Learnt, check-expr-below t, check-expr.Post, call-errors-reads.Asked, call-errors-reads.Learnt, check-args-below t, check-args.Post) (check-expr-at t) check-expr.Post
 check-expr-call-errors-requires t c κs =
     let p = c .before .before .before .before .before .before .before .before .pre in
+    let if1 = c .before .before .before .before .if1 in
+    let if2 = c .before .before .before .if2 in
     let q = p .1 .1 in
-    let d = is-call q (c .before .before .before .before .before .node .result) (c .before .before .before .before .before .node .ensures .0) (c .before .before .before .before .if1 .left) (c .before .before .before .if2 .left) (c .before .before .if3 .left) (c .before .if4 .left) in
-    let e = call-errors q (c .before .before .before .before .before .node .result) (c .before .before .before .before .before .node .ensures .0) (c .before .before .before .before .if1 .left) (c .before .before .before .if2 .left) (c .before .before .if3 .left) (c .before .if4 .left) _ _ _ refl refl in
+    let d = is-call q (c .before .before .before .before .before .node .result) (c .before .before .before .before .before .node .ensures .0) (if1 .left) (if2 .left) (c .before .before .if3 .left) (c .before .if4 .left) in
+    let e = call-errors q (c .before .before .before .before .before .node .result) (c .before .before .before .before .before .node .ensures .0) (if1 .left) (if2 .left) (c .before .before .if3 .left) (c .before .if4 .left) _ _ _ refl refl in
     (p .1 .0, d, room-first e (p .1 .2))
 
 check-expr-node-requires-3 : (t : ℕ) → check-expr-lts.Need-node-requires-3 (node-reads.Asked, node-reads.Learnt, name-errors-reads.Asked, name-errors-reads.Learnt, check-expr-below t, check-expr.Post, call-errors-reads.Asked, call-errors-reads.Learnt, check-args-below t, check-args.Post) (check-expr-at t) check-expr.Post
@@ -221,18 +228,25 @@ check-expr-sub-total t c =
 check-expr-check-args-requires : (t : ℕ) → check-expr-lts.Need-check-args-requires (node-reads.Asked, node-reads.Learnt, name-errors-reads.Asked, name-errors-reads.Learnt, check-expr-below t, check-expr.Post, call-errors-reads.Asked, call-errors-reads.Learnt, check-args-below t, check-args.Post) (check-expr-at t) check-expr.Post
 check-expr-check-args-requires t c κs =
     let p = c .before .before .before .before .before .before .before .before .before .before .before .before .before .before .pre in
+    let if1 = c .before .before .before .before .before .before .before .before .before .before .if1 in
+    let if2 = c .before .before .before .before .before .before .before .before .before .if2 in
+    let if3 = c .before .before .before .before .before .before .before .before .if3 in
+    let if4 = c .before .before .before .before .before .before .before .if4 in
+    let node3 = c .before .before .node3 in
     let q = p .1 .1 in
-    let d = is-call q (c .before .before .before .before .before .before .before .before .before .before .before .node .result) (c .before .before .before .before .before .before .before .before .before .before .before .node .ensures .0) (c .before .before .before .before .before .before .before .before .before .before .if1 .left) (c .before .before .before .before .before .before .before .before .before .if2 .left) (c .before .before .before .before .before .before .before .before .if3 .left) (c .before .before .before .before .before .before .before .if4 .left) in
-    let e = call-errors q (c .before .before .before .before .before .before .before .before .before .before .before .node .result) (c .before .before .before .before .before .before .before .before .before .before .before .node .ensures .0) (c .before .before .before .before .before .before .before .before .before .before .if1 .left) (c .before .before .before .before .before .before .before .before .before .if2 .left) (c .before .before .before .before .before .before .before .before .if3 .left) (c .before .before .before .before .before .before .before .if4 .left) _ (c .before .before .node3 .result) (c .before .node4 .result) (c .before .before .node3 .ensures .0) (c .before .node4 .ensures .0) in
-    (omega (arith, p .0, c .before .node4 .ensures .0, expr-sized q (c .before .before .before .before .before .before .before .before .before .before .before .node .result) (c .before .before .before .before .before .before .before .before .before .before .before .node .ensures .0)), (p .1 .0, call-args d (c .before .before .node3 .result) (c .before .node4 .result) (c .before .before .node3 .ensures .0) (c .before .node4 .ensures .0), room-then e _ _ (p .1 .2) (c .before .before .before .before .before .call-errors .ensures)))
+    let d = is-call q (c .before .before .before .before .before .before .before .before .before .before .before .node .result) (c .before .before .before .before .before .before .before .before .before .before .before .node .ensures .0) (if1 .left) (if2 .left) (if3 .left) (if4 .left) in
+    let e = call-errors q (c .before .before .before .before .before .before .before .before .before .before .before .node .result) (c .before .before .before .before .before .before .before .before .before .before .before .node .ensures .0) (if1 .left) (if2 .left) (if3 .left) (if4 .left) _ (node3 .result) (c .before .node4 .result) (node3 .ensures .0) (c .before .node4 .ensures .0) in
+    (omega (arith, p .0, c .before .node4 .ensures .0, expr-sized q (c .before .before .before .before .before .before .before .before .before .before .before .node .result) (c .before .before .before .before .before .before .before .before .before .before .before .node .ensures .0)), (p .1 .0, call-args d (node3 .result) (c .before .node4 .result) (node3 .ensures .0) (c .before .node4 .ensures .0), room-then e _ _ (p .1 .2) (c .before .before .before .before .before .call-errors .ensures)))
 
 check-expr-same-length-4 : (t : ℕ) → check-expr-lts.Need-same-length-4 (node-reads.Asked, node-reads.Learnt, name-errors-reads.Asked, name-errors-reads.Learnt, check-expr-below t, check-expr.Post, call-errors-reads.Asked, call-errors-reads.Learnt, check-args-below t, check-args.Post) (check-expr-at t) check-expr.Post
 check-expr-same-length-4 t c = omega arith
 
 check-expr-returns-5 : (t : ℕ) → check-expr-lts.Need-returns-5 (node-reads.Asked, node-reads.Learnt, name-errors-reads.Asked, name-errors-reads.Learnt, check-expr-below t, check-expr.Post, call-errors-reads.Asked, call-errors-reads.Learnt, check-args-below t, check-args.Post) (check-expr-at t) check-expr.Post
 check-expr-returns-5 t c =
+    let node3 = c .before .before .before .before .before .node3 in
+    let node4 = c .before .before .before .before .node4 in
     let q = c .before .before .before .before .before .before .before .before .before .before .before .before .before .before .before .before .before .pre .1 .1 in
-    let e = call-errors q (c .before .before .before .before .before .before .before .before .before .before .before .before .before .before .node .result) (c .before .before .before .before .before .before .before .before .before .before .before .before .before .before .node .ensures .0) (c .before .before .before .before .before .before .before .before .before .before .before .before .before .if1 .left) (c .before .before .before .before .before .before .before .before .before .before .before .before .if2 .left) (c .before .before .before .before .before .before .before .before .before .before .before .if3 .left) (c .before .before .before .before .before .before .before .before .before .before .if4 .left) _ (c .before .before .before .before .before .node3 .result) (c .before .before .before .before .node4 .result) (c .before .before .before .before .before .node3 .ensures .0) (c .before .before .before .before .node4 .ensures .0) in
+    let e = call-errors q (c .before .before .before .before .before .before .before .before .before .before .before .before .before .before .node .result) (c .before .before .before .before .before .before .before .before .before .before .before .before .before .before .node .ensures .0) (c .before .before .before .before .before .before .before .before .before .before .before .before .before .if1 .left) (c .before .before .before .before .before .before .before .before .before .before .before .before .if2 .left) (c .before .before .before .before .before .before .before .before .before .before .before .if3 .left) (c .before .before .before .before .before .before .before .before .before .before .if4 .left) _ (node3 .result) (node4 .result) (node3 .ensures .0) (node4 .ensures .0) in
     lists-then e _ _ _ _ _ _ (c .before .before .before .before .before .before .before .before .call-errors .ensures) (c .before .before .check-args .ensures)
 
 pub +check-args+check-expr-spec : {M : Type 1} → statement M

@@ -82,9 +82,10 @@ keyword-errors-node-requires-2 t c κs =
 keyword-errors-error-unless-requires : (t : ℕ) → keyword-errors-lts.Need-error-unless-requires (node-reads.Asked, node-reads.Learnt, keyword-errors-below t, keyword-errors.Post, error-unless-reads.Asked, error-unless-reads.Learnt) (keyword-errors-at t) keyword-errors.Post
 keyword-errors-error-unless-requires t c κs =
     let p = c .before .before .before .before .before .before .before .before .before .before .pre in
+    let if1 = c .before .before .before .before .before .before .before .if1 in
     let a = p .1 .0 in
-    let n = arg-node a (c .before .before .before .before .before .before .before .if1 .left) in
-    let e = built-in-more a (c .before .before .before .before .before .before .before .if1 .left) (c .before .node2 .result) (c .before .node2 .ensures .0) (c .before .before .before .before .before .before .node .result) (c .before .before .before .before .before .before .node .ensures .0) in
+    let n = arg-node a (if1 .left) in
+    let e = built-in-more a (if1 .left) (c .before .node2 .result) (c .before .node2 .ensures .0) (c .before .before .before .before .before .before .node .result) (c .before .before .before .before .before .before .node .ensures .0) in
     let r = room-then e _ _ (p .1 .1) (c .before .before .before .before .keyword-errors .ensures) in
     (n, omega (arith, c .before .node2 .ensures .1), r .long, omega (arith, r .few))
 
@@ -93,8 +94,9 @@ keyword-errors-same-length t c = omega arith
 
 keyword-errors-returns-2 : (t : ℕ) → keyword-errors-lts.Need-returns-2 (node-reads.Asked, node-reads.Learnt, keyword-errors-below t, keyword-errors.Post, error-unless-reads.Asked, error-unless-reads.Learnt) (keyword-errors-at t) keyword-errors.Post
 keyword-errors-returns-2 t c =
+    let node2 = c .before .before .before .before .node2 in
     let a = c .before .before .before .before .before .before .before .before .before .before .before .before .before .pre .1 .0 in
-    let e = built-in-more a (c .before .before .before .before .before .before .before .before .before .before .if1 .left) (c .before .before .before .before .node2 .result) (c .before .before .before .before .node2 .ensures .0) (c .before .before .before .before .before .before .before .before .before .node .result) (c .before .before .before .before .before .before .before .before .before .node .ensures .0) in
+    let e = built-in-more a (c .before .before .before .before .before .before .before .before .before .before .if1 .left) (node2 .result) (node2 .ensures .0) (c .before .before .before .before .before .before .before .before .before .node .result) (c .before .before .before .before .before .before .before .before .before .node .ensures .0) in
     lists-then e _ _ _ _ _ _ (c .before .before .before .before .before .before .before .keyword-errors .ensures) (c .before .before .error-unless .ensures)
 
 pub +keyword-errors-spec : {M : Type 1} → statement M

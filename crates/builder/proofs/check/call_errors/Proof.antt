@@ -51,9 +51,14 @@ sub-keyword-errors c =
 keyword-errors-requires : tie.Need-keyword-errors-requires
 keyword-errors-requires c κs =
     let p = c .before .before .before .before .before .before .before .before .before .before .before .before .before .before .before .before .pre in
+    let node = c .before .before .before .before .before .before .before .before .before .before .before .before .before .node in
+    let node2 = c .before .before .before .before .before .before .before .before .before .before .before .before .node2 in
+    let numbered-rule = c .before .before .before .before .before .before .before .before .before .before .numbered-rule in
+    let rule-allows = c .before .before .before .before .before .before .before .before .before .rule-allows in
+    let is-built-in = c .before .before .before .is-built-in in
     let q = p .1 in
-    let e = call-built-in q (c .before .before .before .before .before .before .before .before .before .before .before .before .before .node .result) (c .before .before .before .before .before .before .before .before .before .before .before .before .before .node .ensures .0) (p .0) (c .before .before .before .before .before .before .before .before .before .before .numbered-rule .result) (c .before .before .before .before .before .before .before .before .before .rule-allows .result) (c .before .before .before .before .before .before .before .before .before .before .before .before .node2 .result) (c .before .before .before .before .before .before .before .before .before .before .numbered-rule .ensures) (c .before .before .before .before .before .before .before .before .before .rule-allows .ensures) (c .before .before .before .before .before .before .before .before .before .before .before .before .node2 .ensures .0) (c .before .before .before .is-built-in .result) (c .before .before .before .is-built-in .ensures) (c .before .node3 .result) (c .before .before .if1 .taken) (c .before .node3 .ensures .0) in
-    (call-args q (c .before .before .before .before .before .before .before .before .before .before .before .before .node2 .result) (c .before .node3 .result) (c .before .before .before .before .before .before .before .before .before .before .before .before .node2 .ensures .0) (c .before .node3 .ensures .0), room-then e _ _ (p .2) (c .before .before .before .before .before .before .before .error-unless .ensures))
+    let e = call-built-in q (node .result) (node .ensures .0) (p .0) (numbered-rule .result) (rule-allows .result) (node2 .result) (numbered-rule .ensures) (rule-allows .ensures) (node2 .ensures .0) (is-built-in .result) (is-built-in .ensures) (c .before .node3 .result) (c .before .before .if1 .taken) (c .before .node3 .ensures .0) in
+    (call-args q (node2 .result) (c .before .node3 .result) (node2 .ensures .0) (c .before .node3 .ensures .0), room-then e _ _ (p .2) (c .before .before .before .before .before .before .before .error-unless .ensures))
 
 same-length : tie.Need-same-length
 same-length c = search needs
@@ -61,15 +66,25 @@ same-length c = search needs
 returns : tie.Need-returns
 returns c =
     let p = c .before .before .before .before .before .before .before .before .before .before .before .before .before .before .before .before .before .before .before .pre in
+    let node = c .before .before .before .before .before .before .before .before .before .before .before .before .before .before .before .before .node in
+    let node2 = c .before .before .before .before .before .before .before .before .before .before .before .before .before .before .before .node2 in
+    let numbered-rule = c .before .before .before .before .before .before .before .before .before .before .before .before .before .numbered-rule in
+    let rule-allows = c .before .before .before .before .before .before .before .before .before .before .before .before .rule-allows in
+    let is-built-in = c .before .before .before .before .before .before .is-built-in in
+    let node3 = c .before .before .before .before .node3 in
     let q = p .1 in
-    let e = call-built-in q (c .before .before .before .before .before .before .before .before .before .before .before .before .before .before .before .before .node .result) (c .before .before .before .before .before .before .before .before .before .before .before .before .before .before .before .before .node .ensures .0) (p .0) (c .before .before .before .before .before .before .before .before .before .before .before .before .before .numbered-rule .result) (c .before .before .before .before .before .before .before .before .before .before .before .before .rule-allows .result) (c .before .before .before .before .before .before .before .before .before .before .before .before .before .before .before .node2 .result) (c .before .before .before .before .before .before .before .before .before .before .before .before .before .numbered-rule .ensures) (c .before .before .before .before .before .before .before .before .before .before .before .before .rule-allows .ensures) (c .before .before .before .before .before .before .before .before .before .before .before .before .before .before .before .node2 .ensures .0) (c .before .before .before .before .before .before .is-built-in .result) (c .before .before .before .before .before .before .is-built-in .ensures) (c .before .before .before .before .node3 .result) (c .before .before .before .before .before .if1 .taken) (c .before .before .before .before .node3 .ensures .0) in
+    let e = call-built-in q (node .result) (node .ensures .0) (p .0) (numbered-rule .result) (rule-allows .result) (node2 .result) (numbered-rule .ensures) (rule-allows .ensures) (node2 .ensures .0) (is-built-in .result) (is-built-in .ensures) (node3 .result) (c .before .before .before .before .before .if1 .taken) (node3 .ensures .0) in
     lists-then e _ _ _ _ _ _ (c .before .before .before .before .before .before .before .before .before .before .error-unless .ensures) (c .before .before .keyword-errors .ensures)
 
 variable-errors-requires : tie.Need-variable-errors-requires
 variable-errors-requires c κs =
     let p = c .before .before .before .before .before .before .before .before .before .before .before .before .before .before .before .pre in
+    let node = c .before .before .before .before .before .before .before .before .before .before .before .before .node in
+    let node2 = c .before .before .before .before .before .before .before .before .before .before .before .node2 in
+    let numbered-rule = c .before .before .before .before .before .before .before .before .before .numbered-rule in
+    let rule-allows = c .before .before .before .before .before .before .before .before .rule-allows in
     let q = p .1 in
-    let e = call-other q (c .before .before .before .before .before .before .before .before .before .before .before .before .node .result) (c .before .before .before .before .before .before .before .before .before .before .before .before .node .ensures .0) (p .0) (c .before .before .before .before .before .before .before .before .before .numbered-rule .result) (c .before .before .before .before .before .before .before .before .rule-allows .result) (c .before .before .before .before .before .before .before .before .before .before .before .node2 .result) (c .before .before .before .before .before .before .before .before .before .numbered-rule .ensures) (c .before .before .before .before .before .before .before .before .rule-allows .ensures) (c .before .before .before .before .before .before .before .before .before .before .before .node2 .ensures .0) (c .before .before .is-built-in .result) (c .before .before .is-built-in .ensures) (c .before .if1 .left) in
+    let e = call-other q (node .result) (node .ensures .0) (p .0) (numbered-rule .result) (rule-allows .result) (node2 .result) (numbered-rule .ensures) (rule-allows .ensures) (node2 .ensures .0) (c .before .before .is-built-in .result) (c .before .before .is-built-in .ensures) (c .before .if1 .left) in
     (p .0 .scoped, q, room-then e _ _ (p .2) (c .before .before .before .before .before .before .error-unless .ensures))
 
 same-length-2 : tie.Need-same-length-2
@@ -78,8 +93,13 @@ same-length-2 c = search needs
 returns-2 : tie.Need-returns-2
 returns-2 c =
     let p = c .before .before .before .before .before .before .before .before .before .before .before .before .before .before .before .before .before .before .pre in
+    let node = c .before .before .before .before .before .before .before .before .before .before .before .before .before .before .before .node in
+    let node2 = c .before .before .before .before .before .before .before .before .before .before .before .before .before .before .node2 in
+    let numbered-rule = c .before .before .before .before .before .before .before .before .before .before .before .before .numbered-rule in
+    let rule-allows = c .before .before .before .before .before .before .before .before .before .before .before .rule-allows in
+    let is-built-in = c .before .before .before .before .before .is-built-in in
     let q = p .1 in
-    let e = call-other q (c .before .before .before .before .before .before .before .before .before .before .before .before .before .before .before .node .result) (c .before .before .before .before .before .before .before .before .before .before .before .before .before .before .before .node .ensures .0) (p .0) (c .before .before .before .before .before .before .before .before .before .before .before .before .numbered-rule .result) (c .before .before .before .before .before .before .before .before .before .before .before .rule-allows .result) (c .before .before .before .before .before .before .before .before .before .before .before .before .before .before .node2 .result) (c .before .before .before .before .before .before .before .before .before .before .before .before .numbered-rule .ensures) (c .before .before .before .before .before .before .before .before .before .before .before .rule-allows .ensures) (c .before .before .before .before .before .before .before .before .before .before .before .before .before .before .node2 .ensures .0) (c .before .before .before .before .before .is-built-in .result) (c .before .before .before .before .before .is-built-in .ensures) (c .before .before .before .before .if1 .left) in
+    let e = call-other q (node .result) (node .ensures .0) (p .0) (numbered-rule .result) (rule-allows .result) (node2 .result) (numbered-rule .ensures) (rule-allows .ensures) (node2 .ensures .0) (is-built-in .result) (is-built-in .ensures) (c .before .before .before .before .if1 .left) in
     lists-then e _ _ _ _ _ _ (c .before .before .before .before .before .before .before .before .before .error-unless .ensures) (c .before .before .variable-errors .ensures)
 
 pub call-errors-spec : {M : Type 1} → statement M

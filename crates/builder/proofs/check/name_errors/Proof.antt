@@ -32,8 +32,9 @@ same-length c = search needs
 returns : tie.Need-returns
 returns c =
     let p = c .before .before .before .before .before .before .before .before .pre in
+    let node = c .before .before .before .before .before .node in
     let q = p .1 in
-    rw (name-error q (p .2) (p .0) (c .before .before .before .before .before .node .result) (c .before .before .before .before .before .node .ensures .0)) (c .before .before .error-unless .ensures)
+    rw (name-error q (p .2) (p .0) (node .result) (node .ensures .0)) (c .before .before .error-unless .ensures)
 
 pub name-errors-spec : {M : Type 1} → statement M
 name-errors-spec =

@@ -43,8 +43,9 @@ same-length c = search needs
 returns : tie.Need-returns
 returns c =
     let p = c .before .before .before .before .before .before .before .before .before .before .before .pre in
+    let node = c .before .before .before .before .before .before .before .before .node in
     let q = p .1 in
-    rw (call-missing q (c .before .before .before .before .before .before .before .before .node .result) (c .before .before .before .before .before .before .before .before .node .ensures .0) (p .0) (c .before .before .before .before .if1 .taken)) (c .before .before .node-error .ensures)
+    rw (call-missing q (node .result) (node .ensures .0) (p .0) (c .before .before .before .before .if1 .taken)) (c .before .before .node-error .ensures)
 
 is-count-requires : tie.Need-is-count-requires
 is-count-requires c κs = search needs
@@ -61,9 +62,14 @@ error-unless-requires c κs =
 arg-errors-requires : tie.Need-arg-errors-requires
 arg-errors-requires c κs =
     let p = c .before .before .before .before .before .before .before .before .before .before .before .before .before .pre in
+    let node = c .before .before .before .before .before .before .before .before .before .before .node in
+    let node2 = c .before .before .before .before .before .before .before .before .before .node2 in
+    let node3 = c .before .before .before .before .before .before .before .before .node3 in
+    let if1 = c .before .before .before .before .before .before .if1 in
+    let is-count = c .before .before .before .before .before .is-count in
     let q = p .1 in
-    let e = call-variable q (c .before .before .before .before .before .before .before .before .before .before .node .result) (c .before .before .before .before .before .before .before .before .before .before .node .ensures .0) (p .0) (c .before .before .before .before .before .before .if1 .left) (c .before .before .before .before .before .is-count .result) (c .before .before .before .before .before .before .before .before .before .node2 .result) (c .before .before .before .before .before .before .before .before .node3 .result) (c .before .before .before .before .before .is-count .ensures) (c .before .before .before .before .before .before .before .before .before .node2 .ensures .0) (c .before .before .before .before .before .before .before .before .node3 .ensures .0) in
-    (p .0, call-found q (c .before .before .before .before .before .before .before .before .before .before .node .result) (c .before .before .before .before .before .before .before .before .before .before .node .ensures .0) (p .0) (c .before .before .before .before .before .before .if1 .left), call-args q (c .before .before .before .before .before .before .before .before .before .node2 .result) (c .before .before .before .before .before .before .before .before .node3 .result) (c .before .before .before .before .before .before .before .before .before .node2 .ensures .0) (c .before .before .before .before .before .before .before .before .node3 .ensures .0), room-then e _ _ (p .2) (c .before .before .before .error-unless .ensures))
+    let e = call-variable q (node .result) (node .ensures .0) (p .0) (if1 .left) (is-count .result) (node2 .result) (node3 .result) (is-count .ensures) (node2 .ensures .0) (node3 .ensures .0) in
+    (p .0, call-found q (node .result) (node .ensures .0) (p .0) (if1 .left), call-args q (node2 .result) (node3 .result) (node2 .ensures .0) (node3 .ensures .0), room-then e _ _ (p .2) (c .before .before .before .error-unless .ensures))
 
 same-length-2 : tie.Need-same-length-2
 same-length-2 c = search needs
@@ -71,8 +77,12 @@ same-length-2 c = search needs
 returns-2 : tie.Need-returns-2
 returns-2 c =
     let p = c .before .before .before .before .before .before .before .before .before .before .before .before .before .before .before .before .pre in
+    let node = c .before .before .before .before .before .before .before .before .before .before .before .before .before .node in
+    let node2 = c .before .before .before .before .before .before .before .before .before .before .before .before .node2 in
+    let node3 = c .before .before .before .before .before .before .before .before .before .before .before .node3 in
+    let is-count = c .before .before .before .before .before .before .before .before .is-count in
     let q = p .1 in
-    let e = call-variable q (c .before .before .before .before .before .before .before .before .before .before .before .before .before .node .result) (c .before .before .before .before .before .before .before .before .before .before .before .before .before .node .ensures .0) (p .0) (c .before .before .before .before .before .before .before .before .before .if1 .left) (c .before .before .before .before .before .before .before .before .is-count .result) (c .before .before .before .before .before .before .before .before .before .before .before .before .node2 .result) (c .before .before .before .before .before .before .before .before .before .before .before .node3 .result) (c .before .before .before .before .before .before .before .before .is-count .ensures) (c .before .before .before .before .before .before .before .before .before .before .before .before .node2 .ensures .0) (c .before .before .before .before .before .before .before .before .before .before .before .node3 .ensures .0) in
+    let e = call-variable q (node .result) (node .ensures .0) (p .0) (c .before .before .before .before .before .before .before .before .before .if1 .left) (is-count .result) (node2 .result) (node3 .result) (is-count .ensures) (node2 .ensures .0) (node3 .ensures .0) in
     lists-then e _ _ _ _ _ _ (c .before .before .before .before .before .before .error-unless .ensures) (c .before .before .arg-errors .ensures)
 
 pub variable-errors-spec : {M : Type 1} → statement M

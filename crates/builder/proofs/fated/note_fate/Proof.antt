@@ -65,9 +65,10 @@ add-conditions : tie.Need-add-conditions
 add-conditions c =
     let p = c .before .before .before .before .before .before .before .before .before .before .pre in
     let a = c .before .before .before .before .before .before .before .before .before .before .args in
+    let stmt-of2 = c .before .before .before .before .stmt-of2 in
     let rs = section 8 (a .z .stmts) (stmtsAt (a .z)) (a .area .now) in
     let n = length-section 8 (a .z .stmts) (stmtsAt (a .z)) (a .area .now) in
-    omega (arith, n, p .0 .stmts, conditions-few rs (a .i) (omega (arith, n, p .2)) (a .held .now) (a .first .now) (a .conditions .now) (p .3) (c .before .before .before .before .stmt-of2 .result) (c .before .before .before .before .stmt-of2 .ensures .0) (omega arith))
+    omega (arith, n, p .0 .stmts, conditions-few rs (a .i) (omega (arith, n, p .2)) (a .held .now) (a .first .now) (a .conditions .now) (p .3) (stmt-of2 .result) (stmt-of2 .ensures .0) (omega arith))
 
 mul-conditions-2 : tie.Need-mul-conditions-2
 mul-conditions-2 c = search needs
@@ -85,15 +86,17 @@ returns-3 : tie.Need-returns-3
 returns-3 c =
     let p = c .before .before .before .before .before .before .before .before .before .before .pre in
     let a = c .before .before .before .before .before .before .before .before .before .before .args in
+    let stmt-of2 = c .before .before .before .before .stmt-of2 in
     let rs = section 8 (a .z .stmts) (stmtsAt (a .z)) (a .area .now) in
-    fate-first rs (a .i) (omega (arith, length-section 8 (a .z .stmts) (stmtsAt (a .z)) (a .area .now), p .2)) (a .held .now) (a .first .now) (a .conditions .now) (p .3) (c .before .before .before .before .stmt-of2 .result) (c .before .before .before .before .stmt-of2 .ensures .0) (omega arith) (sym (c .before .before .before .before .before .stmt-of .ensures .0) ∙ c .before .if3 .taken)
+    fate-first rs (a .i) (omega (arith, length-section 8 (a .z .stmts) (stmtsAt (a .z)) (a .area .now), p .2)) (a .held .now) (a .first .now) (a .conditions .now) (p .3) (stmt-of2 .result) (stmt-of2 .ensures .0) (omega arith) (sym (c .before .before .before .before .before .stmt-of .ensures .0) ∙ c .before .if3 .taken)
 
 returns-4 : tie.Need-returns-4
 returns-4 c =
     let p = c .before .before .before .before .before .before .before .before .before .pre in
     let a = c .before .before .before .before .before .before .before .before .before .args in
+    let stmt-of = c .before .before .before .before .stmt-of in
     let rs = section 8 (a .z .stmts) (stmtsAt (a .z)) (a .area .now) in
-    fate-other rs (a .i) (omega (arith, length-section 8 (a .z .stmts) (stmtsAt (a .z)) (a .area .now), p .2)) (a .held .now) (a .first .now) (a .conditions .now) (p .3) (λ e. c .before .if2 .left (c .before .before .before .before .stmt-of .ensures .0 ∙ e)) (λ e. c .if3 .left (c .before .before .before .before .stmt-of .ensures .0 ∙ e))
+    fate-other rs (a .i) (omega (arith, length-section 8 (a .z .stmts) (stmtsAt (a .z)) (a .area .now), p .2)) (a .held .now) (a .first .now) (a .conditions .now) (p .3) (λ e. c .before .if2 .left (stmt-of .ensures .0 ∙ e)) (λ e. c .if3 .left (stmt-of .ensures .0 ∙ e))
 
 pub note-fate-spec : {M : Type 1} → statement M
 note-fate-spec =

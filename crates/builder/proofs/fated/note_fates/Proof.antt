@@ -23,8 +23,9 @@ sub-i c = omega arith
 note-fate-requires : tie.Need-note-fate-requires Inv-loop μ-loop
 note-fate-requires c κs =
     let p = c .before .before .before .before .before .before .before .before .before .pre in
-    let e : c .before .before .before .before .loop .i - 1 + 1 ≡ c .before .before .before .before .loop .i = omega arith in
-    (p .0, p .1, omega (arith, c .before .before .before .before .loop .inv .0), rw e (c .before .before .before .before .loop .inv .1))
+    let loop = c .before .before .before .before .loop in
+    let e : loop .i - 1 + 1 ≡ loop .i = omega arith in
+    (p .0, p .1, omega (arith, loop .inv .0), rw e (loop .inv .1))
 
 loop-less : tie.Need-loop-less Inv-loop μ-loop
 loop-less c = omega arith

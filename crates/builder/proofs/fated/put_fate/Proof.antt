@@ -38,7 +38,8 @@ returns : tie.Need-returns
 unfolding stmtsAt varsAt depsAt
 returns c =
     let a = c .before .before .before .before .before .before .before .before .before .before .args in
-    fate-put (a .z .stmts) (stmtsAt (a .z)) (a .i) (a .area .now) _ _ _ _ (a .fate) (a .v) (omega arith) (omega arith) (λ j. omega (arith, c .before .before .before .before .before .before .before .before .before .slice-known .given j)) (omega (arith, c .before .before .before .before .before .before .before .before .stmts-at .ensures)) (omega (arith, c .before .before .before .before .before .before .before .before .stmts-at .ensures)) (c .before .before .before .before .before .before .put-word .ensures) (c .before .before .put-word2 .ensures)
+    let stmts-at = c .before .before .before .before .before .before .before .before .stmts-at in
+    fate-put (a .z .stmts) (stmtsAt (a .z)) (a .i) (a .area .now) _ _ _ _ (a .fate) (a .v) (omega arith) (omega arith) (λ j. omega (arith, c .before .before .before .before .before .before .before .before .before .slice-known .given j)) (omega (arith, stmts-at .ensures)) (omega (arith, stmts-at .ensures)) (c .before .before .before .before .before .before .put-word .ensures) (c .before .before .put-word2 .ensures)
 
 pub put-fate-spec : {M : Type 1} → statement M
 put-fate-spec =

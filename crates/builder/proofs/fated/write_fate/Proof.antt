@@ -31,7 +31,8 @@ same-length c = search needs
 returns : tie.Need-returns
 returns c =
     let a = c .before .before .before .before .before .before .before .before .before .before .before .args in
-    (rw (left-held (a .states .now) (a .queued) (a .paired) (getD (a .roles .now) (a .i) 0) (omega arith) (c .before .before .before .before .before .before .if1 .taken) (c .before .before .before .before .before .if2 .taken) (drop (a .i + 1) (take (a .z .stmts) (a .roles .now)))) (c .before .before .put-fate .ensures), omega arith, queue-more (a .states .now) (a .queued) (a .paired) (getD (a .roles .now) (a .i) 0) (omega arith) (c .before .before .before .before .before .before .if1 .taken))
+    let if1 = c .before .before .before .before .before .before .if1 in
+    (rw (left-held (a .states .now) (a .queued) (a .paired) (getD (a .roles .now) (a .i) 0) (omega arith) (if1 .taken) (c .before .before .before .before .before .if2 .taken) (drop (a .i + 1) (take (a .z .stmts) (a .roles .now)))) (c .before .before .put-fate .ensures), omega arith, queue-more (a .states .now) (a .queued) (a .paired) (getD (a .roles .now) (a .i) 0) (omega arith) (if1 .taken))
 
 put-fate-requires-2 : tie.Need-put-fate-requires-2
 put-fate-requires-2 c κs = search needs
@@ -42,7 +43,9 @@ same-length-2 c = search needs
 returns-2 : tie.Need-returns-2
 returns-2 c =
     let a = c .before .before .before .before .before .before .before .before .before .before .args in
-    (rw (left-over (a .states .now) (a .queued) (a .paired) (getD (a .roles .now) (a .i) 0) (omega arith) (c .before .before .before .before .before .if1 .taken) (c .before .before .before .before .if2 .left) (drop (a .i + 1) (take (a .z .stmts) (a .roles .now)))) (c .before .before .put-fate2 .ensures), omega arith, queue-out (a .states .now) (a .queued) (a .paired) (getD (a .roles .now) (a .i) 0) (omega arith) (c .before .before .before .before .before .if1 .taken) (c .before .before .before .before .if2 .left))
+    let if1 = c .before .before .before .before .before .if1 in
+    let if2 = c .before .before .before .before .if2 in
+    (rw (left-over (a .states .now) (a .queued) (a .paired) (getD (a .roles .now) (a .i) 0) (omega arith) (if1 .taken) (if2 .left) (drop (a .i + 1) (take (a .z .stmts) (a .roles .now)))) (c .before .before .put-fate2 .ensures), omega arith, queue-out (a .states .now) (a .queued) (a .paired) (getD (a .roles .now) (a .i) 0) (omega arith) (if1 .taken) (if2 .left))
 
 sub-v : tie.Need-sub-v
 sub-v c = search needs
@@ -56,7 +59,8 @@ same-length-3 c = search needs
 returns-3 : tie.Need-returns-3
 returns-3 c =
     let a = c .before .before .before .before .before .before .before .before .before .before .args in
-    (rw (is-initial (drop (a .paired) (take (a .queued) (a .states .now))) (getD (a .roles .now) (a .i) 0) (c .before .before .before .before .before .if1 .left) (c .before .before .before .before .if3 .taken) (drop (a .i + 1) (take (a .z .stmts) (a .roles .now)))) (c .before .before .put-fate3 .ensures), omega arith, queue-same (drop (a .paired) (take (a .queued) (a .states .now))) (getD (a .roles .now) (a .i) 0) (c .before .before .before .before .before .if1 .left))
+    let if1 = c .before .before .before .before .before .if1 in
+    (rw (is-initial (drop (a .paired) (take (a .queued) (a .states .now))) (getD (a .roles .now) (a .i) 0) (if1 .left) (c .before .before .before .before .if3 .taken) (drop (a .i + 1) (take (a .z .stmts) (a .roles .now)))) (c .before .before .put-fate3 .ensures), omega arith, queue-same (drop (a .paired) (take (a .queued) (a .states .now))) (getD (a .roles .now) (a .i) 0) (if1 .left))
 
 add-has-role : tie.Need-add-has-role
 add-has-role c = search needs
@@ -73,7 +77,8 @@ same-length-4 c = search needs
 returns-4 : tie.Need-returns-4
 returns-4 c =
     let a = c .before .before .before .before .before .before .before .before .before .before .before .before .args in
-    (rw (is-replaced (drop (a .paired) (take (a .queued) (a .states .now))) (getD (a .roles .now) (a .i) 0) (c .before .before .before .before .before .before .before .if1 .left) (c .before .before .before .before .before .before .if3 .left) (drop (a .i + 1) (take (a .z .stmts) (a .roles .now))) (sym (c .before .before .before .before .before .has-role .ensures) ∙ c .before .before .before .before .if4 .taken)) (c .before .before .put-fate4 .ensures), omega arith, queue-same (drop (a .paired) (take (a .queued) (a .states .now))) (getD (a .roles .now) (a .i) 0) (c .before .before .before .before .before .before .before .if1 .left))
+    let if1 = c .before .before .before .before .before .before .before .if1 in
+    (rw (is-replaced (drop (a .paired) (take (a .queued) (a .states .now))) (getD (a .roles .now) (a .i) 0) (if1 .left) (c .before .before .before .before .before .before .if3 .left) (drop (a .i + 1) (take (a .z .stmts) (a .roles .now))) (sym (c .before .before .before .before .before .has-role .ensures) ∙ c .before .before .before .before .if4 .taken)) (c .before .before .put-fate4 .ensures), omega arith, queue-same (drop (a .paired) (take (a .queued) (a .states .now))) (getD (a .roles .now) (a .i) 0) (if1 .left))
 
 put-fate-requires-5 : tie.Need-put-fate-requires-5
 put-fate-requires-5 c κs = search needs
@@ -84,7 +89,8 @@ same-length-5 c = search needs
 returns-5 : tie.Need-returns-5
 returns-5 c =
     let a = c .before .before .before .before .before .before .before .before .before .before .before .before .args in
-    (rw (is-held (drop (a .paired) (take (a .queued) (a .states .now))) (getD (a .roles .now) (a .i) 0) (c .before .before .before .before .before .before .before .if1 .left) (c .before .before .before .before .before .before .if3 .left) (drop (a .i + 1) (take (a .z .stmts) (a .roles .now))) (sym (c .before .before .before .before .before .has-role .ensures) ∙ c .before .before .before .before .if4 .left)) (c .before .before .put-fate5 .ensures), omega arith, queue-same (drop (a .paired) (take (a .queued) (a .states .now))) (getD (a .roles .now) (a .i) 0) (c .before .before .before .before .before .before .before .if1 .left))
+    let if1 = c .before .before .before .before .before .before .before .if1 in
+    (rw (is-held (drop (a .paired) (take (a .queued) (a .states .now))) (getD (a .roles .now) (a .i) 0) (if1 .left) (c .before .before .before .before .before .before .if3 .left) (drop (a .i + 1) (take (a .z .stmts) (a .roles .now))) (sym (c .before .before .before .before .before .has-role .ensures) ∙ c .before .before .before .before .if4 .left)) (c .before .before .put-fate5 .ensures), omega arith, queue-same (drop (a .paired) (take (a .queued) (a .states .now))) (getD (a .roles .now) (a .i) 0) (if1 .left))
 
 pub write-fate-spec : {M : Type 1} → statement M
 write-fate-spec =

@@ -30,8 +30,10 @@ loop-again : tie.Need-loop-again Inv-loop μ-loop
 unfolding stmtsAt varsAt depsAt
 loop-again c =
     let a = c .before .before .before .before .before .before .before .before .before .before .args in
-    let l : stmtsAt (a .z) + 32 * a .z .stmts ≤ length (c .before .before .before .before .before .before .loop .area) = omega (arith, c .before .before .before .before .before .before .loop .inv .2) in
-    (omega arith, c .before .before .write-fate .ensures .1, c .before .before .write-fate .kept .0 ∙ c .before .before .before .before .before .before .loop .inv .2, sym (rest-more (a .z .stmts) (stmtsAt (a .z)) (take (a .queued) (a .states .now)) (a .roles .now) (c .before .before .before .before .before .before .loop .area) _ (c .before .before .before .before .before .before .loop .i) (c .before .before .before .before .before .before .loop .paired) _ (omega arith) (omega arith) l (c .before .before .write-fate .ensures .0) (c .before .before .write-fate .ensures .2)) ∙ c .before .before .before .before .before .before .loop .inv .3)
+    let loop = c .before .before .before .before .before .before .loop in
+    let write-fate = c .before .before .write-fate in
+    let l : stmtsAt (a .z) + 32 * a .z .stmts ≤ length (loop .area) = omega (arith, loop .inv .2) in
+    (omega arith, write-fate .ensures .1, write-fate .kept .0 ∙ loop .inv .2, sym (rest-more (a .z .stmts) (stmtsAt (a .z)) (take (a .queued) (a .states .now)) (a .roles .now) (loop .area) _ (loop .i) (loop .paired) _ (omega arith) (omega arith) l (write-fate .ensures .0) (write-fate .ensures .2)) ∙ loop .inv .3)
 
 same-length : tie.Need-same-length Inv-loop μ-loop
 same-length c = c .before .before .loop .inv .2
@@ -39,7 +41,8 @@ same-length c = c .before .before .loop .inv .2
 returns : tie.Need-returns Inv-loop μ-loop
 returns c =
     let a = c .before .before .before .before .before .before .args in
-    sym (rest-none (a .z .stmts) (stmtsAt (a .z)) (take (a .queued) (a .states .now)) (a .roles .now) (c .before .before .loop .area) (c .before .before .loop .i) (c .before .before .loop .paired) (omega arith)) ∙ c .before .before .loop .inv .3 ∙ rest-all (a .z .stmts) (stmtsAt (a .z)) (take (a .queued) (a .states .now)) (a .roles .now) (a .area .now)
+    let loop = c .before .before .loop in
+    sym (rest-none (a .z .stmts) (stmtsAt (a .z)) (take (a .queued) (a .states .now)) (a .roles .now) (loop .area) (loop .i) (loop .paired) (omega arith)) ∙ loop .inv .3 ∙ rest-all (a .z .stmts) (stmtsAt (a .z)) (take (a .queued) (a .states .now)) (a .roles .now) (a .area .now)
 
 pub write-fates-spec : {M : Type 1} → statement M
 write-fates-spec =

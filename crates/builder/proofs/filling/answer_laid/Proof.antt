@@ -17,7 +17,8 @@ any-short-requires : tie.Need-any-short-requires
 any-short-requires c κs =
     let a = c .before .before .before .before .before .before .before .before .before .before .before .before .before .before .before .args in
     let p = c .before .before .before .before .before .before .before .before .before .before .before .before .before .before .before .pre in
-    timed-needs (a .f .now) (a .s) (a .m) (a .classes .now) (a .names .now) (a .numbers .now) (a .starts .now) (a .indexes .now) (a .reach .now) (a .rates .now) (a .z) (p .0) (a .own .now) (c .before .before .before .time-lower .last .1 .1 .1 .1 .0) (c .before .before .before .time-lower .result) (p .2) (c .before .before .before .time-lower .ensures)
+    let time-lower = c .before .before .before .time-lower in
+    timed-needs (a .f .now) (a .s) (a .m) (a .classes .now) (a .names .now) (a .numbers .now) (a .starts .now) (a .indexes .now) (a .reach .now) (a .rates .now) (a .z) (p .0) (a .own .now) (time-lower .last .1 .1 .1 .1 .0) (time-lower .result) (p .2) (time-lower .ensures)
 
 same-length : tie.Need-same-length
 same-length c = search needs
@@ -26,14 +27,16 @@ returns : tie.Need-returns
 returns c =
     let a = c .before .before .before .before .before .before .before .before .before .before .before .before .before .before .before .before .before .args in
     let p = c .before .before .before .before .before .before .before .before .before .before .before .before .before .before .before .before .before .pre in
-    short-given (a .f .now) (a .s) (a .m) (a .classes .now) (a .names .now) (a .numbers .now) (a .starts .now) (a .indexes .now) (a .reach .now) (a .rates .now) (a .z) (p .0) (a .own .now) (c .before .before .before .before .before .time-lower .last .1 .1 .1 .1 .0) (c .before .before .before .before .before .time-lower .result) (p .2) (c .before .before .before .before .before .time-lower .ensures) (c .before .any-short .result) (c .before .any-short .ensures) (c .if1 .taken) _
+    let time-lower = c .before .before .before .before .before .time-lower in
+    short-given (a .f .now) (a .s) (a .m) (a .classes .now) (a .names .now) (a .numbers .now) (a .starts .now) (a .indexes .now) (a .reach .now) (a .rates .now) (a .z) (p .0) (a .own .now) (time-lower .last .1 .1 .1 .1 .0) (time-lower .result) (p .2) (time-lower .ensures) (c .before .any-short .result) (c .before .any-short .ensures) (c .if1 .taken) _
 
 write-answer-requires : tie.Need-write-answer-requires
 write-answer-requires c κs =
     let a = c .before .before .before .before .before .before .before .before .before .before .before .before .before .before .before .before .before .before .args in
     let pre = c .before .before .before .before .before .before .before .before .before .before .before .before .before .before .before .before .before .before .pre in
+    let time-lower = c .before .before .before .before .before .before .time-lower in
     let p = pre in
-    (p .0, p .1, timed-laid (a .f .now) (a .s) (a .m) (a .classes .now) (a .names .now) (a .numbers .now) (a .starts .now) (a .indexes .now) (a .reach .now) (a .rates .now) (a .z) (pre .0) (a .own .now) (c .before .before .before .before .before .before .time-lower .last .1 .1 .1 .1 .0) (c .before .before .before .before .before .before .time-lower .result) (pre .2) (c .before .before .before .before .before .before .time-lower .ensures), p .3, p .4, timed-lower (a .f .now) (a .s) (a .m) (a .classes .now) (a .names .now) (a .numbers .now) (a .starts .now) (a .indexes .now) (a .reach .now) (a .rates .now) (a .z) (pre .0) (a .own .now) (c .before .before .before .before .before .before .time-lower .last .1 .1 .1 .1 .0) (c .before .before .before .before .before .before .time-lower .result) (pre .2) (c .before .before .before .before .before .before .time-lower .ensures))
+    (p .0, p .1, timed-laid (a .f .now) (a .s) (a .m) (a .classes .now) (a .names .now) (a .numbers .now) (a .starts .now) (a .indexes .now) (a .reach .now) (a .rates .now) (a .z) (pre .0) (a .own .now) (time-lower .last .1 .1 .1 .1 .0) (time-lower .result) (pre .2) (time-lower .ensures), p .3, p .4, timed-lower (a .f .now) (a .s) (a .m) (a .classes .now) (a .names .now) (a .numbers .now) (a .starts .now) (a .indexes .now) (a .reach .now) (a .rates .now) (a .z) (pre .0) (a .own .now) (time-lower .last .1 .1 .1 .1 .0) (time-lower .result) (pre .2) (time-lower .ensures))
 
 same-length-2 : tie.Need-same-length-2
 same-length-2 c = search needs
@@ -42,7 +45,9 @@ returns-2 : tie.Need-returns-2
 returns-2 c =
     let a = c .before .before .before .before .before .before .before .before .before .before .before .before .before .before .before .before .before .before .before .before .before .args in
     let p = c .before .before .before .before .before .before .before .before .before .before .before .before .before .before .before .before .before .before .before .before .before .pre in
-    used-given (a .f .now) (a .s) (a .m) (a .classes .now) (a .names .now) (a .numbers .now) (a .starts .now) (a .indexes .now) (a .reach .now) (a .rates .now) (a .z) (p .0) (a .own .now) (c .before .before .before .before .before .before .before .before .before .time-lower .last .1 .1 .1 .1 .0) (c .before .before .before .before .before .before .before .before .before .time-lower .result) (p .2) (c .before .before .before .before .before .before .before .before .before .time-lower .ensures) (c .before .before .before .before .before .any-short .result) (c .before .before .before .before .before .any-short .ensures) (c .before .before .before .before .if1 .left) _ _ (c .before .before .write-answer .ensures)
+    let time-lower = c .before .before .before .before .before .before .before .before .before .time-lower in
+    let any-short = c .before .before .before .before .before .any-short in
+    used-given (a .f .now) (a .s) (a .m) (a .classes .now) (a .names .now) (a .numbers .now) (a .starts .now) (a .indexes .now) (a .reach .now) (a .rates .now) (a .z) (p .0) (a .own .now) (time-lower .last .1 .1 .1 .1 .0) (time-lower .result) (p .2) (time-lower .ensures) (any-short .result) (any-short .ensures) (c .before .before .before .before .if1 .left) _ _ (c .before .before .write-answer .ensures)
 
 pub answer-laid-spec : {M : Type 1} → statement M
 answer-laid-spec =

@@ -41,7 +41,10 @@ slice-aggregate-fill-by-6 c = search needs
 fill-by-requires : tie.Need-fill-by-requires
 fill-by-requires c κs =
     let p = c .before .before .before .before .before .before .before .before .before .before .before .before .before .before .before .before .before .pre in
-    (p .0, p .1, p .2, p .3, p .4, p .5, c .before .before .before .before .before .before .before .before .before .before .before .before .before .no-variables .ensures, c .before .before .before .before .before .before .before .before .before .before .before .before .no-marks .ensures .0, c .before .before .before .before .before .before .before .before .before .before .before .before .no-marks .ensures .1, record { starts-long = c .before .before .before .before .before .before .before .before .before .before .before .no-starts .ensures .0; indexes-long = c .before .before .before .before .before .before .before .before .before .before .no-variables2 .ensures; reach-long = c .before .before .before .before .before .before .before .before .before .no-flags .ensures .0; rates-long = c .before .before .before .before .before .before .before .before .no-flags2 .ensures .0; no-start = c .before .before .before .before .before .before .before .before .before .before .before .no-starts .ensures .1; no-mark = c .before .before .before .before .before .before .before .before .before .no-flags .ensures .1 })
+    let no-marks = c .before .before .before .before .before .before .before .before .before .before .before .before .no-marks in
+    let no-starts = c .before .before .before .before .before .before .before .before .before .before .before .no-starts in
+    let no-flags = c .before .before .before .before .before .before .before .before .before .no-flags in
+    (p .0, p .1, p .2, p .3, p .4, p .5, c .before .before .before .before .before .before .before .before .before .before .before .before .before .no-variables .ensures, no-marks .ensures .0, no-marks .ensures .1, record { starts-long = no-starts .ensures .0; indexes-long = c .before .before .before .before .before .before .before .before .before .before .no-variables2 .ensures; reach-long = no-flags .ensures .0; rates-long = c .before .before .before .before .before .before .before .before .no-flags2 .ensures .0; no-start = no-starts .ensures .1; no-mark = no-flags .ensures .1 })
 
 same-length : tie.Need-same-length
 same-length c = search needs

@@ -101,10 +101,12 @@ write-nodes-write-stmt-nodes-requires : (t : ℕ) → write-nodes-lts.Need-write
 write-nodes-write-stmt-nodes-requires t c κs =
     let a = c .before .before .before .before .before .before .before .before .before .before .args in
     let pre = c .before .before .before .before .before .before .before .before .before .before .pre in
+    let if1 = c .before .before .before .before .before .before .if1 in
+    let model2 = c .before .before .before .before .model2 in
     let p = pre .1 in
     let v = c .before .before .before .loop .inv in
-    let z = putting-room (a .f .now) (a .s) (a .k) (a .m) (a .rows .now) (a .level) (a .out .now) (a .done) (pre .1 .0) (pre .1 .2) (pre .1 .4 .1) _ _ _ _ v _ (omega (arith, c .before .before .loop-test .taken, c .before .before .before .before .model2 .ensures .0)) (c .before .before .before .before .before .model .ensures .0) in
-    (omega (arith, pre .0, c .before .before .before .before .before .before .if1 .left), (p .0, p .1, omega (arith, model-is (a .f .now) (a .s) (pre .1 .0) (a .m) (pre .1 .2) .stmts-within, c .before .before .before .before .before .model .ensures .0, c .before .before .before .before .model2 .ensures .0), (omega (arith, p .3 .0, c .before .before .before .before .before .before .if1 .left), omega (arith, p .3 .1, v .long, c .before .before .before .before .before .before .if1 .left), v .fit), (omega (arith, z, p .4 .0), omega (arith, z, p .4 .1, v .room))))
+    let z = putting-room (a .f .now) (a .s) (a .k) (a .m) (a .rows .now) (a .level) (a .out .now) (a .done) (pre .1 .0) (pre .1 .2) (pre .1 .4 .1) _ _ _ _ v _ (omega (arith, c .before .before .loop-test .taken, model2 .ensures .0)) (c .before .before .before .before .before .model .ensures .0) in
+    (omega (arith, pre .0, if1 .left), (p .0, p .1, omega (arith, model-is (a .f .now) (a .s) (pre .1 .0) (a .m) (pre .1 .2) .stmts-within, c .before .before .before .before .before .model .ensures .0, model2 .ensures .0), (omega (arith, p .3 .0, if1 .left), omega (arith, p .3 .1, v .long, if1 .left), v .fit), (omega (arith, z, p .4 .0), omega (arith, z, p .4 .1, v .room))))
 
 write-nodes-add-i : (t : ℕ) → write-nodes-lts.Need-add-i (model-reads.Asked, model-reads.Learnt, write-stmt-nodes-below t, write-stmt-nodes.Post) (write-nodes-at t) write-nodes.Post write-nodes-Inv-loop write-nodes-μ-loop
 write-nodes-add-i t c = omega arith
@@ -188,8 +190,9 @@ write-stmt-nodes-find-replacements-requires :
 write-stmt-nodes-find-replacements-requires t c κs =
     let a = c .before .before .before .before .before .before .before .before .before .args in
     let pre = c .before .before .before .before .before .before .before .before .before .pre in
+    let if1 = c .before .before .before .before .if1 in
     let p = pre .1 in
-    (p .0, called-some (a .f .now) (a .s) (pre .1 .0) (a .q) (pre .1 .2) (a .calls .now) (pre .1 .1) _ refl (sym (c .before .before .before .before .before .stmt .ensures .0) ∙ c .before .before .before .before .if1 .left) (neither-zero (getD (a .calls .now) (a .q) 0) (a .k) (c .before .before .if2 .left) .0) .1, rw (c .before .stmt2 .ensures .0) (submodel-call (a .f .now) (a .s) (pre .1 .0) (a .q) (pre .1 .2) (sym (c .before .before .before .before .before .stmt .ensures .0) ∙ c .before .before .before .before .if1 .left)), (omega (arith, p .3 .0), omega (arith, p .3 .1), p .3 .2))
+    (p .0, called-some (a .f .now) (a .s) (pre .1 .0) (a .q) (pre .1 .2) (a .calls .now) (pre .1 .1) _ refl (sym (c .before .before .before .before .before .stmt .ensures .0) ∙ if1 .left) (neither-zero (getD (a .calls .now) (a .q) 0) (a .k) (c .before .before .if2 .left) .0) .1, rw (c .before .stmt2 .ensures .0) (submodel-call (a .f .now) (a .s) (pre .1 .0) (a .q) (pre .1 .2) (sym (c .before .before .before .before .before .stmt .ensures .0) ∙ if1 .left)), (omega (arith, p .3 .0), omega (arith, p .3 .1), p .3 .2))
 
 write-stmt-nodes-sub-write-nodes : (t : ℕ) → write-stmt-nodes-lts.Need-sub-write-nodes (stmt-reads.Asked, stmt-reads.Learnt, write-own-reads.Asked, write-own-reads.Learnt, find-replacements-reads.Asked, find-replacements-reads.Learnt, write-nodes-below t, write-nodes.Post) (write-stmt-nodes-at t) write-stmt-nodes.Post
 write-stmt-nodes-sub-write-nodes t c =
@@ -203,10 +206,12 @@ write-stmt-nodes-write-nodes-requires : (t : ℕ) → write-stmt-nodes-lts.Need-
 write-stmt-nodes-write-nodes-requires t c κs =
     let a = c .before .before .before .before .before .before .before .before .before .before .before .before .before .before .args in
     let pre = c .before .before .before .before .before .before .before .before .before .before .before .before .before .before .pre in
+    let if1 = c .before .before .before .before .before .before .before .before .before .if1 in
+    let if2 = c .before .before .before .before .before .before .before .if2 in
     let p = pre .1 in
     let g = c .before .before .before .before .find-replacements .ensures in
-    let z = ap (sumOf flatSize) (deeper (a .f .now) (a .s) (pre .1 .0) (a .q) (pre .1 .2) (sym (c .before .before .before .before .before .before .before .before .before .before .stmt .ensures .0) ∙ c .before .before .before .before .before .before .before .before .before .if1 .left) (levelsOf (contentsIn (a .f .now) (a .s) .nodes) (a .rows .now) (a .level)) (a .calls .now) (pre .1 .1) _ refl (a .rows .now) _ (a .level) (a .k) _ (neither-zero (getD (a .calls .now) (a .q) 0) (a .k) (c .before .before .before .before .before .before .before .if2 .left) .0) refl (c .before .before .before .before .before .before .stmt2 .ensures .0) (g .0 .1) (g .1)) in
-    (omega (arith, pre .0), (p .0, p .1, called-some (a .f .now) (a .s) (pre .1 .0) (a .q) (pre .1 .2) (a .calls .now) (pre .1 .1) _ refl (sym (c .before .before .before .before .before .before .before .before .before .before .stmt .ensures .0) ∙ c .before .before .before .before .before .before .before .before .before .if1 .left) (neither-zero (getD (a .calls .now) (a .q) 0) (a .k) (c .before .before .before .before .before .before .before .if2 .left) .0) .1, (omega (arith, p .3 .0), omega (arith, p .3 .1, g .0 .0), g .0 .2), (omega (arith, z, p .4 .0), omega (arith, z, p .4 .1))))
+    let z = ap (sumOf flatSize) (deeper (a .f .now) (a .s) (pre .1 .0) (a .q) (pre .1 .2) (sym (c .before .before .before .before .before .before .before .before .before .before .stmt .ensures .0) ∙ if1 .left) (levelsOf (contentsIn (a .f .now) (a .s) .nodes) (a .rows .now) (a .level)) (a .calls .now) (pre .1 .1) _ refl (a .rows .now) _ (a .level) (a .k) _ (neither-zero (getD (a .calls .now) (a .q) 0) (a .k) (if2 .left) .0) refl (c .before .before .before .before .before .before .stmt2 .ensures .0) (g .0 .1) (g .1)) in
+    (omega (arith, pre .0), (p .0, p .1, called-some (a .f .now) (a .s) (pre .1 .0) (a .q) (pre .1 .2) (a .calls .now) (pre .1 .1) _ refl (sym (c .before .before .before .before .before .before .before .before .before .before .stmt .ensures .0) ∙ if1 .left) (neither-zero (getD (a .calls .now) (a .q) 0) (a .k) (if2 .left) .0) .1, (omega (arith, p .3 .0), omega (arith, p .3 .1, g .0 .0), g .0 .2), (omega (arith, z, p .4 .0), omega (arith, z, p .4 .1))))
 
 write-stmt-nodes-same-length-3 : (t : ℕ) → write-stmt-nodes-lts.Need-same-length-3 (stmt-reads.Asked, stmt-reads.Learnt, write-own-reads.Asked, write-own-reads.Learnt, find-replacements-reads.Asked, find-replacements-reads.Learnt, write-nodes-below t, write-nodes.Post) (write-stmt-nodes-at t) write-stmt-nodes.Post
 write-stmt-nodes-same-length-3 t c = search needs

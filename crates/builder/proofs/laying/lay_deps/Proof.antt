@@ -35,7 +35,8 @@ same-length-5 c = c .before .before .before .before .before .before .before .bef
 returns : tie.Need-returns
 returns c =
     let a = c .before .before .before .before .before .before .before .before .before .before .before .before .before .before .before .before .before .before .before .before .before .before .before .before .args in
-    (c .before .before .before .before .before .before .before .before .before .before .variable-tables .ensures .0, lent-put (a .own .now) _ _ (a .at) (omega (arith, c .before .before .before .before .before .before .before .before .before .before .before .before .before .before .before .before .before .before .before .before .before .before .before .before .pre .3)) (c .before .before .before .before .before .before .before .before .before .before .variable-tables .ensures .1))
+    let variable-tables = c .before .before .before .before .before .before .before .before .before .before .variable-tables in
+    (variable-tables .ensures .0, lent-put (a .own .now) _ _ (a .at) (omega (arith, c .before .before .before .before .before .before .before .before .before .before .before .before .before .before .before .before .before .before .before .before .before .before .before .before .pre .3)) (variable-tables .ensures .1))
 
 pub lay-deps-spec : {M : Type 1} → statement M
 lay-deps-spec =

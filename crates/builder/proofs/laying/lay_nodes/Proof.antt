@@ -29,7 +29,8 @@ returns : tie.Need-returns
 returns c =
     let a = c .before .before .before .before .before .before .before .before .before .before .args in
     let p = c .before .before .before .before .before .before .before .before .before .before .pre in
-    nodes-laid (a .f .now) (a .s) (a .rows .now) (a .m) (a .own .now) _ (c .before .before .before .before .write-nodes .last .1 .1 .1 .0) _ (p .4 .1) (p .3 .0) (c .before .before .before .before .write-nodes .ensures)
+    let write-nodes = c .before .before .before .before .write-nodes in
+    nodes-laid (a .f .now) (a .s) (a .rows .now) (a .m) (a .own .now) _ (write-nodes .last .1 .1 .1 .0) _ (p .4 .1) (p .3 .0) (write-nodes .ensures)
 
 pub lay-nodes-spec : {M : Type 1} → statement M
 lay-nodes-spec =

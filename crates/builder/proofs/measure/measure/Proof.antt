@@ -22,7 +22,8 @@ same-length c = search needs
 returns-2 : tie.Need-returns-2
 returns-2 c =
     let a = c .before .before .before .before .before .before .before .before .args in
-    (measured-size (fileIn (a .f .now) (a .s)) (a .m) _ _ (c .before .before .before .before .before .forbidden .ensures) (c .before .before .before .before .if1 .left) (c .before .before .size .ensures .0), c .before .before .size .ensures .1, c .before .before .size .ensures .2)
+    let size = c .before .before .size in
+    (measured-size (fileIn (a .f .now) (a .s)) (a .m) _ _ (c .before .before .before .before .before .forbidden .ensures) (c .before .before .before .before .if1 .left) (size .ensures .0), size .ensures .1, size .ensures .2)
 
 pub measure-spec : {M : Type 1} → statement M
 measure-spec = tie.close (tie.spec forbidden-requires returns size-requires same-length returns-2)

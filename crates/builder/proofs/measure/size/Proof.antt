@@ -48,7 +48,8 @@ same-length c = search needs
 returns-3 : tie.Need-returns-3
 returns-3 c =
     let a = c .before .before .before .before .before .before .before .before .before .before .before .args in
-    (over-nodes (fileIn (a .f .now) (a .s)) (a .m) (a .s .counts .models) (models-long (a .f .now) (a .s)) _ (c .before .before .before .before .before .before .before .before .instances .ensures) _ (c .before .before .before .before .before .before .flat-stmts .ensures) (contentsIn (a .f .now) (a .s) .nodes) (a .rows .now) _ (c .before .before .before .flat-nodes .ensures .0) (c .if3 .taken), omega (arith, c .before .before .before .flat-nodes .ensures .1 .0, c .before .before .before .before .before .before .before .before .before .before .before .pre .3), c .before .before .before .flat-nodes .ensures .1 .2)
+    let flat-nodes = c .before .before .before .flat-nodes in
+    (over-nodes (fileIn (a .f .now) (a .s)) (a .m) (a .s .counts .models) (models-long (a .f .now) (a .s)) _ (c .before .before .before .before .before .before .before .before .instances .ensures) _ (c .before .before .before .before .before .before .flat-stmts .ensures) (contentsIn (a .f .now) (a .s) .nodes) (a .rows .now) _ (flat-nodes .ensures .0) (c .if3 .taken), omega (arith, flat-nodes .ensures .1 .0, c .before .before .before .before .before .before .before .before .before .before .before .pre .3), flat-nodes .ensures .1 .2)
 
 same-length-2 : tie.Need-same-length-2
 same-length-2 c = search needs
@@ -56,7 +57,8 @@ same-length-2 c = search needs
 returns-4 : tie.Need-returns-4
 returns-4 c =
     let a = c .before .before .before .before .before .before .before .before .before .before .before .args in
-    (sized (fileIn (a .f .now) (a .s)) (a .m) (a .s .counts .models) (models-long (a .f .now) (a .s)) _ (c .before .before .before .before .before .before .before .before .instances .ensures) _ (c .before .before .before .before .before .before .flat-stmts .ensures) (contentsIn (a .f .now) (a .s) .nodes) (a .rows .now) _ (c .before .before .before .flat-nodes .ensures .0) (c .before .before .before .before .before .before .before .if1 .left) (c .before .before .before .before .before .if2 .left) (c .if3 .left), omega (arith, c .before .before .before .flat-nodes .ensures .1 .0, c .before .before .before .before .before .before .before .before .before .before .before .pre .3), c .before .before .before .flat-nodes .ensures .1 .2)
+    let flat-nodes = c .before .before .before .flat-nodes in
+    (sized (fileIn (a .f .now) (a .s)) (a .m) (a .s .counts .models) (models-long (a .f .now) (a .s)) _ (c .before .before .before .before .before .before .before .before .instances .ensures) _ (c .before .before .before .before .before .before .flat-stmts .ensures) (contentsIn (a .f .now) (a .s) .nodes) (a .rows .now) _ (flat-nodes .ensures .0) (c .before .before .before .before .before .before .before .if1 .left) (c .before .before .before .before .before .if2 .left) (c .if3 .left), omega (arith, flat-nodes .ensures .1 .0, c .before .before .before .before .before .before .before .before .before .before .before .pre .3), flat-nodes .ensures .1 .2)
 
 pub size-spec : {M : Type 1} → statement M
 size-spec =

@@ -31,7 +31,9 @@ loop-less : tie.Need-loop-less Inv-loop μ-loop
 loop-less c = omega arith
 
 loop-again : tie.Need-loop-again Inv-loop μ-loop
-loop-again c = (omega arith, filled-more 256 _ (c .before .before .before .loop .q) _ _ (omega (arith, c .before .before .before .before .before .pre .laid .within .stmts)) (c .callee .ensures) (c .before .before .before .loop .inv .1))
+loop-again c =
+    let loop = c .before .before .before .loop in
+    (omega arith, filled-more 256 _ (loop .q) _ _ (omega (arith, c .before .before .before .before .before .pre .laid .within .stmts)) (c .callee .ensures) (loop .inv .1))
 
 returns : tie.Need-returns Inv-loop μ-loop
 returns c = record { callee = λ k h. c .before .before .loop .inv .1 .entry k (omega arith) }

@@ -30,7 +30,8 @@ add-result c = omega (arith, c .before .before .before .before .before .before .
 returns : tie.Need-returns Inv-loop μ-loop
 returns c =
     let a = c .before .before .before .before .before .before .args in
-    sym (ap plusOne (c .before .before .before .before .loop .inv .1) ∙ find-yes (a .f .now) (a .s) (isNamed (a .f .now) (a .s) _) (c .before .before .before .before .loop .m) (omega arith) (named-test (a .f .now) (a .s) (a .name) (c .before .before .before .before .loop .m) (omega arith) ∙ ap (λ (k : ℕ). eqb (a .name) k) (sym (c .before .model .ensures .0)) ∙ eq-eqb _ _ (c .if2 .taken)))
+    let loop = c .before .before .before .before .loop in
+    sym (ap plusOne (loop .inv .1) ∙ find-yes (a .f .now) (a .s) (isNamed (a .f .now) (a .s) _) (loop .m) (omega arith) (named-test (a .f .now) (a .s) (a .name) (loop .m) (omega arith) ∙ ap (λ (k : ℕ). eqb (a .name) k) (sym (c .before .model .ensures .0)) ∙ eq-eqb _ _ (c .if2 .taken)))
 
 add-m : tie.Need-add-m Inv-loop μ-loop
 add-m c = omega (arith, c .before .before .before .before .before .before .pre .laid .within .models)
@@ -41,7 +42,8 @@ loop-less c = omega arith
 loop-again : tie.Need-loop-again Inv-loop μ-loop
 loop-again c =
     let a = c .before .before .before .before .before .before .args in
-    (omega arith, c .before .before .before .before .loop .inv .1 ∙ find-no (a .f .now) (a .s) (isNamed (a .f .now) (a .s) _) (c .before .before .before .before .loop .m) (omega arith) (named-test (a .f .now) (a .s) (a .name) (c .before .before .before .before .loop .m) (omega arith) ∙ ap (λ (k : ℕ). eqb (a .name) k) (sym (c .before .model .ensures .0)) ∙ ne-eqb _ _ (c .if2 .left)))
+    let loop = c .before .before .before .before .loop in
+    (omega arith, loop .inv .1 ∙ find-no (a .f .now) (a .s) (isNamed (a .f .now) (a .s) _) (loop .m) (omega arith) (named-test (a .f .now) (a .s) (a .name) (loop .m) (omega arith) ∙ ap (λ (k : ℕ). eqb (a .name) k) (sym (c .before .model .ensures .0)) ∙ ne-eqb _ _ (c .if2 .left)))
 
 returns-2 : tie.Need-returns-2 Inv-loop μ-loop
 unfolding plusOne

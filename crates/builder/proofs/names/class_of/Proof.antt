@@ -37,7 +37,9 @@ cast-result : tie.Need-cast-result Inv-loop μ-loop
 cast-result c = omega arith
 
 returns : tie.Need-returns Inv-loop μ-loop
-returns c = sym (c .before .before .before .before .before .loop .inv .1 ∙ class-here (c .before .before .before .before .before .before .before .before .before .args .name .now) (c .before .before .before .before .before .loop .i) (c .before .before .before .before .loop-test .taken) ∙ rw (sym (c .before .is-text .ensures) ∙ c .if1 .taken))
+returns c =
+    let loop = c .before .before .before .before .before .loop in
+    sym (loop .inv .1 ∙ class-here (c .before .before .before .before .before .before .before .before .before .args .name .now) (loop .i) (c .before .before .before .before .loop-test .taken) ∙ rw (sym (c .before .is-text .ensures) ∙ c .if1 .taken))
 
 add-i : tie.Need-add-i Inv-loop μ-loop
 add-i c = omega arith
@@ -46,7 +48,9 @@ loop-less : tie.Need-loop-less Inv-loop μ-loop
 loop-less c = omega arith
 
 loop-again : tie.Need-loop-again Inv-loop μ-loop
-loop-again c = (omega arith, c .before .before .before .before .before .loop .inv .1 ∙ class-here (c .before .before .before .before .before .before .before .before .before .args .name .now) (c .before .before .before .before .before .loop .i) (c .before .before .before .before .loop-test .taken) ∙ rw (sym (c .before .is-text .ensures) ∙ c .if1 .left))
+loop-again c =
+    let loop = c .before .before .before .before .before .loop in
+    (omega arith, loop .inv .1 ∙ class-here (c .before .before .before .before .before .before .before .before .before .args .name .now) (loop .i) (c .before .before .before .before .loop-test .taken) ∙ rw (sym (c .before .is-text .ensures) ∙ c .if1 .left))
 
 returns-2 : tie.Need-returns-2 Inv-loop μ-loop
 returns-2 c =

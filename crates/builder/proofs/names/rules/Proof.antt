@@ -39,7 +39,9 @@ loop-less : tie.Need-loop-less Inv-loop μ-loop
 loop-less c = omega arith
 
 loop-again : tie.Need-loop-again Inv-loop μ-loop
-loop-again c = (omega arith, filled-more 256 _ (c .before .before .before .before .before .loop .n) _ _ (omega (arith, c .before .before .before .before .before .before .before .pre .laid .within .names)) (c .rule-number .ensures ∙ ap ruleNumber (c .before .function-rule .ensures ∙ ap ruleOf (c .before .before .name-text .ensures))) (c .before .before .before .before .before .loop .inv .1))
+loop-again c =
+    let loop = c .before .before .before .before .before .loop in
+    (omega arith, filled-more 256 _ (loop .n) _ _ (omega (arith, c .before .before .before .before .before .before .before .pre .laid .within .names)) (c .rule-number .ensures ∙ ap ruleNumber (c .before .function-rule .ensures ∙ ap ruleOf (c .before .before .name-text .ensures))) (loop .inv .1))
 
 returns : tie.Need-returns Inv-loop μ-loop
 returns c =

@@ -39,10 +39,11 @@ loop-less c = omega arith
 loop-again : tie.Need-loop-again Inv-loop μ-loop
 loop-again c =
     let a = c .before .before .before .args in
-    let inv = c .before .before .loop .inv in
-    let l : c .before .before .loop .i < length (c .before .before .loop .area) = omega arith in
-    let k : c .before .before .loop .i < length (a .own .now) = omega arith in
-    (omega arith, simp length-set (inv .1), copy-step _ _ _ l k (inv .2), drop-step (c .before .before .loop .area) (a .area .now) (c .before .before .loop .i) _ (inv .3))
+    let loop = c .before .before .loop in
+    let inv = loop .inv in
+    let l : loop .i < length (loop .area) = omega arith in
+    let k : loop .i < length (a .own .now) = omega arith in
+    (omega arith, simp length-set (inv .1), copy-step _ _ _ l k (inv .2), drop-step (loop .area) (a .area .now) (loop .i) _ (inv .3))
 
 -- src/lib.rt:21:1
 same-length : tie.Need-same-length Inv-loop μ-loop

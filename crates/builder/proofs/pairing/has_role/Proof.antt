@@ -33,7 +33,8 @@ shared-slice-read-if1 c = omega arith
 returns : tie.Need-returns Inv-loop μ-loop
 returns c =
     let a = c .before .before .before .before .args in
-    sym (c .before .before .before .loop .inv .2 ∙ member-here (a .roles .now) (a .n) (omega arith) (a .role) (c .before .before .before .loop .j) (omega arith) ∙ rw (eq-eqb _ _ (c .if1 .taken)) refl)
+    let loop = c .before .before .before .loop in
+    sym (loop .inv .2 ∙ member-here (a .roles .now) (a .n) (omega arith) (a .role) (loop .j) (omega arith) ∙ rw (eq-eqb _ _ (c .if1 .taken)) refl)
 
 -- src/pairing.rt:19:9
 add-j : tie.Need-add-j Inv-loop μ-loop
@@ -47,7 +48,8 @@ loop-less c = omega arith
 loop-again : tie.Need-loop-again Inv-loop μ-loop
 loop-again c =
     let a = c .before .before .before .before .args in
-    (omega arith, omega arith, c .before .before .before .loop .inv .2 ∙ member-here (a .roles .now) (a .n) (omega arith) (a .role) (c .before .before .before .loop .j) (omega arith) ∙ rw (ne-eqb _ _ (c .if1 .left)) refl)
+    let loop = c .before .before .before .loop in
+    (omega arith, omega arith, loop .inv .2 ∙ member-here (a .roles .now) (a .n) (omega arith) (a .role) (loop .j) (omega arith) ∙ rw (ne-eqb _ _ (c .if1 .left)) refl)
 
 -- src/pairing.rt:10:1
 returns-2 : tie.Need-returns-2 Inv-loop μ-loop

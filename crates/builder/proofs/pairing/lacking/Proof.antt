@@ -47,11 +47,12 @@ loop-less c = omega arith
 loop-again : tie.Need-loop-again Inv-loop μ-loop
 loop-again c =
     let a = c .before .before .before .before .before .before .before .args in
-    let z : c .before .before .before .loop .v % 4294967296 ≡ c .before .before .before .loop .v = omega arith in
-    let inv = c .before .before .before .loop .inv in
+    let loop = c .before .before .before .loop in
+    let z : loop .v % 4294967296 ≡ loop .v = omega arith in
+    let inv = loop .inv in
     ⊎-elim
-    (λ w. rw (w .1) (omega arith, omega arith, simp length-set (inv .2), rw z (taken-in (take (a .n) (a .roles .now)) (a .starts .now) (c .before .before .before .loop .v) (c .before .before .before .loop .q .count) (c .before .before .before .loop .q .states) (sym (c .before .lacks .ensures) ∙ w .0 .taken) (omega arith) (inv .3))))
-    (λ w. rw (w .1) (omega arith, omega arith, inv .2, inv .3 ∙ sym (kept-out (take (a .n) (a .roles .now)) (a .starts .now) (c .before .before .before .loop .v) (sym (c .before .lacks .ensures) ∙ w .0 .left))))
+    (λ w. rw (w .1) (omega arith, omega arith, simp length-set (inv .2), rw z (taken-in (take (a .n) (a .roles .now)) (a .starts .now) (loop .v) (loop .q .count) (loop .q .states) (sym (c .before .lacks .ensures) ∙ w .0 .taken) (omega arith) (inv .3))))
+    (λ w. rw (w .1) (omega arith, omega arith, inv .2, inv .3 ∙ sym (kept-out (take (a .n) (a .roles .now)) (a .starts .now) (loop .v) (sym (c .before .lacks .ensures) ∙ w .0 .left))))
     (c .if1 .came)
 
 returns : tie.Need-returns Inv-loop μ-loop

@@ -50,8 +50,9 @@ loop-less c = omega arith
 loop-again : tie.Need-loop-again Inv-loop μ-loop
 loop-again c =
     let a = c .before .before .before .before .before .args in
-    let t = times-here (a .roles .now) (a .n) (omega arith) (eqb 0) (c .before .before .before .loop .i) (omega arith) in
-    (omega arith, omega (arith, c .none-flag .ensures .1), omega (arith, t, c .none-flag .ensures .0, c .before .before .before .loop .inv .2))
+    let loop = c .before .before .before .loop in
+    let t = times-here (a .roles .now) (a .n) (omega arith) (eqb 0) (loop .i) (omega arith) in
+    (omega arith, omega (arith, c .none-flag .ensures .1), omega (arith, t, c .none-flag .ensures .0, loop .inv .2))
 
 -- src/pairing.rt:32:1
 returns : tie.Need-returns Inv-loop μ-loop

@@ -57,7 +57,8 @@ loop-less c = omega arith
 loop-again : tie.Need-loop-again Inv-loop μ-loop
 loop-again c =
     let a = c .before .before .before .before .before .before .before .args in
-    (omega arith, added-more (a .a) (a .new .now) (λ y. eqb (getD (a .old .now) (32 * a .c + y) 0) 1) (c .before .before .before .before .loop .b) (c .either .result) (c .before .before .before .before .loop .new) (omega arith) (c .either .ensures) (c .before .before .before .before .loop .inv .1))
+    let loop = c .before .before .before .before .loop in
+    (omega arith, added-more (a .a) (a .new .now) (λ y. eqb (getD (a .old .now) (32 * a .c + y) 0) 1) (loop .b) (c .either .result) (loop .new) (omega arith) (c .either .ensures) (loop .inv .1))
 
 mul-new-2 : tie.Need-mul-new-2 Inv-loop μ-loop
 mul-new-2 c = omega arith

@@ -44,25 +44,29 @@ node-requires-2 c κs =
 returns : tie.Need-returns Inv-loop μ-loop
 returns c =
     let a = c .before .before .before .before .before .before .args in
-    sym (c .before .before .before .loop .inv .3 ∙ beyond-here (a .f .now) (a .s) (c .before .before .before .before .before .before .pre .0) (c .before .before .before .loop .end) (c .before .before .before .loop .left) (c .before .before .before .loop .inv .0) (c .before .before .before .loop .inv .1) (c .before .before .before .loop .inv .2) (c .before .before .loop-test .taken) (a .n) ∙ rw (← c .before .node2 .ensures .0, c .if1 .taken, or-true))
+    let loop = c .before .before .before .loop in
+    sym (loop .inv .3 ∙ beyond-here (a .f .now) (a .s) (c .before .before .before .before .before .before .pre .0) (loop .end) (loop .left) (loop .inv .0) (loop .inv .1) (loop .inv .2) (c .before .before .loop-test .taken) (a .n) ∙ rw (← c .before .node2 .ensures .0, c .if1 .taken, or-true))
 
 sub-node-2 : tie.Need-sub-node-2 Inv-loop μ-loop
 sub-node-2 c =
     let args = c .before .before .before .before .before .before .args in
-    let a = arg-here (args .f .now) (args .s) (c .before .before .before .before .before .before .pre .0) (c .before .before .before .loop .end) (c .before .before .before .loop .left) (c .before .before .before .loop .inv .0) (c .before .before .before .loop .inv .1) (c .before .before .before .loop .inv .2) (c .before .before .loop-test .taken) in
+    let loop = c .before .before .before .loop in
+    let a = arg-here (args .f .now) (args .s) (c .before .before .before .before .before .before .pre .0) (loop .end) (loop .left) (loop .inv .0) (loop .inv .1) (loop .inv .2) (c .before .before .loop-test .taken) in
     omega (arith, a .two)
 
 node-requires-3 : tie.Need-node-requires-3 Inv-loop μ-loop
 node-requires-3 c κs =
     let args = c .before .before .before .before .before .before .args in
     let p = c .before .before .before .before .before .before .pre in
-    let a = arg-here (args .f .now) (args .s) (p .0) (c .before .before .before .loop .end) (c .before .before .before .loop .left) (c .before .before .before .loop .inv .0) (c .before .before .before .loop .inv .1) (c .before .before .before .loop .inv .2) (c .before .before .loop-test .taken) in
-    (p .0, (omega (arith, a .two, c .before .before .before .loop .inv .1), omega arith))
+    let loop = c .before .before .before .loop in
+    let a = arg-here (args .f .now) (args .s) (p .0) (loop .end) (loop .left) (loop .inv .0) (loop .inv .1) (loop .inv .2) (c .before .before .loop-test .taken) in
+    (p .0, (omega (arith, a .two, loop .inv .1), omega arith))
 
 sub-end : tie.Need-sub-end Inv-loop μ-loop
 sub-end c =
     let args = c .before .before .before .before .before .before .before .args in
-    let a = arg-here (args .f .now) (args .s) (c .before .before .before .before .before .before .before .pre .0) (c .before .before .before .before .loop .end) (c .before .before .before .before .loop .left) (c .before .before .before .before .loop .inv .0) (c .before .before .before .before .loop .inv .1) (c .before .before .before .before .loop .inv .2) (c .before .before .before .loop-test .taken) in
+    let loop = c .before .before .before .before .loop in
+    let a = arg-here (args .f .now) (args .s) (c .before .before .before .before .before .before .before .pre .0) (loop .end) (loop .left) (loop .inv .0) (loop .inv .1) (loop .inv .2) (c .before .before .before .loop-test .taken) in
     omega (arith, a .within, c .node3 .ensures .0)
 
 loop-less : tie.Need-loop-less Inv-loop μ-loop
@@ -72,8 +76,10 @@ loop-again : tie.Need-loop-again Inv-loop μ-loop
 loop-again c =
     let args = c .before .before .before .before .before .before .before .args in
     let p = c .before .before .before .before .before .before .before .pre in
-    let a = arg-here (args .f .now) (args .s) (p .0) (c .before .before .before .before .loop .end) (c .before .before .before .before .loop .left) (c .before .before .before .before .loop .inv .0) (c .before .before .before .before .loop .inv .1) (c .before .before .before .before .loop .inv .2) (c .before .before .before .loop-test .taken) in
-    (c .before .before .before .before .loop .inv .0 - sizeAt (contentsIn (args .f .now) (args .s) .nodes) (c .before .before .before .before .loop .end - 1), omega (arith, c .before .before .before .before .loop .inv .1), rw (c .node3 .ensures .0) (a .rest), c .before .before .before .before .loop .inv .3 ∙ beyond-here (args .f .now) (args .s) (p .0) (c .before .before .before .before .loop .end) (c .before .before .before .before .loop .left) (c .before .before .before .before .loop .inv .0) (c .before .before .before .before .loop .inv .1) (c .before .before .before .before .loop .inv .2) (c .before .before .before .loop-test .taken) (args .n) ∙ rw (← c .before .before .node2 .ensures .0, ← c .node3 .ensures .0, c .before .if1 .left) (or-false _))
+    let loop = c .before .before .before .before .loop in
+    let loop-test = c .before .before .before .loop-test in
+    let a = arg-here (args .f .now) (args .s) (p .0) (loop .end) (loop .left) (loop .inv .0) (loop .inv .1) (loop .inv .2) (loop-test .taken) in
+    (loop .inv .0 - sizeAt (contentsIn (args .f .now) (args .s) .nodes) (loop .end - 1), omega (arith, loop .inv .1), rw (c .node3 .ensures .0) (a .rest), loop .inv .3 ∙ beyond-here (args .f .now) (args .s) (p .0) (loop .end) (loop .left) (loop .inv .0) (loop .inv .1) (loop .inv .2) (loop-test .taken) (args .n) ∙ rw (← c .before .before .node2 .ensures .0, ← c .node3 .ensures .0, c .before .if1 .left) (or-false _))
 
 returns-2 : tie.Need-returns-2 Inv-loop μ-loop
 returns-2 c = sym (c .before .loop .inv .3 ∙ beyond-done _ _ _ (c .before .loop .left) _ (c .loop-test .left))

@@ -41,7 +41,8 @@ returns : tie.Need-returns Inv-loop μ-loop
 returns c =
     let a = c .before .before .before .before .before .before .args in
     let p = c .before .before .before .before .before .before .pre in
-    sym (c .before .before .before .before .loop .inv .1 ∙ reached-by (fileIn (a .f .now) (a .s)) (a .root) (λ k. flatten.reached (fileIn (a .f .now) (a .s)) k k) (c .before .before .before .before .loop .m) _ _ (c .before .before .before .loop-test .taken) (c .before .before .is-reached .ensures) (itself-flag (a .f .now) (a .s) (p .0) (a .table .now) (p .1) (c .before .before .before .before .loop .m - 1) (omega arith)) ∙ rw (c .if1 .taken))
+    let loop = c .before .before .before .before .loop in
+    sym (loop .inv .1 ∙ reached-by (fileIn (a .f .now) (a .s)) (a .root) (λ k. flatten.reached (fileIn (a .f .now) (a .s)) k k) (loop .m) _ _ (c .before .before .before .loop-test .taken) (c .before .before .is-reached .ensures) (itself-flag (a .f .now) (a .s) (p .0) (a .table .now) (p .1) (loop .m - 1) (omega arith)) ∙ rw (c .if1 .taken))
 
 sub-m : tie.Need-sub-m Inv-loop μ-loop
 sub-m c = omega arith
@@ -53,7 +54,8 @@ loop-again : tie.Need-loop-again Inv-loop μ-loop
 loop-again c =
     let a = c .before .before .before .before .before .before .args in
     let p = c .before .before .before .before .before .before .pre in
-    (omega arith, c .before .before .before .before .loop .inv .1 ∙ reached-by (fileIn (a .f .now) (a .s)) (a .root) (λ k. flatten.reached (fileIn (a .f .now) (a .s)) k k) (c .before .before .before .before .loop .m) _ _ (c .before .before .before .loop-test .taken) (c .before .before .is-reached .ensures) (itself-flag (a .f .now) (a .s) (p .0) (a .table .now) (p .1) (c .before .before .before .before .loop .m - 1) (omega arith)) ∙ rw (c .if1 .left))
+    let loop = c .before .before .before .before .loop in
+    (omega arith, loop .inv .1 ∙ reached-by (fileIn (a .f .now) (a .s)) (a .root) (λ k. flatten.reached (fileIn (a .f .now) (a .s)) k k) (loop .m) _ _ (c .before .before .before .loop-test .taken) (c .before .before .is-reached .ensures) (itself-flag (a .f .now) (a .s) (p .0) (a .table .now) (p .1) (loop .m - 1) (omega arith)) ∙ rw (c .if1 .left))
 
 returns-2 : tie.Need-returns-2 Inv-loop μ-loop
 returns-2 c =

@@ -34,7 +34,8 @@ returns : tie.Need-returns Inv-loop μ-loop
 returns c =
     let a = c .before .before .before .before .before .args in
     let p = c .before .before .before .before .before .pre in
-    sym (c .before .before .before .loop .inv .1 ∙ member-turn (a .f .now) (a .s) (p .0) (a .first) (a .count) (c .before .before .before .loop .i) (p .1) (a .name) (c .before .before .loop-test .taken) ∙ rw (eq-eqb _ _ (sym (c .if1 .taken) ∙ c .before .dep .ensures)))
+    let loop = c .before .before .before .loop in
+    sym (loop .inv .1 ∙ member-turn (a .f .now) (a .s) (p .0) (a .first) (a .count) (loop .i) (p .1) (a .name) (c .before .before .loop-test .taken) ∙ rw (eq-eqb _ _ (sym (c .if1 .taken) ∙ c .before .dep .ensures)))
 
 add-i : tie.Need-add-i Inv-loop μ-loop
 add-i c = omega arith
@@ -46,7 +47,8 @@ loop-again : tie.Need-loop-again Inv-loop μ-loop
 loop-again c =
     let a = c .before .before .before .before .before .args in
     let p = c .before .before .before .before .before .pre in
-    (omega arith, c .before .before .before .loop .inv .1 ∙ member-turn (a .f .now) (a .s) (p .0) (a .first) (a .count) (c .before .before .before .loop .i) (p .1) (a .name) (c .before .before .loop-test .taken) ∙ rw (ne-eqb _ _ (λ z. c .if1 .left (c .before .dep .ensures ∙ sym z))))
+    let loop = c .before .before .before .loop in
+    (omega arith, loop .inv .1 ∙ member-turn (a .f .now) (a .s) (p .0) (a .first) (a .count) (loop .i) (p .1) (a .name) (c .before .before .loop-test .taken) ∙ rw (ne-eqb _ _ (λ z. c .if1 .left (c .before .dep .ensures ∙ sym z))))
 
 returns-2 : tie.Need-returns-2 Inv-loop μ-loop
 returns-2 c =

@@ -36,7 +36,8 @@ returns : tie.Need-returns
 returns c =
     let a = c .before .before .before .before .before .before .before .before .args in
     let p = c .before .before .before .before .before .before .before .before .pre in
-    rw (c .before .before .before .before .is-time .ensures, c .before .before .before .is-reserved .ensures, c .lists .ensures) (lists-itself-is (a .f .now) (a .s) (p .0) (a .classes .now) (p .1) (a .u) (p .2) (c .before .before .before .before .before .before .unknown .result) (c .before .before .unknown2 .result) (c .before .unknown3 .result) (c .before .before .before .before .before .before .unknown .ensures .0) (c .before .before .unknown2 .ensures .0) (c .before .unknown3 .ensures .0))
+    let unknown = c .before .before .before .before .before .before .unknown in
+    rw (c .before .before .before .before .is-time .ensures, c .before .before .before .is-reserved .ensures, c .lists .ensures) (lists-itself-is (a .f .now) (a .s) (p .0) (a .classes .now) (p .1) (a .u) (p .2) (unknown .result) (c .before .before .unknown2 .result) (c .before .unknown3 .result) (unknown .ensures .0) (c .before .before .unknown2 .ensures .0) (c .before .unknown3 .ensures .0))
 
 pub lists-itself-spec : {M : Type 1} → statement M
 lists-itself-spec =

@@ -28,19 +28,24 @@ add-lists-itself : tie.Need-add-lists-itself Inv-loop μ-loop
 add-lists-itself c =
     let a = c .before .before .before .before .before .args in
     let p = c .before .before .before .before .before .pre in
-    omega (arith, unknowns-below (a .f .now) (a .s) (p .0) (a .m) (p .2) (c .before .before .before .model .result) (c .before .before .model2 .result) (c .before .loop .i) (c .before .before .before .model .ensures .0) (c .before .before .model2 .ensures .0) (c .loop-test .taken), p .0 .laid .within .unknowns)
+    let model = c .before .before .before .model in
+    omega (arith, unknowns-below (a .f .now) (a .s) (p .0) (a .m) (p .2) (model .result) (c .before .before .model2 .result) (c .before .loop .i) (model .ensures .0) (c .before .before .model2 .ensures .0) (c .loop-test .taken), p .0 .laid .within .unknowns)
 
 lists-itself-requires : tie.Need-lists-itself-requires Inv-loop μ-loop
 lists-itself-requires c κs =
     let a = c .before .before .before .before .before .args in
     let p = c .before .before .before .before .before .pre in
-    (p .0, p .1, unknowns-below (a .f .now) (a .s) (p .0) (a .m) (p .2) (c .before .before .before .model .result) (c .before .before .model2 .result) (c .before .loop .i) (c .before .before .before .model .ensures .0) (c .before .before .model2 .ensures .0) (c .loop-test .taken))
+    let model = c .before .before .before .model in
+    (p .0, p .1, unknowns-below (a .f .now) (a .s) (p .0) (a .m) (p .2) (model .result) (c .before .before .model2 .result) (c .before .loop .i) (model .ensures .0) (c .before .before .model2 .ensures .0) (c .loop-test .taken))
 
 returns : tie.Need-returns Inv-loop μ-loop
 returns c =
     let a = c .before .before .before .before .before .before .before .args in
     let p = c .before .before .before .before .before .before .before .pre in
-    sym (c .before .before .before .loop .inv .1 ∙ unknowns-turn (a .f .now) (a .s) (p .0) (a .m) (p .2) (c .before .before .before .before .before .model .result) (c .before .before .before .before .model2 .result) (c .before .before .before .loop .i) (c .before .before .before .before .before .model .ensures .0) (c .before .before .before .before .model2 .ensures .0) (flatten.listsItself (fileIn (a .f .now) (a .s))) (c .before .before .loop-test .taken) ∙ rw (sym (c .before .lists-itself .ensures) ∙ c .if1 .taken))
+    let model = c .before .before .before .before .before .model in
+    let model2 = c .before .before .before .before .model2 in
+    let loop = c .before .before .before .loop in
+    sym (loop .inv .1 ∙ unknowns-turn (a .f .now) (a .s) (p .0) (a .m) (p .2) (model .result) (model2 .result) (loop .i) (model .ensures .0) (model2 .ensures .0) (flatten.listsItself (fileIn (a .f .now) (a .s))) (c .before .before .loop-test .taken) ∙ rw (sym (c .before .lists-itself .ensures) ∙ c .if1 .taken))
 
 add-i : tie.Need-add-i Inv-loop μ-loop
 add-i c = omega arith
@@ -52,13 +57,17 @@ loop-again : tie.Need-loop-again Inv-loop μ-loop
 loop-again c =
     let a = c .before .before .before .before .before .before .before .args in
     let p = c .before .before .before .before .before .before .before .pre in
-    (omega arith, c .before .before .before .loop .inv .1 ∙ unknowns-turn (a .f .now) (a .s) (p .0) (a .m) (p .2) (c .before .before .before .before .before .model .result) (c .before .before .before .before .model2 .result) (c .before .before .before .loop .i) (c .before .before .before .before .before .model .ensures .0) (c .before .before .before .before .model2 .ensures .0) (flatten.listsItself (fileIn (a .f .now) (a .s))) (c .before .before .loop-test .taken) ∙ rw (sym (c .before .lists-itself .ensures) ∙ c .if1 .left))
+    let model = c .before .before .before .before .before .model in
+    let model2 = c .before .before .before .before .model2 in
+    let loop = c .before .before .before .loop in
+    (omega arith, loop .inv .1 ∙ unknowns-turn (a .f .now) (a .s) (p .0) (a .m) (p .2) (model .result) (model2 .result) (loop .i) (model .ensures .0) (model2 .ensures .0) (flatten.listsItself (fileIn (a .f .now) (a .s))) (c .before .before .loop-test .taken) ∙ rw (sym (c .before .lists-itself .ensures) ∙ c .if1 .left))
 
 returns-2 : tie.Need-returns-2 Inv-loop μ-loop
 returns-2 c =
     let a = c .before .before .before .before .before .args in
     let p = c .before .before .before .before .before .pre in
-    sym (c .before .loop .inv .1 ∙ unknowns-done (a .f .now) (a .s) (p .0) (a .m) (p .2) (c .before .before .before .model .result) (c .before .before .model2 .result) (c .before .loop .i) (c .before .before .before .model .ensures .0) (c .before .before .model2 .ensures .0) (flatten.listsItself (fileIn (a .f .now) (a .s))) (c .loop-test .left))
+    let model = c .before .before .before .model in
+    sym (c .before .loop .inv .1 ∙ unknowns-done (a .f .now) (a .s) (p .0) (a .m) (p .2) (model .result) (c .before .before .model2 .result) (c .before .loop .i) (model .ensures .0) (c .before .before .model2 .ensures .0) (flatten.listsItself (fileIn (a .f .now) (a .s))) (c .loop-test .left))
 
 pub model-lists-itself-spec : {M : Type 1} → statement M
 model-lists-itself-spec =

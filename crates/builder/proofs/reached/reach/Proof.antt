@@ -39,7 +39,8 @@ loop-again : tie.Need-loop-again Inv-loop μ-loop
 loop-again c =
     let a = c .before .before .before .before .before .before .args in
     let p = c .before .before .before .before .before .before .pre in
-    (omega arith, c .reach-round .ensures .size, stepped-done (fileIn (a .f .now) (a .s)) (a .s .counts .models) (c .before .before .before .before .loop .table) (c .before .before .before .before .loop .k) (c .reach-round .result) (sym (long (a .f .now) (a .s) (p .0) .file-models)) (c .before .before .before .before .loop .inv .2) (c .reach-round .ensures))
+    let loop = c .before .before .before .before .loop in
+    (omega arith, c .reach-round .ensures .size, stepped-done (fileIn (a .f .now) (a .s)) (a .s .counts .models) (loop .table) (loop .k) (c .reach-round .result) (sym (long (a .f .now) (a .s) (p .0) .file-models)) (loop .inv .2) (c .reach-round .ensures))
 
 returns : tie.Need-returns Inv-loop μ-loop
 returns c =

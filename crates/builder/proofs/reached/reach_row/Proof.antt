@@ -33,13 +33,16 @@ add-add-called : tie.Need-add-add-called Inv-loop μ-loop
 add-add-called c =
     let a = c .before .before .before .before .before .before .before .args in
     let p = c .before .before .before .before .before .before .before .pre in
-    omega (arith, stmts-below (a .f .now) (a .s) (p .0) (a .a) (p .3) (c .before .before .before .model .result) (c .before .before .model2 .result) (c .before .loop .i) (c .before .before .before .model .ensures .0) (c .before .before .model2 .ensures .0) (c .loop-test .taken), p .0 .laid .within .stmts)
+    let model = c .before .before .before .model in
+    omega (arith, stmts-below (a .f .now) (a .s) (p .0) (a .a) (p .3) (model .result) (c .before .before .model2 .result) (c .before .loop .i) (model .ensures .0) (c .before .before .model2 .ensures .0) (c .loop-test .taken), p .0 .laid .within .stmts)
 
 add-called-requires : tie.Need-add-called-requires Inv-loop μ-loop
 add-called-requires c κs =
     let a = c .before .before .before .before .before .before .before .before .args in
     let p = c .before .before .before .before .before .before .before .before .pre in
-    (p .0, p .1, p .2, c .before .before .loop .inv .1 .size, stmts-below (a .f .now) (a .s) (p .0) (a .a) (p .3) (c .before .before .before .before .model .result) (c .before .before .before .model2 .result) (c .before .before .loop .i) (c .before .before .before .before .model .ensures .0) (c .before .before .before .model2 .ensures .0) (c .before .loop-test .taken), p .3)
+    let model = c .before .before .before .before .model in
+    let model2 = c .before .before .before .model2 in
+    (p .0, p .1, p .2, c .before .before .loop .inv .1 .size, stmts-below (a .f .now) (a .s) (p .0) (a .a) (p .3) (model .result) (model2 .result) (c .before .before .loop .i) (model .ensures .0) (model2 .ensures .0) (c .before .loop-test .taken), p .3)
 
 add-i : tie.Need-add-i Inv-loop μ-loop
 add-i c = omega arith
@@ -51,7 +54,10 @@ loop-again : tie.Need-loop-again Inv-loop μ-loop
 loop-again c =
     let a = c .before .before .before .before .before .before .before .before .before .before .before .args in
     let p = c .before .before .before .before .before .before .before .before .before .before .before .pre in
-    (omega arith, row-more (a .f .now) (a .s) (p .0) (a .old .now) (a .a) (p .3) (c .before .before .before .before .before .before .before .model .result) (c .before .before .before .before .before .before .model2 .result) (c .before .before .before .before .before .loop .i) (c .before .before .before .before .before .before .before .model .ensures .0) (c .before .before .before .before .before .before .model2 .ensures .0) (c .before .before .before .before .before .loop .new) _ (c .before .before .before .before .loop-test .taken) (c .before .before .add-called .ensures) (c .before .before .before .before .before .loop .inv .1))
+    let model = c .before .before .before .before .before .before .before .model in
+    let model2 = c .before .before .before .before .before .before .model2 in
+    let loop = c .before .before .before .before .before .loop in
+    (omega arith, row-more (a .f .now) (a .s) (p .0) (a .old .now) (a .a) (p .3) (model .result) (model2 .result) (loop .i) (model .ensures .0) (model2 .ensures .0) (loop .new) _ (c .before .before .before .before .loop-test .taken) (c .before .before .add-called .ensures) (loop .inv .1))
 
 same-length : tie.Need-same-length Inv-loop μ-loop
 same-length c =
@@ -62,7 +68,8 @@ returns : tie.Need-returns Inv-loop μ-loop
 returns c =
     let a = c .before .before .before .before .before .before .before .args in
     let p = c .before .before .before .before .before .before .before .pre in
-    row-done (a .f .now) (a .s) (p .0) (a .old .now) (a .a) (p .3) (c .before .before .before .model .result) (c .before .before .model2 .result) (c .before .loop .i) (c .before .before .before .model .ensures .0) (c .before .before .model2 .ensures .0) (c .before .loop .new) (omega arith) (c .before .loop .inv .1)
+    let model = c .before .before .before .model in
+    row-done (a .f .now) (a .s) (p .0) (a .old .now) (a .a) (p .3) (model .result) (c .before .before .model2 .result) (c .before .loop .i) (model .ensures .0) (c .before .before .model2 .ensures .0) (c .before .loop .new) (omega arith) (c .before .loop .inv .1)
 
 pub reach-row-spec : {M : Type 1} → statement M
 reach-row-spec =

@@ -40,7 +40,8 @@ model-lists-itself-requires c κs =
 returns : tie.Need-returns Inv-loop μ-loop
 returns c =
     let a = c .before .before .before .before .before .before .args in
-    sym (c .before .before .before .before .loop .inv .1 ∙ reached-by (fileIn (a .f .now) (a .s)) (a .root) (λ k. any (flatten.listsItself (fileIn (a .f .now) (a .s))) (flatten.modelAt (fileIn (a .f .now) (a .s)) k .unknowns)) (c .before .before .before .before .loop .m) _ _ (c .before .before .before .loop-test .taken) (c .before .before .is-reached .ensures) (c .before .model-lists-itself .ensures) ∙ rw (c .if1 .taken))
+    let loop = c .before .before .before .before .loop in
+    sym (loop .inv .1 ∙ reached-by (fileIn (a .f .now) (a .s)) (a .root) (λ k. any (flatten.listsItself (fileIn (a .f .now) (a .s))) (flatten.modelAt (fileIn (a .f .now) (a .s)) k .unknowns)) (loop .m) _ _ (c .before .before .before .loop-test .taken) (c .before .before .is-reached .ensures) (c .before .model-lists-itself .ensures) ∙ rw (c .if1 .taken))
 
 sub-m : tie.Need-sub-m Inv-loop μ-loop
 sub-m c = omega arith
@@ -51,7 +52,8 @@ loop-less c = omega arith
 loop-again : tie.Need-loop-again Inv-loop μ-loop
 loop-again c =
     let a = c .before .before .before .before .before .before .args in
-    (omega arith, c .before .before .before .before .loop .inv .1 ∙ reached-by (fileIn (a .f .now) (a .s)) (a .root) (λ k. any (flatten.listsItself (fileIn (a .f .now) (a .s))) (flatten.modelAt (fileIn (a .f .now) (a .s)) k .unknowns)) (c .before .before .before .before .loop .m) _ _ (c .before .before .before .loop-test .taken) (c .before .before .is-reached .ensures) (c .before .model-lists-itself .ensures) ∙ rw (c .if1 .left))
+    let loop = c .before .before .before .before .loop in
+    (omega arith, loop .inv .1 ∙ reached-by (fileIn (a .f .now) (a .s)) (a .root) (λ k. any (flatten.listsItself (fileIn (a .f .now) (a .s))) (flatten.modelAt (fileIn (a .f .now) (a .s)) k .unknowns)) (loop .m) _ _ (c .before .before .before .loop-test .taken) (c .before .before .is-reached .ensures) (c .before .model-lists-itself .ensures) ∙ rw (c .if1 .left))
 
 returns-2 : tie.Need-returns-2 Inv-loop μ-loop
 returns-2 c =

@@ -24,8 +24,9 @@ sub-left c = omega arith
 note-argument-requires : tie.Need-note-argument-requires Inv-loop μ-loop
 note-argument-requires c κs =
     let p = c .before .before .before .before .before .before .pre in
-    let a = filling-last _ _ _ _ (p .0) _ _ _ (c .before .before .loop .inv) (c .before .loop-test .taken) in
-    (p .0, p .1, (omega (arith, a .two), c .before .before .loop .inv .within, a .kind), (c .before .before .loop .inv .long, c .before .before .loop .inv .fit))
+    let loop = c .before .before .loop in
+    let a = filling-last _ _ _ _ (p .0) _ _ _ (loop .inv) (c .before .loop-test .taken) in
+    (p .0, p .1, (omega (arith, a .two), loop .inv .within, a .kind), (loop .inv .long, loop .inv .fit))
 
 sub-node : tie.Need-sub-node Inv-loop μ-loop
 sub-node c =
@@ -36,8 +37,9 @@ sub-node c =
 node-requires-2 : tie.Need-node-requires-2 Inv-loop μ-loop
 node-requires-2 c κs =
     let p = c .before .before .before .before .before .before .before .before .before .pre in
-    let a = filling-last _ _ _ _ (p .0) _ _ _ (c .before .before .before .before .before .loop .inv) (c .before .before .before .before .loop-test .taken) in
-    (p .0, (omega (arith, a .two, c .before .before .before .before .before .loop .inv .within), omega arith))
+    let loop = c .before .before .before .before .before .loop in
+    let a = filling-last _ _ _ _ (p .0) _ _ _ (loop .inv) (c .before .before .before .before .loop-test .taken) in
+    (p .0, (omega (arith, a .two, loop .inv .within), omega arith))
 
 sub-end : tie.Need-sub-end Inv-loop μ-loop
 sub-end c =

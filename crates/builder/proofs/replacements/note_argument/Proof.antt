@@ -39,11 +39,12 @@ returns : tie.Need-returns
 returns c =
     let args = c .before .before .before .before .before .before .before .before .before .args in
     let p = c .before .before .before .before .before .before .before .before .before .pre in
+    let target = c .before .before .before .before .before .target in
     let a = argument-child _ _ (p .0) (args .end) (p .2 .0) (p .2 .1) (p .2 .2) in
     let e = c .before .before .set-free .ensures in
-    let b : c .before .before .before .before .before .target .result - 1 < length (args .row .now) = omega (arith, names-few _ _ (p .0), c .before .before .before .before .before .target .ensures .1) in
-    let d : c .before .before .before .before .before .target .result - 1 < args .s .counts .names = omega (arith, c .before .before .before .before .before .target .ensures .1) in
-    (noted-length (args .row .now) _ (c .before .before .before .before .before .target .result - 1) (args .end - 1) e ∙ p .3 .0, noted-in (args .f .now) (args .s) (args .row .now) _ (c .before .before .before .before .before .target .result - 1) (args .end - 1) (p .3 .1) d b (omega (arith, a .0)) (omega (arith, a .0, p .2 .1)) (a .1) e, rw (← c .before .before .before .before .before .before .node .ensures .0, ← c .before .before .before .before .before .target .ensures .0) (noted _ (args .row .now) _ (c .before .before .before .before .before .target .result) (args .end - 1) (omega arith) b (omega (arith, a .0)) e))
+    let b : target .result - 1 < length (args .row .now) = omega (arith, names-few _ _ (p .0), target .ensures .1) in
+    let d : target .result - 1 < args .s .counts .names = omega (arith, target .ensures .1) in
+    (noted-length (args .row .now) _ (target .result - 1) (args .end - 1) e ∙ p .3 .0, noted-in (args .f .now) (args .s) (args .row .now) _ (target .result - 1) (args .end - 1) (p .3 .1) d b (omega (arith, a .0)) (omega (arith, a .0, p .2 .1)) (a .1) e, rw (← c .before .before .before .before .before .before .node .ensures .0, ← target .ensures .0) (noted _ (args .row .now) _ (target .result) (args .end - 1) (omega arith) b (omega (arith, a .0)) e))
 
 returns-2 : tie.Need-returns-2
 returns-2 c =

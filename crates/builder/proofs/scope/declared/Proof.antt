@@ -47,31 +47,41 @@ add-unknown : tie.Need-add-unknown Inv-loop μ-loop
 add-unknown c =
     let a = c .before .before .before .before .before .before .before .before .before .before .args in
     let p = c .before .before .before .before .before .before .before .before .before .before .pre in
-    omega (arith, unknowns-below (a .f .now) (a .s) (p .0) (a .m) (p .2) (c .before .before .before .model .result) (c .before .before .model2 .result) (c .before .loop .i) (c .before .before .before .model .ensures .0) (c .before .before .model2 .ensures .0) (c .loop-test .taken), p .0 .laid .within .unknowns)
+    let model = c .before .before .before .model in
+    omega (arith, unknowns-below (a .f .now) (a .s) (p .0) (a .m) (p .2) (model .result) (c .before .before .model2 .result) (c .before .loop .i) (model .ensures .0) (c .before .before .model2 .ensures .0) (c .loop-test .taken), p .0 .laid .within .unknowns)
 
 unknown-requires : tie.Need-unknown-requires Inv-loop μ-loop
 unknown-requires c κs =
     let a = c .before .before .before .before .before .before .before .before .before .before .args in
     let p = c .before .before .before .before .before .before .before .before .before .before .pre in
-    (p .0, (unknowns-below (a .f .now) (a .s) (p .0) (a .m) (p .2) (c .before .before .before .model .result) (c .before .before .model2 .result) (c .before .loop .i) (c .before .before .before .model .ensures .0) (c .before .before .model2 .ensures .0) (c .loop-test .taken), omega arith))
+    let model = c .before .before .before .model in
+    (p .0, (unknowns-below (a .f .now) (a .s) (p .0) (a .m) (p .2) (model .result) (c .before .before .model2 .result) (c .before .loop .i) (model .ensures .0) (c .before .before .model2 .ensures .0) (c .loop-test .taken), omega arith))
 
 mul-marked : tie.Need-mul-marked Inv-loop μ-loop
 mul-marked c =
     let a = c .before .before .before .before .before .before .before .before .before .before .before .args in
     let p = c .before .before .before .before .before .before .before .before .before .before .before .pre in
-    omega (arith, unknown-is (a .f .now) (a .s) (p .0) (c .before .before .before .before .model .result + c .before .before .loop .i) (unknowns-below (a .f .now) (a .s) (p .0) (a .m) (p .2) (c .before .before .before .before .model .result) (c .before .before .before .model2 .result) (c .before .before .loop .i) (c .before .before .before .before .model .ensures .0) (c .before .before .before .model2 .ensures .0) (c .before .loop-test .taken)) .name-below, c .unknown .ensures .0, p .0 .laid .within .names)
+    let model = c .before .before .before .before .model in
+    let model2 = c .before .before .before .model2 in
+    omega (arith, unknown-is (a .f .now) (a .s) (p .0) (model .result + c .before .before .loop .i) (unknowns-below (a .f .now) (a .s) (p .0) (a .m) (p .2) (model .result) (model2 .result) (c .before .before .loop .i) (model .ensures .0) (model2 .ensures .0) (c .before .loop-test .taken)) .name-below, c .unknown .ensures .0, p .0 .laid .within .names)
 
 slice-read-marked : tie.Need-slice-read-marked Inv-loop μ-loop
 slice-read-marked c =
     let a = c .before .before .before .before .before .before .before .before .before .before .before .before .args in
     let p = c .before .before .before .before .before .before .before .before .before .before .before .before .pre in
-    omega (arith, unknown-is (a .f .now) (a .s) (p .0) (c .before .before .before .before .before .model .result + c .before .before .before .loop .i) (unknowns-below (a .f .now) (a .s) (p .0) (a .m) (p .2) (c .before .before .before .before .before .model .result) (c .before .before .before .before .model2 .result) (c .before .before .before .loop .i) (c .before .before .before .before .before .model .ensures .0) (c .before .before .before .before .model2 .ensures .0) (c .before .before .loop-test .taken)) .name-below, c .before .unknown .ensures .0, p .0 .laid .within .names, c .before .before .before .loop .inv .1 .long)
+    let model = c .before .before .before .before .before .model in
+    let model2 = c .before .before .before .before .model2 in
+    let loop = c .before .before .before .loop in
+    omega (arith, unknown-is (a .f .now) (a .s) (p .0) (model .result + loop .i) (unknowns-below (a .f .now) (a .s) (p .0) (a .m) (p .2) (model .result) (model2 .result) (loop .i) (model .ensures .0) (model2 .ensures .0) (c .before .before .loop-test .taken)) .name-below, c .before .unknown .ensures .0, p .0 .laid .within .names, loop .inv .1 .long)
 
 element-copy-out-is-reserved : tie.Need-element-copy-out-is-reserved Inv-loop μ-loop
 element-copy-out-is-reserved c =
     let a = c .before .before .before .before .before .before .before .before .before .before .before .before .args in
     let p = c .before .before .before .before .before .before .before .before .before .before .before .before .pre in
-    omega (arith, unknown-is (a .f .now) (a .s) (p .0) (c .before .before .before .before .before .model .result + c .before .before .before .loop .i) (unknowns-below (a .f .now) (a .s) (p .0) (a .m) (p .2) (c .before .before .before .before .before .model .result) (c .before .before .before .before .model2 .result) (c .before .before .before .loop .i) (c .before .before .before .before .before .model .ensures .0) (c .before .before .before .before .model2 .ensures .0) (c .before .before .loop-test .taken)) .name-below, c .before .unknown .ensures .0, p .0 .laid .within .names)
+    let model = c .before .before .before .before .before .model in
+    let model2 = c .before .before .before .before .model2 in
+    let loop = c .before .before .before .loop in
+    omega (arith, unknown-is (a .f .now) (a .s) (p .0) (model .result + loop .i) (unknowns-below (a .f .now) (a .s) (p .0) (a .m) (p .2) (model .result) (model2 .result) (loop .i) (model .ensures .0) (model2 .ensures .0) (c .before .before .loop-test .taken)) .name-below, c .before .unknown .ensures .0, p .0 .laid .within .names)
 
 is-reserved-requires : tie.Need-is-reserved-requires Inv-loop μ-loop
 is-reserved-requires c κs = tt
@@ -83,19 +93,27 @@ mul-out : tie.Need-mul-out Inv-loop μ-loop
 mul-out c =
     let a = c .before .before .before .before .before .before .before .before .before .before .before .before .before .before .before .args in
     let p = c .before .before .before .before .before .before .before .before .before .before .before .before .before .before .before .pre in
-    omega (arith, unknown-is (a .f .now) (a .s) (p .0) (c .before .before .before .before .before .before .before .before .model .result + c .before .before .before .before .before .before .loop .i) (unknowns-below (a .f .now) (a .s) (p .0) (a .m) (p .2) (c .before .before .before .before .before .before .before .before .model .result) (c .before .before .before .before .before .before .before .model2 .result) (c .before .before .before .before .before .before .loop .i) (c .before .before .before .before .before .before .before .before .model .ensures .0) (c .before .before .before .before .before .before .before .model2 .ensures .0) (c .before .before .before .before .before .loop-test .taken)) .name-below, c .before .before .before .before .unknown .ensures .0, p .0 .laid .within .names)
+    let model = c .before .before .before .before .before .before .before .before .model in
+    let model2 = c .before .before .before .before .before .before .before .model2 in
+    let loop = c .before .before .before .before .before .before .loop in
+    omega (arith, unknown-is (a .f .now) (a .s) (p .0) (model .result + loop .i) (unknowns-below (a .f .now) (a .s) (p .0) (a .m) (p .2) (model .result) (model2 .result) (loop .i) (model .ensures .0) (model2 .ensures .0) (c .before .before .before .before .before .loop-test .taken)) .name-below, c .before .before .before .before .unknown .ensures .0, p .0 .laid .within .names)
 
 slice-write-out : tie.Need-slice-write-out Inv-loop μ-loop
 slice-write-out c =
     let a = c .before .before .before .before .before .before .before .before .before .before .before .before .before .before .before .args in
     let p = c .before .before .before .before .before .before .before .before .before .before .before .before .before .before .before .pre in
-    omega (arith, unknown-is (a .f .now) (a .s) (p .0) (c .before .before .before .before .before .before .before .before .model .result + c .before .before .before .before .before .before .loop .i) (unknowns-below (a .f .now) (a .s) (p .0) (a .m) (p .2) (c .before .before .before .before .before .before .before .before .model .result) (c .before .before .before .before .before .before .before .model2 .result) (c .before .before .before .before .before .before .loop .i) (c .before .before .before .before .before .before .before .before .model .ensures .0) (c .before .before .before .before .before .before .before .model2 .ensures .0) (c .before .before .before .before .before .loop-test .taken)) .name-below, c .before .before .before .before .unknown .ensures .0, p .0 .laid .within .names, c .before .before .before .before .before .before .loop .inv .1 .long)
+    let model = c .before .before .before .before .before .before .before .before .model in
+    let model2 = c .before .before .before .before .before .before .before .model2 in
+    let loop = c .before .before .before .before .before .before .loop in
+    omega (arith, unknown-is (a .f .now) (a .s) (p .0) (model .result + loop .i) (unknowns-below (a .f .now) (a .s) (p .0) (a .m) (p .2) (model .result) (model2 .result) (loop .i) (model .ensures .0) (model2 .ensures .0) (c .before .before .before .before .before .loop-test .taken)) .name-below, c .before .before .before .before .unknown .ensures .0, p .0 .laid .within .names, loop .inv .1 .long)
 
 add-i : tie.Need-add-i Inv-loop μ-loop
 add-i c =
     let a = c .before .before .before .before .before .before .before .before .before .before .before .before .before .before .before .args in
     let p = c .before .before .before .before .before .before .before .before .before .before .before .before .before .before .before .pre in
-    omega (arith, unknowns-below (a .f .now) (a .s) (p .0) (a .m) (p .2) (c .before .before .before .before .before .before .before .before .model .result) (c .before .before .before .before .before .before .before .model2 .result) (c .before .before .before .before .before .before .loop .i) (c .before .before .before .before .before .before .before .before .model .ensures .0) (c .before .before .before .before .before .before .before .model2 .ensures .0) (c .before .before .before .before .before .loop-test .taken), p .0 .laid .within .unknowns)
+    let model = c .before .before .before .before .before .before .before .before .model in
+    let model2 = c .before .before .before .before .before .before .before .model2 in
+    omega (arith, unknowns-below (a .f .now) (a .s) (p .0) (a .m) (p .2) (model .result) (model2 .result) (c .before .before .before .before .before .before .loop .i) (model .ensures .0) (model2 .ensures .0) (c .before .before .before .before .before .loop-test .taken), p .0 .laid .within .unknowns)
 
 loop-less : tie.Need-loop-less Inv-loop μ-loop
 loop-less c = omega (arith, c .before .before .before .before .before .loop-test .taken)
@@ -104,7 +122,12 @@ loop-again : tie.Need-loop-again Inv-loop μ-loop
 loop-again c =
     let a = c .before .before .before .before .before .before .before .before .before .before .before .before .before .before .before .args in
     let p = c .before .before .before .before .before .before .before .before .before .before .before .before .before .before .before .pre in
-    (omega (arith, c .before .before .before .before .before .loop-test .taken), marks-next (fileIn (a .f .now) (a .s) .names) (a .classes .now) (p .1) (modelAt (fileIn (a .f .now) (a .s)) (a .m) .unknowns) (timeName (fileIn (a .f .now) (a .s) .names) ∷ []) (unknownIn (a .f .now) (a .s) (c .before .before .before .before .before .before .before .before .model .result + c .before .before .before .before .before .before .loop .i)) (c .before .before .before .before .before .before .loop .i) (unknown-there (a .f .now) (a .s) (p .0) (a .m) (p .2) (c .before .before .before .before .before .before .before .before .model .result) (c .before .before .before .before .before .before .before .model2 .result) (c .before .before .before .before .before .before .loop .i) (c .before .before .before .before .before .before .before .before .model .ensures .0) (c .before .before .before .before .before .before .before .model2 .ensures .0) (c .before .before .before .before .before .loop-test .taken)) (unknown-here (a .f .now) (a .s) (p .0) (a .m) (p .2) (c .before .before .before .before .before .before .before .before .model .result) (c .before .before .before .before .before .before .before .model2 .result) (c .before .before .before .before .before .before .loop .i) (c .before .before .before .before .before .before .before .before .model .ensures .0) (c .before .before .before .before .before .before .before .model2 .ensures .0) (c .before .before .before .before .before .loop-test .taken)) _ (c .before .before .before .before .unknown .result) (c .marked .result) (c .before .is-reserved .result) (c .before .before .before .before .before .before .loop .out) (names-long (a .f .now) (a .s)) (p .0 .laid .within .names) (c .before .before .before .before .unknown .ensures .0 ∙ sym (name-of (a .f .now) (a .s) (c .before .before .before .before .before .before .before .before .model .result + c .before .before .before .before .before .before .loop .i))) (omega (arith, unknown-is (a .f .now) (a .s) (p .0) (c .before .before .before .before .before .before .before .before .model .result + c .before .before .before .before .before .before .loop .i) (unknowns-below (a .f .now) (a .s) (p .0) (a .m) (p .2) (c .before .before .before .before .before .before .before .before .model .result) (c .before .before .before .before .before .before .before .model2 .result) (c .before .before .before .before .before .before .loop .i) (c .before .before .before .before .before .before .before .before .model .ensures .0) (c .before .before .before .before .before .before .before .model2 .ensures .0) (c .before .before .before .before .before .loop-test .taken)) .name-below, c .before .before .before .before .unknown .ensures .0)) (c .before .is-reserved .ensures) (c .marked .ensures) (c .before .before .before .before .before .before .loop .inv .1))
+    let model = c .before .before .before .before .before .before .before .before .model in
+    let model2 = c .before .before .before .before .before .before .before .model2 in
+    let loop = c .before .before .before .before .before .before .loop in
+    let loop-test = c .before .before .before .before .before .loop-test in
+    let unknown = c .before .before .before .before .unknown in
+    (omega (arith, loop-test .taken), marks-next (fileIn (a .f .now) (a .s) .names) (a .classes .now) (p .1) (modelAt (fileIn (a .f .now) (a .s)) (a .m) .unknowns) (timeName (fileIn (a .f .now) (a .s) .names) ∷ []) (unknownIn (a .f .now) (a .s) (model .result + loop .i)) (loop .i) (unknown-there (a .f .now) (a .s) (p .0) (a .m) (p .2) (model .result) (model2 .result) (loop .i) (model .ensures .0) (model2 .ensures .0) (loop-test .taken)) (unknown-here (a .f .now) (a .s) (p .0) (a .m) (p .2) (model .result) (model2 .result) (loop .i) (model .ensures .0) (model2 .ensures .0) (loop-test .taken)) _ (unknown .result) (c .marked .result) (c .before .is-reserved .result) (loop .out) (names-long (a .f .now) (a .s)) (p .0 .laid .within .names) (unknown .ensures .0 ∙ sym (name-of (a .f .now) (a .s) (model .result + loop .i))) (omega (arith, unknown-is (a .f .now) (a .s) (p .0) (model .result + loop .i) (unknowns-below (a .f .now) (a .s) (p .0) (a .m) (p .2) (model .result) (model2 .result) (loop .i) (model .ensures .0) (model2 .ensures .0) (loop-test .taken)) .name-below, unknown .ensures .0)) (c .before .is-reserved .ensures) (c .marked .ensures) (loop .inv .1))
 
 same-length : tie.Need-same-length Inv-loop μ-loop
 same-length c = omega (arith, c .before .loop .inv .1 .long, c .before .before .before .before .before .before .before .before .before .before .pre .3 .0)
@@ -113,7 +136,8 @@ returns : tie.Need-returns Inv-loop μ-loop
 returns c =
     let a = c .before .before .before .before .before .before .before .before .before .before .args in
     let p = c .before .before .before .before .before .before .before .before .before .before .pre in
-    marks-all (fileIn (a .f .now) (a .s) .names) (modelAt (fileIn (a .f .now) (a .s)) (a .m) .unknowns) _ (c .before .loop .i) _ (unknowns-past (a .f .now) (a .s) (p .0) (a .m) (p .2) (c .before .before .before .model .result) (c .before .before .model2 .result) (c .before .loop .i) (c .before .before .before .model .ensures .0) (c .before .before .model2 .ensures .0) (c .loop-test .left)) (c .before .loop .inv .1)
+    let model = c .before .before .before .model in
+    marks-all (fileIn (a .f .now) (a .s) .names) (modelAt (fileIn (a .f .now) (a .s)) (a .m) .unknowns) _ (c .before .loop .i) _ (unknowns-past (a .f .now) (a .s) (p .0) (a .m) (p .2) (model .result) (c .before .before .model2 .result) (c .before .loop .i) (model .ensures .0) (c .before .before .model2 .ensures .0) (c .loop-test .left)) (c .before .loop .inv .1)
 
 pub declared-spec : {M : Type 1} → statement M
 declared-spec =

@@ -85,12 +85,16 @@ returns-2 : tie.Need-returns-2 Inv-loop μ-loop
 returns-2 c =
     let a = c .before .before .before .before .before .before .before .before .before .before .args in
     let p = c .before .before .before .before .before .before .before .before .before .before .pre in
+    let model = c .before .before .before .before .before .before .model in
+    let model2 = c .before .before .before .before .before .model2 in
+    let loop = c .before .before .before .before .loop in
+    let loop-test = c .before .before .before .loop-test in
     let g = p .0 in
     let o = g .opened in
     let n = model-is _ _ o _ (g .model) .unknowns-long in
-    let b : c .before .before .before .before .loop .i < length (modelAt (fileIn (a .f .now) (a .s)) (a .m) .unknowns) = omega (arith, n, c .before .before .before .before .before .model2 .ensures .0, c .before .before .before .loop-test .taken) in
-    let e = lists-at o _ (g .model) (c .before .before .before .before .loop .i) (c .before .before .before .before .before .before .model .result) (a .variable) (a .name) (c .before .before .unknown .result) (c .before .names-dep .result) noUnknown (c .before .before .before .before .before .before .model .ensures .0) (omega (arith, c .before .before .before .before .before .model2 .ensures .0, c .before .before .before .loop-test .taken)) (c .before .before .unknown .ensures .0) (c .before .names-dep .ensures) in
-    sym (kept-listed g _ _ (p .1) (p .2) (c .before .before .before .before .before .before .before .if1 .left) ∙ c .before .before .before .before .loop .inv .1 ∙ any-here (listsAs (a .variable) (a .name)) _ noUnknown (c .before .before .before .before .loop .i) b (e ∙ c .if2 .taken))
+    let b : loop .i < length (modelAt (fileIn (a .f .now) (a .s)) (a .m) .unknowns) = omega (arith, n, model2 .ensures .0, loop-test .taken) in
+    let e = lists-at o _ (g .model) (loop .i) (model .result) (a .variable) (a .name) (c .before .before .unknown .result) (c .before .names-dep .result) noUnknown (model .ensures .0) (omega (arith, model2 .ensures .0, loop-test .taken)) (c .before .before .unknown .ensures .0) (c .before .names-dep .ensures) in
+    sym (kept-listed g _ _ (p .1) (p .2) (c .before .before .before .before .before .before .before .if1 .left) ∙ loop .inv .1 ∙ any-here (listsAs (a .variable) (a .name)) _ noUnknown (loop .i) b (e ∙ c .if2 .taken))
 
 add-i : tie.Need-add-i Inv-loop μ-loop
 add-i c = omega arith
@@ -101,12 +105,16 @@ loop-less c = omega arith
 loop-again : tie.Need-loop-again Inv-loop μ-loop
 loop-again c =
     let a = c .before .before .before .before .before .before .before .before .before .before .args in
+    let model = c .before .before .before .before .before .before .model in
+    let model2 = c .before .before .before .before .before .model2 in
+    let loop = c .before .before .before .before .loop in
+    let loop-test = c .before .before .before .loop-test in
     let g = c .before .before .before .before .before .before .before .before .before .before .pre .0 in
     let o = g .opened in
     let n = model-is _ _ o _ (g .model) .unknowns-long in
-    let b : c .before .before .before .before .loop .i < length (modelAt (fileIn (a .f .now) (a .s)) (a .m) .unknowns) = omega (arith, n, c .before .before .before .before .before .model2 .ensures .0, c .before .before .before .loop-test .taken) in
-    let e = lists-at o _ (g .model) (c .before .before .before .before .loop .i) (c .before .before .before .before .before .before .model .result) (a .variable) (a .name) (c .before .before .unknown .result) (c .before .names-dep .result) noUnknown (c .before .before .before .before .before .before .model .ensures .0) (omega (arith, c .before .before .before .before .before .model2 .ensures .0, c .before .before .before .loop-test .taken)) (c .before .before .unknown .ensures .0) (c .before .names-dep .ensures) in
-    (omega arith, c .before .before .before .before .loop .inv .1 ∙ any-next (listsAs (a .variable) (a .name)) _ noUnknown (c .before .before .before .before .loop .i) b (e ∙ c .if2 .left))
+    let b : loop .i < length (modelAt (fileIn (a .f .now) (a .s)) (a .m) .unknowns) = omega (arith, n, model2 .ensures .0, loop-test .taken) in
+    let e = lists-at o _ (g .model) (loop .i) (model .result) (a .variable) (a .name) (c .before .before .unknown .result) (c .before .names-dep .result) noUnknown (model .ensures .0) (omega (arith, model2 .ensures .0, loop-test .taken)) (c .before .before .unknown .ensures .0) (c .before .names-dep .ensures) in
+    (omega arith, loop .inv .1 ∙ any-next (listsAs (a .variable) (a .name)) _ noUnknown (loop .i) b (e ∙ c .if2 .left))
 
 returns-3 : tie.Need-returns-3 Inv-loop μ-loop
 returns-3 c =

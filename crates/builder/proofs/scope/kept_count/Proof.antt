@@ -47,14 +47,16 @@ mul-one-kept : tie.Need-mul-one-kept Inv-loop μ-loop
 mul-one-kept c =
     let a = c .before .before .before .before .before .before .before .args in
     let p = c .before .before .before .before .before .before .before .pre in
-    let b = dep-below (a .f .now) (a .s) (p .0) (c .before .before .before .before .unknown .result + c .before .before .loop .i) (omega (arith, unknown-is (a .f .now) (a .s) (p .0) (a .u) (p .1) .deps-within, c .before .before .before .before .unknown .ensures .0, c .before .before .before .unknown2 .ensures .0, p .0 .laid .within .deps, c .before .loop-test .taken)) in
+    let unknown = c .before .before .before .before .unknown in
+    let b = dep-below (a .f .now) (a .s) (p .0) (unknown .result + c .before .before .loop .i) (omega (arith, unknown-is (a .f .now) (a .s) (p .0) (a .u) (p .1) .deps-within, unknown .ensures .0, c .before .before .before .unknown2 .ensures .0, p .0 .laid .within .deps, c .before .loop-test .taken)) in
     omega (arith, c .dep .ensures, b, p .0 .laid .within .names)
 
 shared-slice-read-one-kept : tie.Need-shared-slice-read-one-kept Inv-loop μ-loop
 shared-slice-read-one-kept c =
     let a = c .before .before .before .before .before .before .before .before .args in
     let p = c .before .before .before .before .before .before .before .before .pre in
-    let b = dep-below (a .f .now) (a .s) (p .0) (c .before .before .before .before .before .unknown .result + c .before .before .before .loop .i) (omega (arith, unknown-is (a .f .now) (a .s) (p .0) (a .u) (p .1) .deps-within, c .before .before .before .before .before .unknown .ensures .0, c .before .before .before .before .unknown2 .ensures .0, p .0 .laid .within .deps, c .before .before .loop-test .taken)) in
+    let unknown = c .before .before .before .before .before .unknown in
+    let b = dep-below (a .f .now) (a .s) (p .0) (unknown .result + c .before .before .before .loop .i) (omega (arith, unknown-is (a .f .now) (a .s) (p .0) (a .u) (p .1) .deps-within, unknown .ensures .0, c .before .before .before .before .unknown2 .ensures .0, p .0 .laid .within .deps, c .before .before .loop-test .taken)) in
     omega (arith, p .2, c .before .dep .ensures, b, p .0 .laid .within .names)
 
 one-kept-requires : tie.Need-one-kept-requires Inv-loop μ-loop
@@ -79,7 +81,11 @@ loop-again : tie.Need-loop-again Inv-loop μ-loop
 loop-again c =
     let a = c .before .before .before .before .before .before .before .before .before .args in
     let p = c .before .before .before .before .before .before .before .before .before .pre in
-    (omega (arith, c .before .before .before .loop-test .taken), kept-next _ (unknownIn (a .f .now) (a .s) (a .u) .deps) (c .before .before .before .before .loop .i) (c .before .before .dep .result) _ _ (omega (arith, unknown-is (a .f .now) (a .s) (p .0) (a .u) (p .1) .deps-long, c .before .before .before .before .before .unknown2 .ensures .0, c .before .before .before .loop-test .taken)) (c .before .before .dep .ensures ∙ sym (unknown-is (a .f .now) (a .s) (p .0) (a .u) (p .1) .dep (c .before .before .before .before .loop .i) (omega (arith, c .before .before .before .before .before .unknown2 .ensures .0, c .before .before .before .loop-test .taken)) ∙ ap (λ (k : ℕ). getD (contentsIn (a .f .now) (a .s) .deps) (k + c .before .before .before .before .loop .i) 0) (sym (c .before .before .before .before .before .before .unknown .ensures .0)))) (c .one-kept .ensures) (c .before .before .before .before .loop .inv .1), omega (arith, c .before .before .before .before .loop .inv .2, c .one-kept .ensures, flag-small (not (eqb (getD (a .vars .now) (c .before .before .dep .result) 0) 0))))
+    let unknown2 = c .before .before .before .before .before .unknown2 in
+    let loop = c .before .before .before .before .loop in
+    let loop-test = c .before .before .before .loop-test in
+    let dep = c .before .before .dep in
+    (omega (arith, loop-test .taken), kept-next _ (unknownIn (a .f .now) (a .s) (a .u) .deps) (loop .i) (dep .result) _ _ (omega (arith, unknown-is (a .f .now) (a .s) (p .0) (a .u) (p .1) .deps-long, unknown2 .ensures .0, loop-test .taken)) (dep .ensures ∙ sym (unknown-is (a .f .now) (a .s) (p .0) (a .u) (p .1) .dep (loop .i) (omega (arith, unknown2 .ensures .0, loop-test .taken)) ∙ ap (λ (k : ℕ). getD (contentsIn (a .f .now) (a .s) .deps) (k + loop .i) 0) (sym (c .before .before .before .before .before .before .unknown .ensures .0)))) (c .one-kept .ensures) (loop .inv .1), omega (arith, loop .inv .2, c .one-kept .ensures, flag-small (not (eqb (getD (a .vars .now) (dep .result) 0) 0))))
 
 returns : tie.Need-returns Inv-loop μ-loop
 returns c =

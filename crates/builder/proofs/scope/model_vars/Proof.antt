@@ -44,62 +44,88 @@ add-unknown : tie.Need-add-unknown Inv-loop μ-loop
 add-unknown c =
     let a = c .before .before .before .before .before .before .before .before .before .before .args in
     let p = c .before .before .before .before .before .before .before .before .before .before .pre in
-    omega (arith, unknowns-below (a .f .now) (a .s) (p .0) (a .m) (p .1) (c .before .before .before .model .result) (c .before .before .model2 .result) (c .before .loop .i) (c .before .before .before .model .ensures .0) (c .before .before .model2 .ensures .0) (c .loop-test .taken), p .0 .laid .within .unknowns)
+    let model = c .before .before .before .model in
+    omega (arith, unknowns-below (a .f .now) (a .s) (p .0) (a .m) (p .1) (model .result) (c .before .before .model2 .result) (c .before .loop .i) (model .ensures .0) (c .before .before .model2 .ensures .0) (c .loop-test .taken), p .0 .laid .within .unknowns)
 
 unknown-requires : tie.Need-unknown-requires Inv-loop μ-loop
 unknown-requires c κs =
     let a = c .before .before .before .before .before .before .before .before .before .before .args in
     let p = c .before .before .before .before .before .before .before .before .before .before .pre in
-    (p .0, (unknowns-below (a .f .now) (a .s) (p .0) (a .m) (p .1) (c .before .before .before .model .result) (c .before .before .model2 .result) (c .before .loop .i) (c .before .before .before .model .ensures .0) (c .before .before .model2 .ensures .0) (c .loop-test .taken), omega arith))
+    let model = c .before .before .before .model in
+    (p .0, (unknowns-below (a .f .now) (a .s) (p .0) (a .m) (p .1) (model .result) (c .before .before .model2 .result) (c .before .loop .i) (model .ensures .0) (c .before .before .model2 .ensures .0) (c .loop-test .taken), omega arith))
 
 add-kept-count : tie.Need-add-kept-count Inv-loop μ-loop
 add-kept-count c =
     let a = c .before .before .before .before .before .before .before .before .before .before .before .before .args in
     let p = c .before .before .before .before .before .before .before .before .before .before .before .before .pre in
-    omega (arith, unknowns-below (a .f .now) (a .s) (p .0) (a .m) (p .1) (c .before .before .before .before .before .model .result) (c .before .before .before .before .model2 .result) (c .before .before .before .loop .i) (c .before .before .before .before .before .model .ensures .0) (c .before .before .before .before .model2 .ensures .0) (c .before .before .loop-test .taken), p .0 .laid .within .unknowns)
+    let model = c .before .before .before .before .before .model in
+    let model2 = c .before .before .before .before .model2 in
+    omega (arith, unknowns-below (a .f .now) (a .s) (p .0) (a .m) (p .1) (model .result) (model2 .result) (c .before .before .before .loop .i) (model .ensures .0) (model2 .ensures .0) (c .before .before .loop-test .taken), p .0 .laid .within .unknowns)
 
 kept-count-requires : tie.Need-kept-count-requires Inv-loop μ-loop
 kept-count-requires c κs =
     let a = c .before .before .before .before .before .before .before .before .before .before .before .before .args in
     let p = c .before .before .before .before .before .before .before .before .before .before .before .before .pre in
-    (p .0, unknowns-below (a .f .now) (a .s) (p .0) (a .m) (p .1) (c .before .before .before .before .before .model .result) (c .before .before .before .before .model2 .result) (c .before .before .before .loop .i) (c .before .before .before .before .before .model .ensures .0) (c .before .before .before .before .model2 .ensures .0) (c .before .before .loop-test .taken), c .before .before .before .loop .inv .1 .long)
+    let model = c .before .before .before .before .before .model in
+    let model2 = c .before .before .before .before .model2 in
+    let loop = c .before .before .before .loop in
+    (p .0, unknowns-below (a .f .now) (a .s) (p .0) (a .m) (p .1) (model .result) (model2 .result) (loop .i) (model .ensures .0) (model2 .ensures .0) (c .before .before .loop-test .taken), loop .inv .1 .long)
 
 mul-raised : tie.Need-mul-raised Inv-loop μ-loop
 mul-raised c =
     let a = c .before .before .before .before .before .before .before .before .before .before .before .before .before .args in
     let p = c .before .before .before .before .before .before .before .before .before .before .before .before .before .pre in
-    omega (arith, unknown-is (a .f .now) (a .s) (p .0) (c .before .before .before .before .before .before .model .result + c .before .before .before .before .loop .i) (unknowns-below (a .f .now) (a .s) (p .0) (a .m) (p .1) (c .before .before .before .before .before .before .model .result) (c .before .before .before .before .before .model2 .result) (c .before .before .before .before .loop .i) (c .before .before .before .before .before .before .model .ensures .0) (c .before .before .before .before .before .model2 .ensures .0) (c .before .before .before .loop-test .taken)) .name-below, c .before .before .unknown .ensures .0, p .0 .laid .within .names)
+    let model = c .before .before .before .before .before .before .model in
+    let model2 = c .before .before .before .before .before .model2 in
+    let loop = c .before .before .before .before .loop in
+    omega (arith, unknown-is (a .f .now) (a .s) (p .0) (model .result + loop .i) (unknowns-below (a .f .now) (a .s) (p .0) (a .m) (p .1) (model .result) (model2 .result) (loop .i) (model .ensures .0) (model2 .ensures .0) (c .before .before .before .loop-test .taken)) .name-below, c .before .before .unknown .ensures .0, p .0 .laid .within .names)
 
 slice-read-raised : tie.Need-slice-read-raised Inv-loop μ-loop
 slice-read-raised c =
     let a = c .before .before .before .before .before .before .before .before .before .before .before .before .before .before .args in
     let p = c .before .before .before .before .before .before .before .before .before .before .before .before .before .before .pre in
-    omega (arith, c .before .before .before .before .before .loop .inv .1 .long, unknown-is (a .f .now) (a .s) (p .0) (c .before .before .before .before .before .before .before .model .result + c .before .before .before .before .before .loop .i) (unknowns-below (a .f .now) (a .s) (p .0) (a .m) (p .1) (c .before .before .before .before .before .before .before .model .result) (c .before .before .before .before .before .before .model2 .result) (c .before .before .before .before .before .loop .i) (c .before .before .before .before .before .before .before .model .ensures .0) (c .before .before .before .before .before .before .model2 .ensures .0) (c .before .before .before .before .loop-test .taken)) .name-below, c .before .before .before .unknown .ensures .0, p .0 .laid .within .names)
+    let model = c .before .before .before .before .before .before .before .model in
+    let model2 = c .before .before .before .before .before .before .model2 in
+    let loop = c .before .before .before .before .before .loop in
+    omega (arith, loop .inv .1 .long, unknown-is (a .f .now) (a .s) (p .0) (model .result + loop .i) (unknowns-below (a .f .now) (a .s) (p .0) (a .m) (p .1) (model .result) (model2 .result) (loop .i) (model .ensures .0) (model2 .ensures .0) (c .before .before .before .before .loop-test .taken)) .name-below, c .before .before .before .unknown .ensures .0, p .0 .laid .within .names)
 
 raised-requires : tie.Need-raised-requires Inv-loop μ-loop
 raised-requires c κs =
     let a = c .before .before .before .before .before .before .before .before .before .before .before .before .before .before .args in
     let p = c .before .before .before .before .before .before .before .before .before .before .before .before .before .before .pre in
-    let b : c .before .before .before .unknown .result < a .s .counts .names = omega (arith, unknown-is (a .f .now) (a .s) (p .0) (c .before .before .before .before .before .before .before .model .result + c .before .before .before .before .before .loop .i) (unknowns-below (a .f .now) (a .s) (p .0) (a .m) (p .1) (c .before .before .before .before .before .before .before .model .result) (c .before .before .before .before .before .before .model2 .result) (c .before .before .before .before .before .loop .i) (c .before .before .before .before .before .before .before .model .ensures .0) (c .before .before .before .before .before .before .model2 .ensures .0) (c .before .before .before .before .loop-test .taken)) .name-below, c .before .before .before .unknown .ensures .0) in
-    omega (arith, c .before .before .before .before .before .loop .inv .1 .few (c .before .before .before .unknown .result) b, c .before .kept-count .ensures .1, unknowns-below (a .f .now) (a .s) (p .0) (a .m) (p .1) (c .before .before .before .before .before .before .before .model .result) (c .before .before .before .before .before .before .model2 .result) (c .before .before .before .before .before .loop .i) (c .before .before .before .before .before .before .before .model .ensures .0) (c .before .before .before .before .before .before .model2 .ensures .0) (c .before .before .before .before .loop-test .taken), p .0 .laid .within .unknowns)
+    let model = c .before .before .before .before .before .before .before .model in
+    let model2 = c .before .before .before .before .before .before .model2 in
+    let loop = c .before .before .before .before .before .loop in
+    let loop-test = c .before .before .before .before .loop-test in
+    let unknown = c .before .before .before .unknown in
+    let b : unknown .result < a .s .counts .names = omega (arith, unknown-is (a .f .now) (a .s) (p .0) (model .result + loop .i) (unknowns-below (a .f .now) (a .s) (p .0) (a .m) (p .1) (model .result) (model2 .result) (loop .i) (model .ensures .0) (model2 .ensures .0) (loop-test .taken)) .name-below, unknown .ensures .0) in
+    omega (arith, loop .inv .1 .few (unknown .result) b, c .before .kept-count .ensures .1, unknowns-below (a .f .now) (a .s) (p .0) (a .m) (p .1) (model .result) (model2 .result) (loop .i) (model .ensures .0) (model2 .ensures .0) (loop-test .taken), p .0 .laid .within .unknowns)
 
 mul-out : tie.Need-mul-out Inv-loop μ-loop
 mul-out c =
     let a = c .before .before .before .before .before .before .before .before .before .before .before .before .before .before .before .args in
     let p = c .before .before .before .before .before .before .before .before .before .before .before .before .before .before .before .pre in
-    omega (arith, unknown-is (a .f .now) (a .s) (p .0) (c .before .before .before .before .before .before .before .before .model .result + c .before .before .before .before .before .before .loop .i) (unknowns-below (a .f .now) (a .s) (p .0) (a .m) (p .1) (c .before .before .before .before .before .before .before .before .model .result) (c .before .before .before .before .before .before .before .model2 .result) (c .before .before .before .before .before .before .loop .i) (c .before .before .before .before .before .before .before .before .model .ensures .0) (c .before .before .before .before .before .before .before .model2 .ensures .0) (c .before .before .before .before .before .loop-test .taken)) .name-below, c .before .before .before .before .unknown .ensures .0, p .0 .laid .within .names)
+    let model = c .before .before .before .before .before .before .before .before .model in
+    let model2 = c .before .before .before .before .before .before .before .model2 in
+    let loop = c .before .before .before .before .before .before .loop in
+    omega (arith, unknown-is (a .f .now) (a .s) (p .0) (model .result + loop .i) (unknowns-below (a .f .now) (a .s) (p .0) (a .m) (p .1) (model .result) (model2 .result) (loop .i) (model .ensures .0) (model2 .ensures .0) (c .before .before .before .before .before .loop-test .taken)) .name-below, c .before .before .before .before .unknown .ensures .0, p .0 .laid .within .names)
 
 slice-write-out : tie.Need-slice-write-out Inv-loop μ-loop
 slice-write-out c =
     let a = c .before .before .before .before .before .before .before .before .before .before .before .before .before .before .before .args in
     let p = c .before .before .before .before .before .before .before .before .before .before .before .before .before .before .before .pre in
-    omega (arith, c .before .before .before .before .before .before .loop .inv .1 .long, unknown-is (a .f .now) (a .s) (p .0) (c .before .before .before .before .before .before .before .before .model .result + c .before .before .before .before .before .before .loop .i) (unknowns-below (a .f .now) (a .s) (p .0) (a .m) (p .1) (c .before .before .before .before .before .before .before .before .model .result) (c .before .before .before .before .before .before .before .model2 .result) (c .before .before .before .before .before .before .loop .i) (c .before .before .before .before .before .before .before .before .model .ensures .0) (c .before .before .before .before .before .before .before .model2 .ensures .0) (c .before .before .before .before .before .loop-test .taken)) .name-below, c .before .before .before .before .unknown .ensures .0, p .0 .laid .within .names)
+    let model = c .before .before .before .before .before .before .before .before .model in
+    let model2 = c .before .before .before .before .before .before .before .model2 in
+    let loop = c .before .before .before .before .before .before .loop in
+    omega (arith, loop .inv .1 .long, unknown-is (a .f .now) (a .s) (p .0) (model .result + loop .i) (unknowns-below (a .f .now) (a .s) (p .0) (a .m) (p .1) (model .result) (model2 .result) (loop .i) (model .ensures .0) (model2 .ensures .0) (c .before .before .before .before .before .loop-test .taken)) .name-below, c .before .before .before .before .unknown .ensures .0, p .0 .laid .within .names)
 
 add-i : tie.Need-add-i Inv-loop μ-loop
 add-i c =
     let a = c .before .before .before .before .before .before .before .before .before .before .before .before .before .before .before .args in
     let p = c .before .before .before .before .before .before .before .before .before .before .before .before .before .before .before .pre in
-    omega (arith, unknowns-below (a .f .now) (a .s) (p .0) (a .m) (p .1) (c .before .before .before .before .before .before .before .before .model .result) (c .before .before .before .before .before .before .before .model2 .result) (c .before .before .before .before .before .before .loop .i) (c .before .before .before .before .before .before .before .before .model .ensures .0) (c .before .before .before .before .before .before .before .model2 .ensures .0) (c .before .before .before .before .before .loop-test .taken), p .0 .laid .within .unknowns)
+    let model = c .before .before .before .before .before .before .before .before .model in
+    let model2 = c .before .before .before .before .before .before .before .model2 in
+    omega (arith, unknowns-below (a .f .now) (a .s) (p .0) (a .m) (p .1) (model .result) (model2 .result) (c .before .before .before .before .before .before .loop .i) (model .ensures .0) (model2 .ensures .0) (c .before .before .before .before .before .loop-test .taken), p .0 .laid .within .unknowns)
 
 loop-less : tie.Need-loop-less Inv-loop μ-loop
 loop-less c = omega (arith, c .before .before .before .before .before .loop-test .taken)
@@ -108,7 +134,13 @@ loop-again : tie.Need-loop-again Inv-loop μ-loop
 loop-again c =
     let a = c .before .before .before .before .before .before .before .before .before .before .before .before .before .before .before .args in
     let p = c .before .before .before .before .before .before .before .before .before .before .before .before .before .before .before .pre in
-    (omega (arith, c .before .before .before .before .before .loop-test .taken), counted-next _ (c .before .before .before .before .before .before .loop .i) _ (modelAt (fileIn (a .f .now) (a .s)) (a .m) .unknowns) _ (unknownIn (a .f .now) (a .s) (c .before .before .before .before .before .before .before .before .model .result + c .before .before .before .before .before .before .loop .i)) (unknown-there (a .f .now) (a .s) (p .0) (a .m) (p .1) (c .before .before .before .before .before .before .before .before .model .result) (c .before .before .before .before .before .before .before .model2 .result) (c .before .before .before .before .before .before .loop .i) (c .before .before .before .before .before .before .before .before .model .ensures .0) (c .before .before .before .before .before .before .before .model2 .ensures .0) (c .before .before .before .before .before .loop-test .taken)) (unknown-here (a .f .now) (a .s) (p .0) (a .m) (p .1) (c .before .before .before .before .before .before .before .before .model .result) (c .before .before .before .before .before .before .before .model2 .result) (c .before .before .before .before .before .before .loop .i) (c .before .before .before .before .before .before .before .before .model .ensures .0) (c .before .before .before .before .before .before .before .model2 .ensures .0) (c .before .before .before .before .before .loop-test .taken)) (counted-more (c .before .before .before .before .before .before .loop .inv .1) (unknownIn (a .f .now) (a .s) (c .before .before .before .before .before .before .before .before .model .result + c .before .before .before .before .before .before .loop .i)) (c .before .before .before .before .unknown .result) (c .raised .result) (c .before .before .kept-count .result) (c .before .before .before .before .unknown .ensures .0 ∙ sym (name-of (a .f .now) (a .s) (c .before .before .before .before .before .before .before .before .model .result + c .before .before .before .before .before .before .loop .i))) (omega (arith, unknown-is (a .f .now) (a .s) (p .0) (c .before .before .before .before .before .before .before .before .model .result + c .before .before .before .before .before .before .loop .i) (unknowns-below (a .f .now) (a .s) (p .0) (a .m) (p .1) (c .before .before .before .before .before .before .before .before .model .result) (c .before .before .before .before .before .before .before .model2 .result) (c .before .before .before .before .before .before .loop .i) (c .before .before .before .before .before .before .before .before .model .ensures .0) (c .before .before .before .before .before .before .before .model2 .ensures .0) (c .before .before .before .before .before .loop-test .taken)) .name-below, c .before .before .before .before .unknown .ensures .0)) (p .0 .laid .within .names) (c .before .before .kept-count .ensures .0) (c .before .before .kept-count .ensures .1) (listed-below (a .f .now) (a .s) (p .0) (c .before .before .before .before .before .before .before .before .model .result + c .before .before .before .before .before .before .loop .i) (unknowns-below (a .f .now) (a .s) (p .0) (a .m) (p .1) (c .before .before .before .before .before .before .before .before .model .result) (c .before .before .before .before .before .before .before .model2 .result) (c .before .before .before .before .before .before .loop .i) (c .before .before .before .before .before .before .before .before .model .ensures .0) (c .before .before .before .before .before .before .before .model2 .ensures .0) (c .before .before .before .before .before .loop-test .taken))) (c .raised .ensures)))
+    let model = c .before .before .before .before .before .before .before .before .model in
+    let model2 = c .before .before .before .before .before .before .before .model2 in
+    let loop = c .before .before .before .before .before .before .loop in
+    let loop-test = c .before .before .before .before .before .loop-test in
+    let unknown = c .before .before .before .before .unknown in
+    let kept-count = c .before .before .kept-count in
+    (omega (arith, loop-test .taken), counted-next _ (loop .i) _ (modelAt (fileIn (a .f .now) (a .s)) (a .m) .unknowns) _ (unknownIn (a .f .now) (a .s) (model .result + loop .i)) (unknown-there (a .f .now) (a .s) (p .0) (a .m) (p .1) (model .result) (model2 .result) (loop .i) (model .ensures .0) (model2 .ensures .0) (loop-test .taken)) (unknown-here (a .f .now) (a .s) (p .0) (a .m) (p .1) (model .result) (model2 .result) (loop .i) (model .ensures .0) (model2 .ensures .0) (loop-test .taken)) (counted-more (loop .inv .1) (unknownIn (a .f .now) (a .s) (model .result + loop .i)) (unknown .result) (c .raised .result) (kept-count .result) (unknown .ensures .0 ∙ sym (name-of (a .f .now) (a .s) (model .result + loop .i))) (omega (arith, unknown-is (a .f .now) (a .s) (p .0) (model .result + loop .i) (unknowns-below (a .f .now) (a .s) (p .0) (a .m) (p .1) (model .result) (model2 .result) (loop .i) (model .ensures .0) (model2 .ensures .0) (loop-test .taken)) .name-below, unknown .ensures .0)) (p .0 .laid .within .names) (kept-count .ensures .0) (kept-count .ensures .1) (listed-below (a .f .now) (a .s) (p .0) (model .result + loop .i) (unknowns-below (a .f .now) (a .s) (p .0) (a .m) (p .1) (model .result) (model2 .result) (loop .i) (model .ensures .0) (model2 .ensures .0) (loop-test .taken))) (c .raised .ensures)))
 
 same-length : tie.Need-same-length Inv-loop μ-loop
 same-length c = omega (arith, c .before .loop .inv .1 .long, c .before .before .before .before .before .before .before .before .before .before .pre .3)
@@ -117,7 +149,8 @@ returns : tie.Need-returns Inv-loop μ-loop
 returns c =
     let a = c .before .before .before .before .before .before .before .before .before .before .args in
     let p = c .before .before .before .before .before .before .before .before .before .before .pre in
-    (counted-vars (a .f .now) (a .s) (a .m) _ (c .before .loop .i) _ _ (names-long (a .f .now) (a .s)) (unknowns-past (a .f .now) (a .s) (p .0) (a .m) (p .1) (c .before .before .before .model .result) (c .before .before .model2 .result) (c .before .loop .i) (c .before .before .before .model .ensures .0) (c .before .before .model2 .ensures .0) (c .loop-test .left)) (c .before .loop .inv .1), c .before .loop .inv .1 .long)
+    let model = c .before .before .before .model in
+    (counted-vars (a .f .now) (a .s) (a .m) _ (c .before .loop .i) _ _ (names-long (a .f .now) (a .s)) (unknowns-past (a .f .now) (a .s) (p .0) (a .m) (p .1) (model .result) (c .before .before .model2 .result) (c .before .loop .i) (model .ensures .0) (c .before .before .model2 .ensures .0) (c .loop-test .left)) (c .before .loop .inv .1), c .before .loop .inv .1 .long)
 
 pub model-vars-spec : {M : Type 1} → statement M
 model-vars-spec =

@@ -31,9 +31,10 @@ loop-holds c = (omega arith, refl)
 add-dep : tie.Need-add-dep Inv-loop μ-loop
 add-dep c =
     let p = c .before .before .before .before .before .pre in
+    let unknown = c .before .before .before .unknown in
     let o = p .0 in
     let r = unknown-is _ _ o _ (p .1) .deps-within in
-    omega (arith, c .before .before .before .unknown .ensures .0, c .before .before .unknown2 .ensures .0, c .loop-test .taken, c .before .before .before .unknown .ensures .1)
+    omega (arith, unknown .ensures .0, c .before .before .unknown2 .ensures .0, c .loop-test .taken, unknown .ensures .1)
 
 dep-requires : tie.Need-dep-requires Inv-loop μ-loop
 dep-requires c κs =
@@ -46,11 +47,14 @@ returns : tie.Need-returns Inv-loop μ-loop
 returns c =
     let a = c .before .before .before .before .before .before .before .args in
     let p = c .before .before .before .before .before .before .before .pre in
+    let unknown = c .before .before .before .before .before .unknown in
+    let unknown2 = c .before .before .before .before .unknown2 in
+    let loop = c .before .before .before .loop in
     let o = p .0 in
     let n = unknown-is _ _ o _ (p .1) .deps-long in
-    let b : c .before .before .before .loop .i < length (unknownIn (a .f .now) (a .s) (a .u) .deps) = omega (arith, n, c .before .before .before .before .unknown2 .ensures .0, c .before .before .loop-test .taken) in
-    let e = deps-at o (a .u) (c .before .before .before .loop .i) (c .before .before .before .before .before .unknown .result) (c .before .before .before .before .before .unknown .ensures .0) (omega (arith, c .before .before .before .before .unknown2 .ensures .0, c .before .before .loop-test .taken)) in
-    sym (c .before .before .before .loop .inv .1 ∙ any-here (eqb (a .name)) _ 0 (c .before .before .before .loop .i) b (eq-eqb _ _ (sym (e ∙ sym (c .before .dep .ensures) ∙ c .if1 .taken))))
+    let b : loop .i < length (unknownIn (a .f .now) (a .s) (a .u) .deps) = omega (arith, n, unknown2 .ensures .0, c .before .before .loop-test .taken) in
+    let e = deps-at o (a .u) (loop .i) (unknown .result) (unknown .ensures .0) (omega (arith, unknown2 .ensures .0, c .before .before .loop-test .taken)) in
+    sym (loop .inv .1 ∙ any-here (eqb (a .name)) _ 0 (loop .i) b (eq-eqb _ _ (sym (e ∙ sym (c .before .dep .ensures) ∙ c .if1 .taken))))
 
 add-i : tie.Need-add-i Inv-loop μ-loop
 add-i c = omega arith
@@ -62,11 +66,14 @@ loop-again : tie.Need-loop-again Inv-loop μ-loop
 loop-again c =
     let a = c .before .before .before .before .before .before .before .args in
     let p = c .before .before .before .before .before .before .before .pre in
+    let unknown = c .before .before .before .before .before .unknown in
+    let unknown2 = c .before .before .before .before .unknown2 in
+    let loop = c .before .before .before .loop in
     let o = p .0 in
     let n = unknown-is _ _ o _ (p .1) .deps-long in
-    let b : c .before .before .before .loop .i < length (unknownIn (a .f .now) (a .s) (a .u) .deps) = omega (arith, n, c .before .before .before .before .unknown2 .ensures .0, c .before .before .loop-test .taken) in
-    let e = deps-at o (a .u) (c .before .before .before .loop .i) (c .before .before .before .before .before .unknown .result) (c .before .before .before .before .before .unknown .ensures .0) (omega (arith, c .before .before .before .before .unknown2 .ensures .0, c .before .before .loop-test .taken)) in
-    (omega arith, c .before .before .before .loop .inv .1 ∙ any-next (eqb (a .name)) _ 0 (c .before .before .before .loop .i) b (ne-eqb _ _ (λ q. c .if1 .left (c .before .dep .ensures ∙ sym e ∙ sym q))))
+    let b : loop .i < length (unknownIn (a .f .now) (a .s) (a .u) .deps) = omega (arith, n, unknown2 .ensures .0, c .before .before .loop-test .taken) in
+    let e = deps-at o (a .u) (loop .i) (unknown .result) (unknown .ensures .0) (omega (arith, unknown2 .ensures .0, c .before .before .loop-test .taken)) in
+    (omega arith, loop .inv .1 ∙ any-next (eqb (a .name)) _ 0 (loop .i) b (ne-eqb _ _ (λ q. c .if1 .left (c .before .dep .ensures ∙ sym e ∙ sym q))))
 
 returns-2 : tie.Need-returns-2 Inv-loop μ-loop
 returns-2 c =

@@ -32,7 +32,8 @@ add-result c = omega (arith, c .before .before .before .before .before .before .
 returns : tie.Need-returns Inv-loop μ-loop
 returns c =
     let a = c .before .before .before .before .before .before .before .args in
-    sym (c .before .before .before .before .before .loop .inv .1 ∙ time-yes (fileIn (a .f .now) (a .s) .names) (a .classes .now) (c .before .before .before .before .before .before .before .pre .1) (c .before .before .before .before .before .loop .n) (omega (arith, names-long (a .f .now) (a .s))) (sym (c .before .is-time .ensures) ∙ c .if2 .taken))
+    let loop = c .before .before .before .before .before .loop in
+    sym (loop .inv .1 ∙ time-yes (fileIn (a .f .now) (a .s) .names) (a .classes .now) (c .before .before .before .before .before .before .before .pre .1) (loop .n) (omega (arith, names-long (a .f .now) (a .s))) (sym (c .before .is-time .ensures) ∙ c .if2 .taken))
 
 add-n : tie.Need-add-n Inv-loop μ-loop
 add-n c = omega (arith, c .before .before .before .before .before .before .before .pre .0 .laid .within .names)
@@ -43,7 +44,8 @@ loop-less c = omega arith
 loop-again : tie.Need-loop-again Inv-loop μ-loop
 loop-again c =
     let a = c .before .before .before .before .before .before .before .args in
-    (omega arith, c .before .before .before .before .before .loop .inv .1 ∙ ap plusOne (time-no (fileIn (a .f .now) (a .s) .names) (a .classes .now) (c .before .before .before .before .before .before .before .pre .1) (c .before .before .before .before .before .loop .n) (omega (arith, names-long (a .f .now) (a .s))) (sym (c .before .is-time .ensures) ∙ c .if2 .left)))
+    let loop = c .before .before .before .before .before .loop in
+    (omega arith, loop .inv .1 ∙ ap plusOne (time-no (fileIn (a .f .now) (a .s) .names) (a .classes .now) (c .before .before .before .before .before .before .before .pre .1) (loop .n) (omega (arith, names-long (a .f .now) (a .s))) (sym (c .before .is-time .ensures) ∙ c .if2 .left)))
 
 returns-2 : tie.Need-returns-2 Inv-loop μ-loop
 returns-2 c =

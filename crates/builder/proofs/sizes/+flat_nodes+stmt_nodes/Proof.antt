@@ -93,9 +93,10 @@ flat-nodes-stmt-nodes-requires : (t : ℕ) → flat-nodes-lts.Need-stmt-nodes-re
 flat-nodes-stmt-nodes-requires t c κs =
     let a = c .before .before .before .before .before .before .before .before .args in
     let pre = c .before .before .before .before .before .before .before .before .pre in
+    let if1 = c .before .before .before .before .before .if1 in
     let p = pre .1 in
     let v = c .before .before .loop .inv in
-    (omega (arith, pre .0, c .before .before .before .before .before .if1 .left), (p .0, p .1, omega (arith, model-is (a .f .now) (a .s) (pre .1 .0) (a .m) (pre .1 .2) .stmts-within, c .before .before .before .before .model .ensures .0, c .before .before .before .model2 .ensures .0), (omega (arith, p .3 .0, c .before .before .before .before .before .if1 .left), omega (arith, p .3 .1, v .long, c .before .before .before .before .before .if1 .left), v .fit)))
+    (omega (arith, pre .0, if1 .left), (p .0, p .1, omega (arith, model-is (a .f .now) (a .s) (pre .1 .0) (a .m) (pre .1 .2) .stmts-within, c .before .before .before .before .model .ensures .0, c .before .before .before .model2 .ensures .0), (omega (arith, p .3 .0, if1 .left), omega (arith, p .3 .1, v .long, if1 .left), v .fit)))
 
 flat-nodes-add-total : (t : ℕ) → flat-nodes-lts.Need-add-total (model-reads.Asked, model-reads.Learnt, stmt-nodes-below t, stmt-nodes.Post) (flat-nodes-at t) flat-nodes.Post flat-nodes-Inv-loop flat-nodes-μ-loop
 flat-nodes-add-total t c = omega (arith, c .before .before .before .before .before .loop .inv .below, at-most-le _ _ _ (c .before .before .stmt-nodes .ensures .0))
@@ -169,8 +170,9 @@ stmt-nodes-find-replacements-requires : (t : ℕ) → stmt-nodes-lts.Need-find-r
 stmt-nodes-find-replacements-requires t c κs =
     let a = c .before .before .before .before .before .before .before .before .args in
     let pre = c .before .before .before .before .before .before .before .before .pre in
+    let if1 = c .before .before .before .before .if1 in
     let p = pre .1 in
-    (p .0, called-some (a .f .now) (a .s) (pre .1 .0) (a .q) (pre .1 .2) (a .calls .now) (pre .1 .1) _ refl (sym (c .before .before .before .before .before .stmt .ensures .0) ∙ c .before .before .before .before .if1 .left) (neither-zero (getD (a .calls .now) (a .q) 0) (a .k) (c .before .before .if2 .left) .0) .1, rw (c .before .stmt2 .ensures .0) (submodel-call (a .f .now) (a .s) (pre .1 .0) (a .q) (pre .1 .2) (sym (c .before .before .before .before .before .stmt .ensures .0) ∙ c .before .before .before .before .if1 .left)), (omega (arith, p .3 .0), omega (arith, p .3 .1), p .3 .2))
+    (p .0, called-some (a .f .now) (a .s) (pre .1 .0) (a .q) (pre .1 .2) (a .calls .now) (pre .1 .1) _ refl (sym (c .before .before .before .before .before .stmt .ensures .0) ∙ if1 .left) (neither-zero (getD (a .calls .now) (a .q) 0) (a .k) (c .before .before .if2 .left) .0) .1, rw (c .before .stmt2 .ensures .0) (submodel-call (a .f .now) (a .s) (pre .1 .0) (a .q) (pre .1 .2) (sym (c .before .before .before .before .before .stmt .ensures .0) ∙ if1 .left)), (omega (arith, p .3 .0), omega (arith, p .3 .1), p .3 .2))
 
 stmt-nodes-sub-flat-nodes : (t : ℕ) → stmt-nodes-lts.Need-sub-flat-nodes (stmt-reads.Asked, stmt-reads.Learnt, own-nodes-reads.Asked, own-nodes-reads.Learnt, find-replacements-reads.Asked, find-replacements-reads.Learnt, flat-nodes-below t, flat-nodes.Post) (stmt-nodes-at t) stmt-nodes.Post
 stmt-nodes-sub-flat-nodes t c =

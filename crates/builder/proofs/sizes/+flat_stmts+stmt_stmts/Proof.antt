@@ -124,13 +124,14 @@ flat-stmts-loop-less t c = omega arith
 flat-stmts-loop-again : (t : ℕ) → flat-stmts-lts.Need-loop-again (model-reads.Asked, model-reads.Learnt, stmt-stmts-below t, stmt-stmts.Post) (flat-stmts-at t) flat-stmts.Post flat-stmts-Inv-loop flat-stmts-μ-loop
 flat-stmts-loop-again t c =
     let a = c .before .before .before .before .before .before .before .args in
+    let loop = c .before .before .loop in
     let p = c .before .before .before .before .before .before .before .pre .1 in
     let e₁ = c .before .before .before .before .model .ensures .0 in
     let e₂ = c .before .before .before .model2 .ensures .0 in
     let g = broughtIn (fileIn (a .f .now) (a .s)) (a .k - 1) in
-    let r = run-next (a .f .now) (a .s) (p .0) (a .m) (p .2) g (c .before .before .loop .i) (omega arith) in
-    let q = ap (λ (j : ℕ). g (stmtIn (a .f .now) (a .s) (j + c .before .before .loop .i))) e₁ in
-    (omega arith, at-most-add _ _ _ _ _ (c .before .before .loop .inv .1) (c .stmt-stmts .ensures) ∙ ap (atMost (a .most)) (omega (arith, r, q)))
+    let r = run-next (a .f .now) (a .s) (p .0) (a .m) (p .2) g (loop .i) (omega arith) in
+    let q = ap (λ (j : ℕ). g (stmtIn (a .f .now) (a .s) (j + loop .i))) e₁ in
+    (omega arith, at-most-add _ _ _ _ _ (loop .inv .1) (c .stmt-stmts .ensures) ∙ ap (atMost (a .most)) (omega (arith, r, q)))
 
 flat-stmts-returns-2 : (t : ℕ) → flat-stmts-lts.Need-returns-2 (model-reads.Asked, model-reads.Learnt, stmt-stmts-below t, stmt-stmts.Post) (flat-stmts-at t) flat-stmts.Post flat-stmts-Inv-loop flat-stmts-μ-loop
 flat-stmts-returns-2 t c =

@@ -79,9 +79,11 @@ state-errors-requires : tie.Need-state-errors-requires Inv-loop μ-loop
 state-errors-requires c κs =
     let pre = c .before .before .before .before .before .before .before .before .before .before .before .before .before .before .before .before .before .before .before .pre in
     let a = c .before .before .before .before .before .before .before .before .before .before .before .before .before .before .before .before .before .before .before .args in
-    let p : ListsAt (errorsAt (a .z)) (a .area .now) (a .count) (startingIn (modelAt (fileIn (a .f .now) (a .s)) (a .m) .span) (nodesIn (a .area .now) (a .z)) (stmtsIn (a .area .now) (a .z)) (a .names .now) (c .before .before .before .before .loop .v)) (c .before .before .before .before .loop .listed) (c .before .before .before .before .loop .area) = c .before .before .before .before .loop .inv .2 in
-    let few : c .before .before .before .before .loop .v < 129 = omega (arith, c .before .before .if1 .taken, pre .3 .small .vars) in
-    (pre .0, pre .1, righted-listed _ _ _ _ _ _ (pre .3) p, held-few _ _ _ _ _ _ (c .before .before .before .before .before .before .before .before .note-fates .ensures) (c .before .before .before .before .loop .v) few, first-few _ _ _ _ _ _ (c .before .before .before .before .before .before .before .before .note-fates .ensures) (c .before .before .before .before .loop .v) few, omega (arith, c .before .before .before .before .loop .inv .1, c .before .before .if1 .taken, pre .4))
+    let note-fates = c .before .before .before .before .before .before .before .before .note-fates in
+    let loop = c .before .before .before .before .loop in
+    let p : ListsAt (errorsAt (a .z)) (a .area .now) (a .count) (startingIn (modelAt (fileIn (a .f .now) (a .s)) (a .m) .span) (nodesIn (a .area .now) (a .z)) (stmtsIn (a .area .now) (a .z)) (a .names .now) (loop .v)) (loop .listed) (loop .area) = loop .inv .2 in
+    let few : loop .v < 129 = omega (arith, c .before .before .if1 .taken, pre .3 .small .vars) in
+    (pre .0, pre .1, righted-listed _ _ _ _ _ _ (pre .3) p, held-few _ _ _ _ _ _ (note-fates .ensures) (loop .v) few, first-few _ _ _ _ _ _ (note-fates .ensures) (loop .v) few, omega (arith, loop .inv .1, c .before .before .if1 .taken, pre .4))
 
 add-v : tie.Need-add-v Inv-loop μ-loop
 add-v c = omega (arith, c .before .before .before .before .before .before .before .before .before .before .before .before .before .before .before .before .before .before .before .before .before .before .pre .3 .small .vars, c .before .before .before .before .before .if1 .taken)
@@ -93,22 +95,27 @@ loop-again : tie.Need-loop-again Inv-loop μ-loop
 loop-again c =
     let pre = c .before .before .before .before .before .before .before .before .before .before .before .before .before .before .before .before .before .before .before .before .before .before .pre in
     let a = c .before .before .before .before .before .before .before .before .before .before .before .before .before .before .before .before .before .before .before .before .before .before .args in
-    let p : ListsAt (errorsAt (a .z)) (a .area .now) (a .count) (startingIn (modelAt (fileIn (a .f .now) (a .s)) (a .m) .span) (nodesIn (a .area .now) (a .z)) (stmtsIn (a .area .now) (a .z)) (a .names .now) (c .before .before .before .before .before .before .before .loop .v)) (c .before .before .before .before .before .before .before .loop .listed) (c .before .before .before .before .before .before .before .loop .area) = c .before .before .before .before .before .before .before .loop .inv .2 in
-    let few : c .before .before .before .before .before .before .before .loop .v < 129 = omega (arith, c .before .before .before .before .before .if1 .taken, pre .3 .small .vars) in
-    let n = starting-next _ _ _ _ _ _ _ _ _ _ _ _ (pre .3) (c .before .before .before .before .before .before .before .before .before .before .before .note-fates .ensures .held-of (c .before .before .before .before .before .before .before .loop .v) few) (c .before .before .before .before .before .before .before .before .before .before .before .note-fates .ensures .first-of (c .before .before .before .before .before .before .before .loop .v) few) p (c .before .before .state-errors .ensures) in
-    (omega (arith, c .before .before .before .before .before .if1 .taken), omega (arith, n .0, c .before .before .before .before .before .before .before .loop .inv .1), n .1)
+    let note-fates = c .before .before .before .before .before .before .before .before .before .before .before .note-fates in
+    let loop = c .before .before .before .before .before .before .before .loop in
+    let if1 = c .before .before .before .before .before .if1 in
+    let p : ListsAt (errorsAt (a .z)) (a .area .now) (a .count) (startingIn (modelAt (fileIn (a .f .now) (a .s)) (a .m) .span) (nodesIn (a .area .now) (a .z)) (stmtsIn (a .area .now) (a .z)) (a .names .now) (loop .v)) (loop .listed) (loop .area) = loop .inv .2 in
+    let few : loop .v < 129 = omega (arith, if1 .taken, pre .3 .small .vars) in
+    let n = starting-next _ _ _ _ _ _ _ _ _ _ _ _ (pre .3) (note-fates .ensures .held-of (loop .v) few) (note-fates .ensures .first-of (loop .v) few) p (c .before .before .state-errors .ensures) in
+    (omega (arith, if1 .taken), omega (arith, n .0, loop .inv .1), n .1)
 
 same-length : tie.Need-same-length Inv-loop μ-loop
 same-length c =
     let a = c .before .before .before .before .before .before .before .before .before .before .before .before .before .before .before .before .before .args in
-    let p : ListsAt (errorsAt (a .z)) (a .area .now) (a .count) (startingIn (modelAt (fileIn (a .f .now) (a .s)) (a .m) .span) (nodesIn (a .area .now) (a .z)) (stmtsIn (a .area .now) (a .z)) (a .names .now) (c .before .before .loop .v)) (c .before .before .loop .listed) (c .before .before .loop .area) = c .before .before .loop .inv .2 in
+    let loop = c .before .before .loop in
+    let p : ListsAt (errorsAt (a .z)) (a .area .now) (a .count) (startingIn (modelAt (fileIn (a .f .now) (a .s)) (a .m) .span) (nodesIn (a .area .now) (a .z)) (stmtsIn (a .area .now) (a .z)) (a .names .now) (loop .v)) (loop .listed) (loop .area) = loop .inv .2 in
     lists-length _ _ _ _ _ _ (c .before .before .before .before .before .before .before .before .before .before .before .before .before .before .before .before .before .pre .3 .long) p
 
 returns : tie.Need-returns Inv-loop μ-loop
 returns c =
     let a = c .before .before .before .before .before .before .before .before .before .before .before .before .before .before .before .before .before .args in
-    let p : ListsAt (errorsAt (a .z)) (a .area .now) (a .count) (startingIn (modelAt (fileIn (a .f .now) (a .s)) (a .m) .span) (nodesIn (a .area .now) (a .z)) (stmtsIn (a .area .now) (a .z)) (a .names .now) (c .before .before .loop .v)) (c .before .before .loop .listed) (c .before .before .loop .area) = c .before .before .loop .inv .2 in
-    let e : c .before .before .loop .v ≡ a .z .vars = omega (arith, c .before .before .loop .inv .0, c .if1 .left) in
+    let loop = c .before .before .loop in
+    let p : ListsAt (errorsAt (a .z)) (a .area .now) (a .count) (startingIn (modelAt (fileIn (a .f .now) (a .s)) (a .m) .span) (nodesIn (a .area .now) (a .z)) (stmtsIn (a .area .now) (a .z)) (a .names .now) (loop .v)) (loop .listed) (loop .area) = loop .inv .2 in
+    let e : loop .v ≡ a .z .vars = omega (arith, loop .inv .0, c .if1 .left) in
     rw e at p
 
 pub starting-errors-spec : {M : Type 1} → statement M

@@ -100,8 +100,9 @@ write-stmt-find-replacements-requires : (t : ℕ) → write-stmt-lts.Need-find-r
 write-stmt-find-replacements-requires t c κs =
     let a = c .before .before .before .before .before .before .before .before .before .args in
     let pre = c .before .before .before .before .before .before .before .before .before .pre in
+    let if1 = c .before .before .before .before .if1 in
     let p = pre .1 in
-    (p .0, called-some (a .f .now) (a .s) (pre .1 .0) (a .q) (pre .1 .2) (a .calls .now) (pre .1 .1) _ refl (sym (c .before .before .before .before .before .stmt .ensures .0) ∙ c .before .before .before .before .if1 .left) (neither-zero (getD (a .calls .now) (a .q) 0) (a .k) (c .before .before .if2 .left) .0) .1, rw (c .before .stmt2 .ensures .0) (submodel-call (a .f .now) (a .s) (pre .1 .0) (a .q) (pre .1 .2) (sym (c .before .before .before .before .before .stmt .ensures .0) ∙ c .before .before .before .before .if1 .left)), (omega (arith, p .3 .0), omega (arith, p .3 .1), p .3 .2))
+    (p .0, called-some (a .f .now) (a .s) (pre .1 .0) (a .q) (pre .1 .2) (a .calls .now) (pre .1 .1) _ refl (sym (c .before .before .before .before .before .stmt .ensures .0) ∙ if1 .left) (neither-zero (getD (a .calls .now) (a .q) 0) (a .k) (c .before .before .if2 .left) .0) .1, rw (c .before .stmt2 .ensures .0) (submodel-call (a .f .now) (a .s) (pre .1 .0) (a .q) (pre .1 .2) (sym (c .before .before .before .before .before .stmt .ensures .0) ∙ if1 .left)), (omega (arith, p .3 .0), omega (arith, p .3 .1), p .3 .2))
 
 write-stmt-sub-write-stmts : (t : ℕ) → write-stmt-lts.Need-sub-write-stmts (stmt-reads.Asked, stmt-reads.Learnt, write-record-reads.Asked, write-record-reads.Learnt, find-replacements-reads.Asked, find-replacements-reads.Learnt, write-stmts-below t, write-stmts.Post) (write-stmt-at t) write-stmt.Post
 write-stmt-sub-write-stmts t c =
@@ -115,10 +116,12 @@ write-stmt-write-stmts-requires : (t : ℕ) → write-stmt-lts.Need-write-stmts-
 write-stmt-write-stmts-requires t c κs =
     let a = c .before .before .before .before .before .before .before .before .before .before .before .before .before .before .args in
     let pre = c .before .before .before .before .before .before .before .before .before .before .before .before .before .before .pre in
+    let if1 = c .before .before .before .before .before .before .before .before .before .if1 in
+    let if2 = c .before .before .before .before .before .before .before .if2 in
     let p = pre .1 in
     let g = c .before .before .before .before .find-replacements .ensures in
-    let e = deeper (a .f .now) (a .s) (pre .1 .0) (a .q) (pre .1 .2) (sym (c .before .before .before .before .before .before .before .before .before .before .stmt .ensures .0) ∙ c .before .before .before .before .before .before .before .before .before .if1 .left) (levelsOf (contentsIn (a .f .now) (a .s) .nodes) (a .rows .now) (a .level)) (a .calls .now) (pre .1 .1) _ refl (a .rows .now) _ (a .level) (a .k) _ (neither-zero (getD (a .calls .now) (a .q) 0) (a .k) (c .before .before .before .before .before .before .before .if2 .left) .0) refl (c .before .before .before .before .before .before .stmt2 .ensures .0) (g .0 .1) (g .1) in
-    (omega (arith, pre .0), (p .0, p .1, called-some (a .f .now) (a .s) (pre .1 .0) (a .q) (pre .1 .2) (a .calls .now) (pre .1 .1) _ refl (sym (c .before .before .before .before .before .before .before .before .before .before .stmt .ensures .0) ∙ c .before .before .before .before .before .before .before .before .before .if1 .left) (neither-zero (getD (a .calls .now) (a .q) 0) (a .k) (c .before .before .before .before .before .before .before .if2 .left) .0) .1, (omega (arith, p .3 .0), omega (arith, p .3 .1, g .0 .0), g .0 .2), fits-same _ _ _ _ _ e (p .4)))
+    let e = deeper (a .f .now) (a .s) (pre .1 .0) (a .q) (pre .1 .2) (sym (c .before .before .before .before .before .before .before .before .before .before .stmt .ensures .0) ∙ if1 .left) (levelsOf (contentsIn (a .f .now) (a .s) .nodes) (a .rows .now) (a .level)) (a .calls .now) (pre .1 .1) _ refl (a .rows .now) _ (a .level) (a .k) _ (neither-zero (getD (a .calls .now) (a .q) 0) (a .k) (if2 .left) .0) refl (c .before .before .before .before .before .before .stmt2 .ensures .0) (g .0 .1) (g .1) in
+    (omega (arith, pre .0), (p .0, p .1, called-some (a .f .now) (a .s) (pre .1 .0) (a .q) (pre .1 .2) (a .calls .now) (pre .1 .1) _ refl (sym (c .before .before .before .before .before .before .before .before .before .before .stmt .ensures .0) ∙ if1 .left) (neither-zero (getD (a .calls .now) (a .q) 0) (a .k) (if2 .left) .0) .1, (omega (arith, p .3 .0), omega (arith, p .3 .1, g .0 .0), g .0 .2), fits-same _ _ _ _ _ e (p .4)))
 
 write-stmt-same-length-3 : (t : ℕ) → write-stmt-lts.Need-same-length-3 (stmt-reads.Asked, stmt-reads.Learnt, write-record-reads.Asked, write-record-reads.Learnt, find-replacements-reads.Asked, find-replacements-reads.Learnt, write-stmts-below t, write-stmts.Post) (write-stmt-at t) write-stmt.Post
 write-stmt-same-length-3 t c = search needs
@@ -175,9 +178,12 @@ write-stmts-write-stmt-requires : (t : ℕ) → write-stmts-lts.Need-write-stmt-
 write-stmts-write-stmt-requires t c κs =
     let a = c .before .before .before .before .before .before .before .before .before .before .args in
     let pre = c .before .before .before .before .before .before .before .before .before .before .pre in
+    let if1 = c .before .before .before .before .before .before .if1 in
+    let model2 = c .before .before .before .before .model2 in
+    let loop = c .before .before .before .loop in
     let p = pre .1 in
-    let v = c .before .before .before .loop .inv in
-    (omega (arith, pre .0, c .before .before .before .before .before .before .if1 .left), (p .0, p .1, omega (arith, model-is (a .f .now) (a .s) (pre .1 .0) (a .m) (pre .1 .2) .stmts-within, c .before .before .before .before .before .model .ensures .0, c .before .before .before .before .model2 .ensures .0), (omega (arith, p .3 .0, c .before .before .before .before .before .before .if1 .left), omega (arith, p .3 .1, v .long, c .before .before .before .before .before .before .if1 .left), v .fit), recording-room (a .f .now) (a .s) (a .k) (a .m) (a .rows .now) (a .level) (a .out .now) (a .done .stmts) (a .done .nodes) (pre .1 .0) (pre .1 .2) (pre .1 .4) _ _ _ _ _ (c .before .before .before .loop .inv) _ (omega (arith, c .before .before .loop-test .taken, c .before .before .before .before .model2 .ensures .0)) (c .before .before .before .before .before .model .ensures .0)))
+    let v = loop .inv in
+    (omega (arith, pre .0, if1 .left), (p .0, p .1, omega (arith, model-is (a .f .now) (a .s) (pre .1 .0) (a .m) (pre .1 .2) .stmts-within, c .before .before .before .before .before .model .ensures .0, model2 .ensures .0), (omega (arith, p .3 .0, if1 .left), omega (arith, p .3 .1, v .long, if1 .left), v .fit), recording-room (a .f .now) (a .s) (a .k) (a .m) (a .rows .now) (a .level) (a .out .now) (a .done .stmts) (a .done .nodes) (pre .1 .0) (pre .1 .2) (pre .1 .4) _ _ _ _ _ (loop .inv) _ (omega (arith, c .before .before .loop-test .taken, model2 .ensures .0)) (c .before .before .before .before .before .model .ensures .0)))
 
 write-stmts-add-i : (t : ℕ) → write-stmts-lts.Need-add-i (model-reads.Asked, model-reads.Learnt, write-stmt-below t, write-stmt.Post) (write-stmts-at t) write-stmts.Post write-stmts-Inv-loop write-stmts-μ-loop
 write-stmts-add-i t c = omega arith

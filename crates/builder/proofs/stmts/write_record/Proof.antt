@@ -78,7 +78,9 @@ returns : tie.Need-returns
 returns c =
     let a = c .before .before .before .before .before .before .before .before .before .before .before .before .before .before .args in
     let p = c .before .before .before .before .before .before .before .before .before .before .before .before .before .before .pre in
-    λ sub. rate-recorded (a .f .now) (a .s) (p .0) (a .rows .now) (a .level) (a .q) sub (a .done .stmts) (a .done .nodes) (length (a .out .now)) (rate-any (a .f .now) (a .s) (p .0) (a .rows .now) (a .level) (a .q) _ _ _ (p .3 .0) sub (sym (c .before .before .before .before .before .before .before .stmt4 .ensures .0) ∙ c .before .before .before .before .before .before .if1 .taken) (p .3 .1)) _ _ (c .before .before .before .before .before .before .before .before .before .before .stmt .ensures .0) (c .before .before .before .before .before .before .before .before .before .stmt2 .ensures .0) _ _ _ (sym (c .before .before .before .before .before .before .before .stmt4 .ensures .0) ∙ c .before .before .before .before .before .before .if1 .taken) (c .before .before .before .before .before .before .before .before .stmt3 .ensures .0) (c .before .before .before .before .before .stmt5 .ensures .0) (c .before .before .before .before .measure-expr .ensures) (a .out .now) _ (c .before .before .record-behind .ensures)
+    let stmt4 = c .before .before .before .before .before .before .before .stmt4 in
+    let if1 = c .before .before .before .before .before .before .if1 in
+    λ sub. rate-recorded (a .f .now) (a .s) (p .0) (a .rows .now) (a .level) (a .q) sub (a .done .stmts) (a .done .nodes) (length (a .out .now)) (rate-any (a .f .now) (a .s) (p .0) (a .rows .now) (a .level) (a .q) _ _ _ (p .3 .0) sub (sym (stmt4 .ensures .0) ∙ if1 .taken) (p .3 .1)) _ _ (c .before .before .before .before .before .before .before .before .before .before .stmt .ensures .0) (c .before .before .before .before .before .before .before .before .before .stmt2 .ensures .0) _ _ _ (sym (stmt4 .ensures .0) ∙ if1 .taken) (c .before .before .before .before .before .before .before .before .stmt3 .ensures .0) (c .before .before .before .before .before .stmt5 .ensures .0) (c .before .before .before .before .measure-expr .ensures) (a .out .now) _ (c .before .before .record-behind .ensures)
 
 stmt-requires-6 : tie.Need-stmt-requires-6
 stmt-requires-6 c κs = search needs
@@ -150,7 +152,9 @@ returns-2 : tie.Need-returns-2
 returns-2 c =
     let a = c .before .before .before .before .before .before .before .before .before .before .before .before .before .before .before .args in
     let p = c .before .before .before .before .before .before .before .before .before .before .before .before .before .before .before .pre in
-    λ sub. equation-recorded (a .f .now) (a .s) (p .0) (a .rows .now) (a .level) (a .q) sub (a .done .stmts) (a .done .nodes) (length (a .out .now)) (equation-any (a .f .now) (a .s) (p .0) (a .rows .now) (a .level) (a .q) _ _ _ (p .3 .0) sub (is-equation (a .f .now) (a .s) (p .0) (a .q) (p .1 .0) (λ e. c .before .before .before .before .before .before .before .if1 .left (c .before .before .before .before .before .before .before .before .stmt4 .ensures .0 ∙ e)) (p .1 .1)) (p .3 .1)) _ _ (c .before .before .before .before .before .before .before .before .before .before .before .stmt .ensures .0) (c .before .before .before .before .before .before .before .before .before .before .stmt2 .ensures .0) _ _ _ _ (is-equation (a .f .now) (a .s) (p .0) (a .q) (p .1 .0) (λ e. c .before .before .before .before .before .before .before .if1 .left (c .before .before .before .before .before .before .before .before .stmt4 .ensures .0 ∙ e)) (p .1 .1)) (c .before .before .before .before .before .before .stmt6 .ensures .0) (c .before .before .before .before .before .before .before .before .before .stmt3 .ensures .0) (c .before .before .before .before .before .measure-expr2 .ensures) (c .before .before .before .before .measure-expr3 .ensures) (a .out .now) _ (c .before .before .record-behind2 .ensures)
+    let stmt4 = c .before .before .before .before .before .before .before .before .stmt4 in
+    let if1 = c .before .before .before .before .before .before .before .if1 in
+    λ sub. equation-recorded (a .f .now) (a .s) (p .0) (a .rows .now) (a .level) (a .q) sub (a .done .stmts) (a .done .nodes) (length (a .out .now)) (equation-any (a .f .now) (a .s) (p .0) (a .rows .now) (a .level) (a .q) _ _ _ (p .3 .0) sub (is-equation (a .f .now) (a .s) (p .0) (a .q) (p .1 .0) (λ e. if1 .left (stmt4 .ensures .0 ∙ e)) (p .1 .1)) (p .3 .1)) _ _ (c .before .before .before .before .before .before .before .before .before .before .before .stmt .ensures .0) (c .before .before .before .before .before .before .before .before .before .before .stmt2 .ensures .0) _ _ _ _ (is-equation (a .f .now) (a .s) (p .0) (a .q) (p .1 .0) (λ e. if1 .left (stmt4 .ensures .0 ∙ e)) (p .1 .1)) (c .before .before .before .before .before .before .stmt6 .ensures .0) (c .before .before .before .before .before .before .before .before .before .stmt3 .ensures .0) (c .before .before .before .before .before .measure-expr2 .ensures) (c .before .before .before .before .measure-expr3 .ensures) (a .out .now) _ (c .before .before .record-behind2 .ensures)
 
 pub write-record-spec : {M : Type 1} → statement M
 write-record-spec =

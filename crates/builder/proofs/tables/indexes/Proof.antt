@@ -48,8 +48,9 @@ cast-time-index-2 c =
 time-index-requires : tie.Need-time-index-requires Inv-loop μ-loop
 time-index-requires c κs =
     let p = c .before .before .before .before .before .before .before .pre in
-    let l : c .before .before .before .loop .v < c .before .before .before .before .before .before .before .args .vars = omega arith in
-    (p .0 .rise (c .before .before .before .loop .v) l, p .0 .within (c .before .before .before .loop .v) l)
+    let loop = c .before .before .before .loop in
+    let l : loop .v < c .before .before .before .before .before .before .before .args .vars = omega arith in
+    (p .0 .rise (loop .v) l, p .0 .within (loop .v) l)
 
 cast-out : tie.Need-cast-out Inv-loop μ-loop
 cast-out c = omega arith
@@ -70,7 +71,8 @@ loop-again : tie.Need-loop-again Inv-loop μ-loop
 loop-again c =
     let a = c .before .before .before .before .before .before .before .before .args in
     let p = c .before .before .before .before .before .before .before .before .pre in
-    (omega arith, filled-more 129 _ (c .before .before .before .before .loop .v) _ (c .before .before .before .before .loop .out) (omega (arith, p .0 .few)) (index-word (a .starts .now) (a .deps .now) (a .vars) (c .before .before .before .before .loop .v) (c .time-index .result) (p .0) (omega arith) (p .2 (c .before .before .before .before .loop .v) (omega arith)) (c .time-index .ensures)) (c .before .before .before .before .loop .inv .1))
+    let loop = c .before .before .before .before .loop in
+    (omega arith, filled-more 129 _ (loop .v) _ (loop .out) (omega (arith, p .0 .few)) (index-word (a .starts .now) (a .deps .now) (a .vars) (loop .v) (c .time-index .result) (p .0) (omega arith) (p .2 (loop .v) (omega arith)) (c .time-index .ensures)) (loop .inv .1))
 
 same-length : tie.Need-same-length Inv-loop μ-loop
 same-length c = omega (arith, c .before .loop .inv .1 .long)

@@ -48,7 +48,9 @@ loop-less : tie.Need-loop-less Inv-loop μ-loop
 loop-less c = omega arith
 
 loop-again : tie.Need-loop-again Inv-loop μ-loop
-loop-again c = (omega arith, filled-more 129 _ (c .before .before .before .before .before .loop .v) (c .rate-flag .result) (c .before .before .before .before .before .loop .out) (omega arith) (c .rate-flag .ensures) (c .before .before .before .before .before .loop .inv .1))
+loop-again c =
+    let loop = c .before .before .before .before .before .loop in
+    (omega arith, filled-more 129 _ (loop .v) (c .rate-flag .result) (loop .out) (omega arith) (c .rate-flag .ensures) (loop .inv .1))
 
 same-length : tie.Need-same-length Inv-loop μ-loop
 same-length c = omega (arith, c .before .loop .inv .1 .long)

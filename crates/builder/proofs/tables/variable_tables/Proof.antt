@@ -15,13 +15,15 @@ indexes-requires : tie.Need-indexes-requires
 indexes-requires c κs =
     let a = c .before .before .before .before .before .before .before .before .before .before .before .before .before .before .before .before .before .before .args in
     let p = c .before .before .before .before .before .before .before .before .before .before .before .before .before .before .before .before .before .before .pre in
-    (counted-deps (a .f .now) (a .s) (p .0) (a .m) _ (a .out .now) _ (c .before .before .before .before .before .before .before .write-deps .ensures .0) (c .before .before .before .before .before .before .before .write-deps .ensures .2) (a .vars) (p .2 .count) (p .2 .few) (p .3), c .before .before .before .before .before .before .before .write-deps .ensures .1, counted-starts (a .f .now) (a .s) (p .0) (a .m) _ (a .out .now) _ (c .before .before .before .before .before .before .before .write-deps .ensures .0) (c .before .before .before .before .before .before .before .write-deps .ensures .2) (a .vars) (p .2 .count) (p .2 .few) (p .3), p .4 .indexes-long)
+    let write-deps = c .before .before .before .before .before .before .before .write-deps in
+    (counted-deps (a .f .now) (a .s) (p .0) (a .m) _ (a .out .now) _ (write-deps .ensures .0) (write-deps .ensures .2) (a .vars) (p .2 .count) (p .2 .few) (p .3), write-deps .ensures .1, counted-starts (a .f .now) (a .s) (p .0) (a .m) _ (a .out .now) _ (write-deps .ensures .0) (write-deps .ensures .2) (a .vars) (p .2 .count) (p .2 .few) (p .3), p .4 .indexes-long)
 
 reach-time-requires : tie.Need-reach-time-requires
 reach-time-requires c κs =
     let a = c .before .before .before .before .before .before .before .before .before .before .before .before .before .before .before .before .before .before .before .before .before .before .before .before .args in
     let p = c .before .before .before .before .before .before .before .before .before .before .before .before .before .before .before .before .before .before .before .before .before .before .before .before .pre in
-    (counted-deps (a .f .now) (a .s) (p .0) (a .m) _ (a .out .now) _ (c .before .before .before .before .before .before .before .before .before .before .before .before .before .write-deps .ensures .0) (c .before .before .before .before .before .before .before .before .before .before .before .before .before .write-deps .ensures .2) (a .vars) (p .2 .count) (p .2 .few) (p .3), c .before .before .before .before .before .before .before .before .before .before .before .before .before .write-deps .ensures .1, p .4 .reach-long, p .4 .no-mark)
+    let write-deps = c .before .before .before .before .before .before .before .before .before .before .before .before .before .write-deps in
+    (counted-deps (a .f .now) (a .s) (p .0) (a .m) _ (a .out .now) _ (write-deps .ensures .0) (write-deps .ensures .2) (a .vars) (p .2 .count) (p .2 .few) (p .3), write-deps .ensures .1, p .4 .reach-long, p .4 .no-mark)
 
 rates-requires : tie.Need-rates-requires
 rates-requires c κs =
@@ -46,9 +48,12 @@ same-length-5 c = c .before .before .rates .ensures .1 ∙ sym (c .before .befor
 returns : tie.Need-returns
 returns c =
     let a = c .before .before .before .before .before .before .before .before .before .before .before .before .before .before .before .before .before .before .before .before .before .before .before .before .before .before .before .before .before .before .before .before .before .args in
+    let write-deps = c .before .before .before .before .before .before .before .before .before .before .before .before .before .before .before .before .before .before .before .before .before .before .write-deps in
+    let indexes = c .before .before .before .before .before .before .before .before .before .before .before .before .before .before .indexes in
+    let reach-time = c .before .before .before .before .before .before .before .before .reach-time in
     let p = c .before .before .before .before .before .before .before .before .before .before .before .before .before .before .before .before .before .before .before .before .before .before .before .before .before .before .before .before .before .before .before .before .before .pre in (
-      tables-of (a .f .now) (a .s) (p .0) (a .m) _ (a .out .now) _ (c .before .before .before .before .before .before .before .before .before .before .before .before .before .before .before .before .before .before .before .before .before .before .write-deps .ensures .0) (c .before .before .before .before .before .before .before .before .before .before .before .before .before .before .before .before .before .before .before .before .before .before .write-deps .ensures .2) (a .vars) (p .2 .count) (p .2 .few) (p .3) _ (c .before .before .before .before .before .before .before .before .reach-time .ensures .0) _ _ (c .before .before .before .before .before .before .before .before .before .before .before .before .before .before .before .before .before .before .before .before .before .before .write-deps .ensures .1) (c .before .before .before .before .before .before .before .before .before .before .before .before .before .before .indexes .ensures .1) (c .before .before .before .before .before .before .before .before .reach-time .ensures .1) (c .before .before .rates .ensures .1) (c .before .before .before .before .before .before .before .before .before .before .before .before .before .before .indexes .ensures .0) (c .before .before .rates .ensures .0),
-      c .before .before .before .before .before .before .before .before .before .before .before .before .before .before .before .before .before .before .before .before .before .before .write-deps .ensures .2 ∙ ap (λ ds. front (a .out .now) (bytesOf ds)) (sym (model-written (a .f .now) (a .s) (a .m))),
+      tables-of (a .f .now) (a .s) (p .0) (a .m) _ (a .out .now) _ (write-deps .ensures .0) (write-deps .ensures .2) (a .vars) (p .2 .count) (p .2 .few) (p .3) _ (reach-time .ensures .0) _ _ (write-deps .ensures .1) (indexes .ensures .1) (reach-time .ensures .1) (c .before .before .rates .ensures .1) (indexes .ensures .0) (c .before .before .rates .ensures .0),
+      write-deps .ensures .2 ∙ ap (λ ds. front (a .out .now) (bytesOf ds)) (sym (model-written (a .f .now) (a .s) (a .m))),
     )
 
 pub variable-tables-spec : {M : Type 1} → statement M

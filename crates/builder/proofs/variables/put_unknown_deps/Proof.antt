@@ -33,38 +33,50 @@ add-dep : tie.Need-add-dep Inv-loop μ-loop
 add-dep c =
     let a = c .before .before .before .before .before .before .before .args in
     let p = c .before .before .before .before .before .before .before .pre in
-    omega (arith, deps-within (a .f .now) (a .s) (p .0) (a .u) (p .1) (c .before .before .before .unknown .result) (c .before .before .unknown2 .result) (c .before .before .before .unknown .ensures .0) (c .before .before .unknown2 .ensures .0), p .0 .laid .within .deps)
+    let unknown = c .before .before .before .unknown in
+    omega (arith, deps-within (a .f .now) (a .s) (p .0) (a .u) (p .1) (unknown .result) (c .before .before .unknown2 .result) (unknown .ensures .0) (c .before .before .unknown2 .ensures .0), p .0 .laid .within .deps)
 
 dep-requires : tie.Need-dep-requires Inv-loop μ-loop
 dep-requires c κs =
     let a = c .before .before .before .before .before .before .before .args in
     let p = c .before .before .before .before .before .before .before .pre in
-    (p .0, omega (arith, deps-within (a .f .now) (a .s) (p .0) (a .u) (p .1) (c .before .before .before .unknown .result) (c .before .before .unknown2 .result) (c .before .before .before .unknown .ensures .0) (c .before .before .unknown2 .ensures .0)))
+    let unknown = c .before .before .before .unknown in
+    (p .0, omega (arith, deps-within (a .f .now) (a .s) (p .0) (a .u) (p .1) (unknown .result) (c .before .before .unknown2 .result) (unknown .ensures .0) (c .before .before .unknown2 .ensures .0)))
 
 mul-put-dep : tie.Need-mul-put-dep Inv-loop μ-loop
 mul-put-dep c =
     let a = c .before .before .before .before .before .before .before .before .args in
     let p = c .before .before .before .before .before .before .before .before .pre in
-    omega (arith, deps-at (a .f .now) (a .s) (p .0) (a .u) (p .1) (c .before .before .before .before .unknown .result) (c .before .before .before .unknown2 .result) (c .before .before .before .before .unknown .ensures .0) (c .before .before .before .unknown2 .ensures .0) (c .before .before .loop .i) (c .dep .result) (omega arith) (c .dep .ensures) .1, p .0 .laid .within .names)
+    let unknown = c .before .before .before .before .unknown in
+    let unknown2 = c .before .before .before .unknown2 in
+    omega (arith, deps-at (a .f .now) (a .s) (p .0) (a .u) (p .1) (unknown .result) (unknown2 .result) (unknown .ensures .0) (unknown2 .ensures .0) (c .before .before .loop .i) (c .dep .result) (omega arith) (c .dep .ensures) .1, p .0 .laid .within .names)
 
 shared-slice-read-put-dep : tie.Need-shared-slice-read-put-dep Inv-loop μ-loop
 shared-slice-read-put-dep c =
     let a = c .before .before .before .before .before .before .before .before .before .args in
     let p = c .before .before .before .before .before .before .before .before .before .pre in
-    omega (arith, deps-at (a .f .now) (a .s) (p .0) (a .u) (p .1) (c .before .before .before .before .before .unknown .result) (c .before .before .before .before .unknown2 .result) (c .before .before .before .before .before .unknown .ensures .0) (c .before .before .before .before .unknown2 .ensures .0) (c .before .before .before .loop .i) (c .before .dep .result) (omega arith) (c .before .dep .ensures) .1, p .0 .laid .within .names)
+    let unknown = c .before .before .before .before .before .unknown in
+    let unknown2 = c .before .before .before .before .unknown2 in
+    omega (arith, deps-at (a .f .now) (a .s) (p .0) (a .u) (p .1) (unknown .result) (unknown2 .result) (unknown .ensures .0) (unknown2 .ensures .0) (c .before .before .before .loop .i) (c .before .dep .result) (omega arith) (c .before .dep .ensures) .1, p .0 .laid .within .names)
 
 put-dep-requires : tie.Need-put-dep-requires Inv-loop μ-loop
 unfolding keptBy numbered
 put-dep-requires c κs =
     let a = c .before .before .before .before .before .before .before .before .before .before .args in
     let p = c .before .before .before .before .before .before .before .before .before .before .pre in
-    runs-room (numbered (a .numbers .now)) (unknownIn (a .f .now) (a .s) (a .u) .deps) (a .out .now) (a .done) (p .3) (c .before .before .before .before .loop .i) (c .before .before .before .before .loop .out) (c .before .before .before .before .loop .total) (c .before .before .before .before .loop .inv .1) 0 (c .before .before .dep .result) (omega (arith, deps-count (a .f .now) (a .s) (p .0) (a .u) (p .1) (c .before .before .before .before .before .before .unknown .result) (c .before .before .before .before .before .unknown2 .result) (c .before .before .before .before .before .before .unknown .ensures .0) (c .before .before .before .before .before .unknown2 .ensures .0))) (deps-at (a .f .now) (a .s) (p .0) (a .u) (p .1) (c .before .before .before .before .before .before .unknown .result) (c .before .before .before .before .before .unknown2 .result) (c .before .before .before .before .before .before .unknown .ensures .0) (c .before .before .before .before .before .unknown2 .ensures .0) (c .before .before .before .before .loop .i) (c .before .before .dep .result) (omega arith) (c .before .before .dep .ensures) .0)
+    let unknown = c .before .before .before .before .before .before .unknown in
+    let unknown2 = c .before .before .before .before .before .unknown2 in
+    let loop = c .before .before .before .before .loop in
+    let dep = c .before .before .dep in
+    runs-room (numbered (a .numbers .now)) (unknownIn (a .f .now) (a .s) (a .u) .deps) (a .out .now) (a .done) (p .3) (loop .i) (loop .out) (loop .total) (loop .inv .1) 0 (dep .result) (omega (arith, deps-count (a .f .now) (a .s) (p .0) (a .u) (p .1) (unknown .result) (unknown2 .result) (unknown .ensures .0) (unknown2 .ensures .0))) (deps-at (a .f .now) (a .s) (p .0) (a .u) (p .1) (unknown .result) (unknown2 .result) (unknown .ensures .0) (unknown2 .ensures .0) (loop .i) (dep .result) (omega arith) (dep .ensures) .0)
 
 add-i : tie.Need-add-i Inv-loop μ-loop
 add-i c =
     let a = c .before .before .before .before .before .before .before .before .before .before .before .before .before .args in
     let p = c .before .before .before .before .before .before .before .before .before .before .before .before .before .pre in
-    omega (arith, deps-within (a .f .now) (a .s) (p .0) (a .u) (p .1) (c .before .before .before .before .before .before .before .before .before .unknown .result) (c .before .before .before .before .before .before .before .before .unknown2 .result) (c .before .before .before .before .before .before .before .before .before .unknown .ensures .0) (c .before .before .before .before .before .before .before .before .unknown2 .ensures .0), p .0 .laid .within .deps)
+    let unknown = c .before .before .before .before .before .before .before .before .before .unknown in
+    let unknown2 = c .before .before .before .before .before .before .before .before .unknown2 in
+    omega (arith, deps-within (a .f .now) (a .s) (p .0) (a .u) (p .1) (unknown .result) (unknown2 .result) (unknown .ensures .0) (unknown2 .ensures .0), p .0 .laid .within .deps)
 
 loop-less : tie.Need-loop-less Inv-loop μ-loop
 loop-less c = omega arith
@@ -74,7 +86,12 @@ unfolding keptBy numbered
 loop-again c =
     let a = c .before .before .before .before .before .before .before .before .before .before .before .before .before .args in
     let p = c .before .before .before .before .before .before .before .before .before .before .before .before .before .pre in
-    (omega arith, runs-next (numbered (a .numbers .now)) (unknownIn (a .f .now) (a .s) (a .u) .deps) (a .out .now) (a .done) (p .3) (c .before .before .before .before .before .before .before .loop .i) (c .before .before .before .before .before .before .before .loop .out) (c .before .before .before .before .before .before .before .loop .total) (c .before .before .before .before .before .before .before .loop .inv .1) 0 (c .before .before .before .before .before .dep .result) _ (c .before .before .put-dep .result) (omega (arith, deps-count (a .f .now) (a .s) (p .0) (a .u) (p .1) (c .before .before .before .before .before .before .before .before .before .unknown .result) (c .before .before .before .before .before .before .before .before .unknown2 .result) (c .before .before .before .before .before .before .before .before .before .unknown .ensures .0) (c .before .before .before .before .before .before .before .before .unknown2 .ensures .0))) (deps-at (a .f .now) (a .s) (p .0) (a .u) (p .1) (c .before .before .before .before .before .before .before .before .before .unknown .result) (c .before .before .before .before .before .before .before .before .unknown2 .result) (c .before .before .before .before .before .before .before .before .before .unknown .ensures .0) (c .before .before .before .before .before .before .before .before .unknown2 .ensures .0) (c .before .before .before .before .before .before .before .loop .i) (c .before .before .before .before .before .dep .result) (omega arith) (c .before .before .before .before .before .dep .ensures) .0) (c .before .before .put-dep .ensures .0) (c .before .before .put-dep .ensures .1))
+    let unknown = c .before .before .before .before .before .before .before .before .before .unknown in
+    let unknown2 = c .before .before .before .before .before .before .before .before .unknown2 in
+    let loop = c .before .before .before .before .before .before .before .loop in
+    let dep = c .before .before .before .before .before .dep in
+    let put-dep = c .before .before .put-dep in
+    (omega arith, runs-next (numbered (a .numbers .now)) (unknownIn (a .f .now) (a .s) (a .u) .deps) (a .out .now) (a .done) (p .3) (loop .i) (loop .out) (loop .total) (loop .inv .1) 0 (dep .result) _ (put-dep .result) (omega (arith, deps-count (a .f .now) (a .s) (p .0) (a .u) (p .1) (unknown .result) (unknown2 .result) (unknown .ensures .0) (unknown2 .ensures .0))) (deps-at (a .f .now) (a .s) (p .0) (a .u) (p .1) (unknown .result) (unknown2 .result) (unknown .ensures .0) (unknown2 .ensures .0) (loop .i) (dep .result) (omega arith) (dep .ensures) .0) (put-dep .ensures .0) (put-dep .ensures .1))
 
 same-length : tie.Need-same-length Inv-loop μ-loop
 unfolding keptBy numbered
@@ -88,7 +105,8 @@ unfolding keptBy numbered
 returns c =
     let a = c .before .before .before .before .before .before .before .args in
     let p = c .before .before .before .before .before .before .before .pre in
-    runs-last (numbered (a .numbers .now)) (unknownIn (a .f .now) (a .s) (a .u) .deps) (a .out .now) (a .done) (p .3) (c .before .loop .i) (c .before .loop .out) (c .before .loop .total) (c .before .loop .inv .1) (omega (arith, deps-count (a .f .now) (a .s) (p .0) (a .u) (p .1) (c .before .before .before .unknown .result) (c .before .before .unknown2 .result) (c .before .before .before .unknown .ensures .0) (c .before .before .unknown2 .ensures .0)))
+    let unknown = c .before .before .before .unknown in
+    runs-last (numbered (a .numbers .now)) (unknownIn (a .f .now) (a .s) (a .u) .deps) (a .out .now) (a .done) (p .3) (c .before .loop .i) (c .before .loop .out) (c .before .loop .total) (c .before .loop .inv .1) (omega (arith, deps-count (a .f .now) (a .s) (p .0) (a .u) (p .1) (unknown .result) (c .before .before .unknown2 .result) (unknown .ensures .0) (c .before .before .unknown2 .ensures .0)))
 
 pub put-unknown-deps-spec : {M : Type 1} → statement M
 put-unknown-deps-spec =

@@ -40,7 +40,10 @@ same-length c = c .before .before .before .take-marks .ensures .1 ∙ c .before 
 returns : tie.Need-returns Inv-loop μ-loop
 returns c =
     let a = c .before .before .before .before .before .before .before .before .before .before .before .before .before .args in
-    (reached-same (a .starts .now) (a .deps .now) (a .vars) (a .vars) (c .before .before .before .before .before .before .time-round .result) _ (reached-end (a .starts .now) (a .deps .now) (a .vars) (c .before .before .before .before .before .before .before .before .before .loop .k) (c .before .before .before .before .before .before .before .before .before .loop .table) (c .before .before .before .before .before .before .time-round .result) (omega arith) (c .before .before .before .before .before .before .before .before .before .before .before .before .before .pre .0) (c .before .before .before .before .before .before .before .before .before .loop .inv .1) (c .before .before .before .before .before .before .time-round .ensures) (c .before .before .before .take-marks .ensures .2 (not-true _ (c .if1 .taken)))) (c .before .before .before .take-marks .ensures .0), c .before .before .before .take-marks .ensures .1 ∙ c .before .before .before .before .before .before .before .before .before .loop .inv .2)
+    let loop = c .before .before .before .before .before .before .before .before .before .loop in
+    let time-round = c .before .before .before .before .before .before .time-round in
+    let take-marks = c .before .before .before .take-marks in
+    (reached-same (a .starts .now) (a .deps .now) (a .vars) (a .vars) (time-round .result) _ (reached-end (a .starts .now) (a .deps .now) (a .vars) (loop .k) (loop .table) (time-round .result) (omega arith) (c .before .before .before .before .before .before .before .before .before .before .before .before .before .pre .0) (loop .inv .1) (time-round .ensures) (take-marks .ensures .2 (not-true _ (c .if1 .taken)))) (take-marks .ensures .0), take-marks .ensures .1 ∙ loop .inv .2)
 
 add-k : tie.Need-add-k Inv-loop μ-loop
 add-k c = omega (arith, c .before .before .before .before .before .before .before .before .before .before .before .before .before .pre .0 .few)
@@ -51,7 +54,10 @@ loop-less c = omega arith
 loop-again : tie.Need-loop-again Inv-loop μ-loop
 loop-again c =
     let a = c .before .before .before .before .before .before .before .before .before .before .before .before .before .args in
-    (omega arith, reached-same (a .starts .now) (a .deps .now) (a .vars) (c .before .before .before .before .before .before .before .before .before .loop .k + 1) (c .before .before .before .before .before .before .time-round .result) _ (reached-more (a .starts .now) (a .deps .now) (a .vars) (c .before .before .before .before .before .before .before .before .before .loop .k) (c .before .before .before .before .before .before .before .before .before .loop .table) (c .before .before .before .before .before .before .time-round .result) (c .before .before .before .before .before .before .before .before .before .before .before .before .before .pre .0) (c .before .before .before .before .before .before .before .before .before .loop .inv .1) (c .before .before .before .before .before .before .time-round .ensures)) (c .before .before .before .take-marks .ensures .0), c .before .before .before .take-marks .ensures .1 ∙ c .before .before .before .before .before .before .before .before .before .loop .inv .2)
+    let loop = c .before .before .before .before .before .before .before .before .before .loop in
+    let time-round = c .before .before .before .before .before .before .time-round in
+    let take-marks = c .before .before .before .take-marks in
+    (omega arith, reached-same (a .starts .now) (a .deps .now) (a .vars) (loop .k + 1) (time-round .result) _ (reached-more (a .starts .now) (a .deps .now) (a .vars) (loop .k) (loop .table) (time-round .result) (c .before .before .before .before .before .before .before .before .before .before .before .before .before .pre .0) (loop .inv .1) (time-round .ensures)) (take-marks .ensures .0), take-marks .ensures .1 ∙ loop .inv .2)
 
 same-length-2 : tie.Need-same-length-2 Inv-loop μ-loop
 same-length-2 c = c .before .loop .inv .2 ∙ sym (c .before .before .before .before .before .pre .2)

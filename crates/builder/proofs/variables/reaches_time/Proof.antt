@@ -37,7 +37,8 @@ returns : tie.Need-returns Inv-loop μ-loop
 unfolding leads
 returns c =
     let a = c .before .before .before .before .before .before .before .args in
-    sym (c .before .before .before .before .loop .inv .2 ∙ any-turn (a .deps .now) (a .first) (a .end) (omega arith) (omega arith) (leads (a .old .now)) (c .before .before .before .before .loop .i) (omega arith) (omega arith) ∙ rw (← c .before .before .read-word .ensures, c .if1 .taken))
+    let loop = c .before .before .before .before .loop in
+    sym (loop .inv .2 ∙ any-turn (a .deps .now) (a .first) (a .end) (omega arith) (omega arith) (leads (a .old .now)) (loop .i) (omega arith) (omega arith) ∙ rw (← c .before .before .read-word .ensures, c .if1 .taken))
 
 add-i : tie.Need-add-i Inv-loop μ-loop
 add-i c = omega arith
@@ -49,7 +50,8 @@ loop-again : tie.Need-loop-again Inv-loop μ-loop
 unfolding leads
 loop-again c =
     let a = c .before .before .before .before .before .before .before .args in
-    (omega arith, omega arith, c .before .before .before .before .loop .inv .2 ∙ any-turn (a .deps .now) (a .first) (a .end) (omega arith) (omega arith) (leads (a .old .now)) (c .before .before .before .before .loop .i) (omega arith) (omega arith) ∙ rw (← c .before .before .read-word .ensures, c .if1 .left))
+    let loop = c .before .before .before .before .loop in
+    (omega arith, omega arith, loop .inv .2 ∙ any-turn (a .deps .now) (a .first) (a .end) (omega arith) (omega arith) (leads (a .old .now)) (loop .i) (omega arith) (omega arith) ∙ rw (← c .before .before .read-word .ensures, c .if1 .left))
 
 returns-2 : tie.Need-returns-2 Inv-loop μ-loop
 returns-2 c =

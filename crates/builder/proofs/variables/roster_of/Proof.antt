@@ -42,25 +42,32 @@ loop-holds : tie.Need-loop-holds Inv-loop μ-loop
 loop-holds c =
     let a = c .before .before .before .before .before .before .before .before .before .before .before .before .before .args in
     let p = c .before .before .before .before .before .before .before .before .before .before .before .before .before .pre in
-    (omega arith, omega arith, roster-first (a .f .now) (a .s) (a .m) (c .before .before .before .before .before .before .before .time-name .result) _ (c .before .before .before .before .before .before .before .time-name .ensures .0 ∙ time-in (a .f .now) (a .s) (a .classes .now) (p .0) (p .2)) (c .before .before .before .before .time-alone .ensures))
+    let time-name = c .before .before .before .before .before .before .before .time-name in
+    (omega arith, omega arith, roster-first (a .f .now) (a .s) (a .m) (time-name .result) _ (time-name .ensures .0 ∙ time-in (a .f .now) (a .s) (a .classes .now) (p .0) (p .2)) (c .before .before .before .before .time-alone .ensures))
 
 add-unknown : tie.Need-add-unknown Inv-loop μ-loop
 add-unknown c =
     let a = c .before .before .before .before .before .before .before .before .before .before .before .before .before .before .before .args in
     let p = c .before .before .before .before .before .before .before .before .before .before .before .before .before .before .before .pre in
-    omega (arith, run-within (a .f .now) (a .s) (p .0) (a .m) (p .1) (c .before .before .before .before .before .before .before .before .before .before .before .model .result) (c .before .before .before .before .before .before .before .before .before .before .model2 .result) (c .before .before .before .before .before .before .before .before .before .before .before .model .ensures .0) (c .before .before .before .before .before .before .before .before .before .before .model2 .ensures .0), p .0 .laid .within .unknowns)
+    let model = c .before .before .before .before .before .before .before .before .before .before .before .model in
+    let model2 = c .before .before .before .before .before .before .before .before .before .before .model2 in
+    omega (arith, run-within (a .f .now) (a .s) (p .0) (a .m) (p .1) (model .result) (model2 .result) (model .ensures .0) (model2 .ensures .0), p .0 .laid .within .unknowns)
 
 unknown-requires : tie.Need-unknown-requires Inv-loop μ-loop
 unknown-requires c κs =
     let a = c .before .before .before .before .before .before .before .before .before .before .before .before .before .before .before .args in
     let p = c .before .before .before .before .before .before .before .before .before .before .before .before .before .before .before .pre in
-    (p .0, (omega (arith, run-within (a .f .now) (a .s) (p .0) (a .m) (p .1) (c .before .before .before .before .before .before .before .before .before .before .before .model .result) (c .before .before .before .before .before .before .before .before .before .before .model2 .result) (c .before .before .before .before .before .before .before .before .before .before .before .model .ensures .0) (c .before .before .before .before .before .before .before .before .before .before .model2 .ensures .0)), omega arith))
+    let model = c .before .before .before .before .before .before .before .before .before .before .before .model in
+    let model2 = c .before .before .before .before .before .before .before .before .before .before .model2 in
+    (p .0, (omega (arith, run-within (a .f .now) (a .s) (p .0) (a .m) (p .1) (model .result) (model2 .result) (model .ensures .0) (model2 .ensures .0)), omega arith))
 
 element-copy-out-is-reserved : tie.Need-element-copy-out-is-reserved Inv-loop μ-loop
 element-copy-out-is-reserved c =
     let a = c .before .before .before .before .before .before .before .before .before .before .before .before .before .before .before .before .args in
     let p = c .before .before .before .before .before .before .before .before .before .before .before .before .before .before .before .before .pre in
-    omega (arith, run-name (a .f .now) (a .s) (p .0) (a .m) (p .1) (c .before .before .before .before .before .before .before .before .before .before .before .before .model .result) (c .before .before .before .before .before .before .before .before .before .before .before .model2 .result) (c .before .before .before .before .before .before .before .before .before .before .before .before .model .ensures .0) (c .before .before .before .before .before .before .before .before .before .before .before .model2 .ensures .0) (c .before .before .loop .i) (c .unknown .result) (omega arith) (c .unknown .ensures .0) .1, p .0 .laid .within .names)
+    let model = c .before .before .before .before .before .before .before .before .before .before .before .before .model in
+    let model2 = c .before .before .before .before .before .before .before .before .before .before .before .model2 in
+    omega (arith, run-name (a .f .now) (a .s) (p .0) (a .m) (p .1) (model .result) (model2 .result) (model .ensures .0) (model2 .ensures .0) (c .before .before .loop .i) (c .unknown .result) (omega arith) (c .unknown .ensures .0) .1, p .0 .laid .within .names)
 
 is-reserved-requires : tie.Need-is-reserved-requires Inv-loop μ-loop
 is-reserved-requires c κs = tt
@@ -69,7 +76,11 @@ declare-requires : tie.Need-declare-requires Inv-loop μ-loop
 declare-requires c κs =
     let a = c .before .before .before .before .before .before .before .before .before .before .before .before .before .before .before .before .before .before .before .before .before .args in
     let p = c .before .before .before .before .before .before .before .before .before .before .before .before .before .before .before .before .before .before .before .before .before .pre in
-    (c .before .before .before .before .before .before .before .loop .inv .2 .0, omega (arith, run-within (a .f .now) (a .s) (p .0) (a .m) (p .1) (c .before .before .before .before .before .before .before .before .before .before .before .before .before .before .before .before .before .model .result) (c .before .before .before .before .before .before .before .before .before .before .before .before .before .before .before .before .model2 .result) (c .before .before .before .before .before .before .before .before .before .before .before .before .before .before .before .before .before .model .ensures .0) (c .before .before .before .before .before .before .before .before .before .before .before .before .before .before .before .before .model2 .ensures .0), p .0 .laid .within .unknowns), omega (arith, run-name (a .f .now) (a .s) (p .0) (a .m) (p .1) (c .before .before .before .before .before .before .before .before .before .before .before .before .before .before .before .before .before .model .result) (c .before .before .before .before .before .before .before .before .before .before .before .before .before .before .before .before .model2 .result) (c .before .before .before .before .before .before .before .before .before .before .before .before .before .before .before .before .before .model .ensures .0) (c .before .before .before .before .before .before .before .before .before .before .before .before .before .before .before .before .model2 .ensures .0) (c .before .before .before .before .before .before .before .loop .i) (c .before .before .before .before .before .unknown .result) (omega arith) (c .before .before .before .before .before .unknown .ensures .0) .1, p .0 .laid .within .names))
+    let model = c .before .before .before .before .before .before .before .before .before .before .before .before .before .before .before .before .before .model in
+    let model2 = c .before .before .before .before .before .before .before .before .before .before .before .before .before .before .before .before .model2 in
+    let loop = c .before .before .before .before .before .before .before .loop in
+    let unknown = c .before .before .before .before .before .unknown in
+    (loop .inv .2 .0, omega (arith, run-within (a .f .now) (a .s) (p .0) (a .m) (p .1) (model .result) (model2 .result) (model .ensures .0) (model2 .ensures .0), p .0 .laid .within .unknowns), omega (arith, run-name (a .f .now) (a .s) (p .0) (a .m) (p .1) (model .result) (model2 .result) (model .ensures .0) (model2 .ensures .0) (loop .i) (unknown .result) (omega arith) (unknown .ensures .0) .1, p .0 .laid .within .names))
 
 add-i : tie.Need-add-i Inv-loop μ-loop
 add-i c = omega arith
@@ -81,12 +92,16 @@ loop-again : tie.Need-loop-again Inv-loop μ-loop
 loop-again c =
     let a = c .before .before .before .before .before .before .before .before .before .before .before .before .before .before .before .before .before .before .before .args in
     let p = c .before .before .before .before .before .before .before .before .before .before .before .before .before .before .before .before .before .before .before .pre in
-    let n = run-name (a .f .now) (a .s) (p .0) (a .m) (p .1) (c .before .before .before .before .before .before .before .before .before .before .before .before .before .before .before .model .result) (c .before .before .before .before .before .before .before .before .before .before .before .before .before .before .model2 .result) (c .before .before .before .before .before .before .before .before .before .before .before .before .before .before .before .model .ensures .0) (c .before .before .before .before .before .before .before .before .before .before .before .before .before .before .model2 .ensures .0) (c .before .before .before .before .before .loop .i) (c .before .before .before .unknown .result) (omega arith) (c .before .before .before .unknown .ensures .0) in
-    let l : c .before .before .before .before .before .loop .i < length (unknownsIn (a .f .now) (a .s) (a .m)) = omega (arith, run-count (a .f .now) (a .s) (p .0) (a .m) (p .1) (c .before .before .before .before .before .before .before .before .before .before .before .before .before .before .before .model .result) (c .before .before .before .before .before .before .before .before .before .before .before .before .before .before .model2 .result) (c .before .before .before .before .before .before .before .before .before .before .before .before .before .before .before .model .ensures .0) (c .before .before .before .before .before .before .before .before .before .before .before .before .before .before .model2 .ensures .0)) in
-    let q = reserved-in (a .f .now) (a .s) (a .classes .now) (p .0) (p .2) (c .before .before .before .unknown .result) (n .1) in
+    let model = c .before .before .before .before .before .before .before .before .before .before .before .before .before .before .before .model in
+    let model2 = c .before .before .before .before .before .before .before .before .before .before .before .before .before .before .model2 in
+    let loop = c .before .before .before .before .before .loop in
+    let unknown = c .before .before .before .unknown in
+    let n = run-name (a .f .now) (a .s) (p .0) (a .m) (p .1) (model .result) (model2 .result) (model .ensures .0) (model2 .ensures .0) (loop .i) (unknown .result) (omega arith) (unknown .ensures .0) in
+    let l : loop .i < length (unknownsIn (a .f .now) (a .s) (a .m)) = omega (arith, run-count (a .f .now) (a .s) (p .0) (a .m) (p .1) (model .result) (model2 .result) (model .ensures .0) (model2 .ensures .0)) in
+    let q = reserved-in (a .f .now) (a .s) (a .classes .now) (p .0) (p .2) (unknown .result) (n .1) in
     ⊎-elim
-    (λ w. rw (w .8, w .9, w .10) (omega arith, omega (arith, w .3 .ensures .1), roster-next (a .f .now) (a .s) (a .m) (c .before .before .before .before .before .loop .i) (c .before .before .before .unknown .result) (rostered (c .before .before .before .before .before .loop .vars) (c .before .before .before .before .before .loop .names) (c .before .before .before .before .before .loop .numbers)) (c .before .before .before .before .before .loop .inv .2 .1) l (n .0) _ (sym q ∙ sym (c .before .is-reserved .ensures) ∙ not-true _ (w .0 .taken)) (w .3 .ensures .0)))
-    (λ w. rw (w .1, w .2, w .3) (omega arith, omega arith, roster-pass (a .f .now) (a .s) (a .m) (c .before .before .before .before .before .loop .i) (c .before .before .before .unknown .result) (rostered (c .before .before .before .before .before .loop .vars) (c .before .before .before .before .before .loop .names) (c .before .before .before .before .before .loop .numbers)) (c .before .before .before .before .before .loop .inv .2 .1) l (n .0) (sym q ∙ sym (c .before .is-reserved .ensures) ∙ not-false _ (w .0 .left)) (c .before .before .before .before .before .loop .inv .2 .0)))
+    (λ w. rw (w .8, w .9, w .10) (omega arith, omega (arith, w .3 .ensures .1), roster-next (a .f .now) (a .s) (a .m) (loop .i) (unknown .result) (rostered (loop .vars) (loop .names) (loop .numbers)) (loop .inv .2 .1) l (n .0) _ (sym q ∙ sym (c .before .is-reserved .ensures) ∙ not-true _ (w .0 .taken)) (w .3 .ensures .0)))
+    (λ w. rw (w .1, w .2, w .3) (omega arith, omega arith, roster-pass (a .f .now) (a .s) (a .m) (loop .i) (unknown .result) (rostered (loop .vars) (loop .names) (loop .numbers)) (loop .inv .2 .1) l (n .0) (sym q ∙ sym (c .before .is-reserved .ensures) ∙ not-false _ (w .0 .left)) (loop .inv .2 .0)))
     (c .if1 .came)
 
 same-length : tie.Need-same-length Inv-loop μ-loop
@@ -103,7 +118,9 @@ returns : tie.Need-returns Inv-loop μ-loop
 returns c =
     let a = c .before .before .before .before .before .before .before .before .before .before .before .before .before .before .before .args in
     let p = c .before .before .before .before .before .before .before .before .before .before .before .before .before .before .before .pre in
-    roster-last (a .f .now) (a .s) (a .m) (c .before .loop .i) (rostered (c .before .loop .vars) (c .before .loop .names) (c .before .loop .numbers)) (c .before .loop .inv .2 .0) (c .before .loop .inv .2 .1) (omega (arith, run-count (a .f .now) (a .s) (p .0) (a .m) (p .1) (c .before .before .before .before .before .before .before .before .before .before .before .model .result) (c .before .before .before .before .before .before .before .before .before .before .model2 .result) (c .before .before .before .before .before .before .before .before .before .before .before .model .ensures .0) (c .before .before .before .before .before .before .before .before .before .before .model2 .ensures .0)))
+    let model = c .before .before .before .before .before .before .before .before .before .before .before .model in
+    let model2 = c .before .before .before .before .before .before .before .before .before .before .model2 in
+    roster-last (a .f .now) (a .s) (a .m) (c .before .loop .i) (rostered (c .before .loop .vars) (c .before .loop .names) (c .before .loop .numbers)) (c .before .loop .inv .2 .0) (c .before .loop .inv .2 .1) (omega (arith, run-count (a .f .now) (a .s) (p .0) (a .m) (p .1) (model .result) (model2 .result) (model .ensures .0) (model2 .ensures .0)))
 
 pub roster-of-spec : {M : Type 1} → statement M
 roster-of-spec =

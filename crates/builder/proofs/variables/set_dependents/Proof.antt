@@ -36,24 +36,30 @@ add-put-named-deps : tie.Need-add-put-named-deps Inv-loop μ-loop
 add-put-named-deps c =
     let a = c .before .before .before .before .before .before .before .args in
     let p = c .before .before .before .before .before .before .before .pre in
-    omega (arith, run-within (a .f .now) (a .s) (p .0) (a .m) (p .1) (c .before .before .before .model .result) (c .before .before .model2 .result) (c .before .before .before .model .ensures .0) (c .before .before .model2 .ensures .0), p .0 .laid .within .unknowns)
+    let model = c .before .before .before .model in
+    omega (arith, run-within (a .f .now) (a .s) (p .0) (a .m) (p .1) (model .result) (c .before .before .model2 .result) (model .ensures .0) (c .before .before .model2 .ensures .0), p .0 .laid .within .unknowns)
 
 put-named-deps-requires : tie.Need-put-named-deps-requires Inv-loop μ-loop
 unfolding keptDeps ofNamed
 put-named-deps-requires c κs =
     let a = c .before .before .before .before .before .before .before .before .args in
     let p = c .before .before .before .before .before .before .before .before .pre in
-    let b : c .before .before .before .before .model .result + c .before .before .loop .i < a .s .counts .unknowns = omega (arith, run-within (a .f .now) (a .s) (p .0) (a .m) (p .1) (c .before .before .before .before .model .result) (c .before .before .before .model2 .result) (c .before .before .before .before .model .ensures .0) (c .before .before .before .model2 .ensures .0)) in
-    let q = named-kept (rosterIn (a .f .now) (a .s) (a .m)) (a .numbers .now) (a .name) (unknownIn (a .f .now) (a .s) (c .before .before .before .before .model .result + c .before .before .loop .i)) (p .2) (λ j l. omega (arith, unknown-deps-below (a .f .now) (a .s) (p .0) (c .before .before .before .before .model .result + c .before .before .loop .i) b j l, p .0 .laid .within .names)) in
-    let n : c .before .before .loop .i < length (unknownsIn (a .f .now) (a .s) (a .m)) = omega (arith, run-count (a .f .now) (a .s) (p .0) (a .m) (p .1) (c .before .before .before .before .model .result) (c .before .before .before .model2 .result) (c .before .before .before .before .model .ensures .0) (c .before .before .before .model2 .ensures .0)) in
-    let u = run-unknown (a .f .now) (a .s) (p .0) (a .m) (p .1) (c .before .before .before .before .model .result) (c .before .before .before .model2 .result) (c .before .before .before .before .model .ensures .0) (c .before .before .before .model2 .ensures .0) (c .before .before .loop .i) (omega arith) in
-    (p .0, b, p .3, rw q (runs-room (ofNamed (rosterIn (a .f .now) (a .s) (a .m)) (a .name)) (unknownsIn (a .f .now) (a .s) (a .m)) (a .out .now) (a .done) (p .4) (c .before .before .loop .i) (c .before .before .loop .out) (c .before .before .loop .total) (c .before .before .loop .inv .1) noUnknown (unknownIn (a .f .now) (a .s) (c .before .before .before .before .model .result + c .before .before .loop .i)) n (sym u)))
+    let model = c .before .before .before .before .model in
+    let model2 = c .before .before .before .model2 in
+    let loop = c .before .before .loop in
+    let b : model .result + loop .i < a .s .counts .unknowns = omega (arith, run-within (a .f .now) (a .s) (p .0) (a .m) (p .1) (model .result) (model2 .result) (model .ensures .0) (model2 .ensures .0)) in
+    let q = named-kept (rosterIn (a .f .now) (a .s) (a .m)) (a .numbers .now) (a .name) (unknownIn (a .f .now) (a .s) (model .result + loop .i)) (p .2) (λ j l. omega (arith, unknown-deps-below (a .f .now) (a .s) (p .0) (model .result + loop .i) b j l, p .0 .laid .within .names)) in
+    let n : loop .i < length (unknownsIn (a .f .now) (a .s) (a .m)) = omega (arith, run-count (a .f .now) (a .s) (p .0) (a .m) (p .1) (model .result) (model2 .result) (model .ensures .0) (model2 .ensures .0)) in
+    let u = run-unknown (a .f .now) (a .s) (p .0) (a .m) (p .1) (model .result) (model2 .result) (model .ensures .0) (model2 .ensures .0) (loop .i) (omega arith) in
+    (p .0, b, p .3, rw q (runs-room (ofNamed (rosterIn (a .f .now) (a .s) (a .m)) (a .name)) (unknownsIn (a .f .now) (a .s) (a .m)) (a .out .now) (a .done) (p .4) (loop .i) (loop .out) (loop .total) (loop .inv .1) noUnknown (unknownIn (a .f .now) (a .s) (model .result + loop .i)) n (sym u)))
 
 add-i : tie.Need-add-i Inv-loop μ-loop
 add-i c =
     let a = c .before .before .before .before .before .before .before .before .before .before .before .args in
     let p = c .before .before .before .before .before .before .before .before .before .before .before .pre in
-    omega (arith, run-within (a .f .now) (a .s) (p .0) (a .m) (p .1) (c .before .before .before .before .before .before .before .model .result) (c .before .before .before .before .before .before .model2 .result) (c .before .before .before .before .before .before .before .model .ensures .0) (c .before .before .before .before .before .before .model2 .ensures .0), p .0 .laid .within .unknowns)
+    let model = c .before .before .before .before .before .before .before .model in
+    let model2 = c .before .before .before .before .before .before .model2 in
+    omega (arith, run-within (a .f .now) (a .s) (p .0) (a .m) (p .1) (model .result) (model2 .result) (model .ensures .0) (model2 .ensures .0), p .0 .laid .within .unknowns)
 
 loop-less : tie.Need-loop-less Inv-loop μ-loop
 loop-less c = omega arith
@@ -63,11 +69,15 @@ unfolding keptDeps ofNamed
 loop-again c =
     let a = c .before .before .before .before .before .before .before .before .before .before .before .args in
     let p = c .before .before .before .before .before .before .before .before .before .before .before .pre in
-    let b : c .before .before .before .before .before .before .before .model .result + c .before .before .before .before .before .loop .i < a .s .counts .unknowns = omega (arith, run-within (a .f .now) (a .s) (p .0) (a .m) (p .1) (c .before .before .before .before .before .before .before .model .result) (c .before .before .before .before .before .before .model2 .result) (c .before .before .before .before .before .before .before .model .ensures .0) (c .before .before .before .before .before .before .model2 .ensures .0)) in
-    let q = named-kept (rosterIn (a .f .now) (a .s) (a .m)) (a .numbers .now) (a .name) (unknownIn (a .f .now) (a .s) (c .before .before .before .before .before .before .before .model .result + c .before .before .before .before .before .loop .i)) (p .2) (λ j l. omega (arith, unknown-deps-below (a .f .now) (a .s) (p .0) (c .before .before .before .before .before .before .before .model .result + c .before .before .before .before .before .loop .i) b j l, p .0 .laid .within .names)) in
-    let n : c .before .before .before .before .before .loop .i < length (unknownsIn (a .f .now) (a .s) (a .m)) = omega (arith, run-count (a .f .now) (a .s) (p .0) (a .m) (p .1) (c .before .before .before .before .before .before .before .model .result) (c .before .before .before .before .before .before .model2 .result) (c .before .before .before .before .before .before .before .model .ensures .0) (c .before .before .before .before .before .before .model2 .ensures .0)) in
-    let u = run-unknown (a .f .now) (a .s) (p .0) (a .m) (p .1) (c .before .before .before .before .before .before .before .model .result) (c .before .before .before .before .before .before .model2 .result) (c .before .before .before .before .before .before .before .model .ensures .0) (c .before .before .before .before .before .before .model2 .ensures .0) (c .before .before .before .before .before .loop .i) (omega arith) in
-    (omega arith, runs-next (ofNamed (rosterIn (a .f .now) (a .s) (a .m)) (a .name)) (unknownsIn (a .f .now) (a .s) (a .m)) (a .out .now) (a .done) (p .4) (c .before .before .before .before .before .loop .i) (c .before .before .before .before .before .loop .out) (c .before .before .before .before .before .loop .total) (c .before .before .before .before .before .loop .inv .1) noUnknown (unknownIn (a .f .now) (a .s) (c .before .before .before .before .before .before .before .model .result + c .before .before .before .before .before .loop .i)) _ (c .before .before .put-named-deps .result) n (sym u) (rw q at (c .before .before .put-named-deps .ensures .0)) (rw q at (c .before .before .put-named-deps .ensures .1)))
+    let model = c .before .before .before .before .before .before .before .model in
+    let model2 = c .before .before .before .before .before .before .model2 in
+    let loop = c .before .before .before .before .before .loop in
+    let put-named-deps = c .before .before .put-named-deps in
+    let b : model .result + loop .i < a .s .counts .unknowns = omega (arith, run-within (a .f .now) (a .s) (p .0) (a .m) (p .1) (model .result) (model2 .result) (model .ensures .0) (model2 .ensures .0)) in
+    let q = named-kept (rosterIn (a .f .now) (a .s) (a .m)) (a .numbers .now) (a .name) (unknownIn (a .f .now) (a .s) (model .result + loop .i)) (p .2) (λ j l. omega (arith, unknown-deps-below (a .f .now) (a .s) (p .0) (model .result + loop .i) b j l, p .0 .laid .within .names)) in
+    let n : loop .i < length (unknownsIn (a .f .now) (a .s) (a .m)) = omega (arith, run-count (a .f .now) (a .s) (p .0) (a .m) (p .1) (model .result) (model2 .result) (model .ensures .0) (model2 .ensures .0)) in
+    let u = run-unknown (a .f .now) (a .s) (p .0) (a .m) (p .1) (model .result) (model2 .result) (model .ensures .0) (model2 .ensures .0) (loop .i) (omega arith) in
+    (omega arith, runs-next (ofNamed (rosterIn (a .f .now) (a .s) (a .m)) (a .name)) (unknownsIn (a .f .now) (a .s) (a .m)) (a .out .now) (a .done) (p .4) (loop .i) (loop .out) (loop .total) (loop .inv .1) noUnknown (unknownIn (a .f .now) (a .s) (model .result + loop .i)) _ (put-named-deps .result) n (sym u) (rw q at (put-named-deps .ensures .0)) (rw q at (put-named-deps .ensures .1)))
 
 same-length : tie.Need-same-length Inv-loop μ-loop
 unfolding keptDeps ofNamed
@@ -81,7 +91,8 @@ unfolding keptDeps ofNamed
 returns c =
     let a = c .before .before .before .before .before .before .before .args in
     let p = c .before .before .before .before .before .before .before .pre in
-    runs-last (ofNamed (rosterIn (a .f .now) (a .s) (a .m)) (a .name)) (unknownsIn (a .f .now) (a .s) (a .m)) (a .out .now) (a .done) (p .4) (c .before .loop .i) (c .before .loop .out) (c .before .loop .total) (c .before .loop .inv .1) (omega (arith, run-count (a .f .now) (a .s) (p .0) (a .m) (p .1) (c .before .before .before .model .result) (c .before .before .model2 .result) (c .before .before .before .model .ensures .0) (c .before .before .model2 .ensures .0)))
+    let model = c .before .before .before .model in
+    runs-last (ofNamed (rosterIn (a .f .now) (a .s) (a .m)) (a .name)) (unknownsIn (a .f .now) (a .s) (a .m)) (a .out .now) (a .done) (p .4) (c .before .loop .i) (c .before .loop .out) (c .before .loop .total) (c .before .loop .inv .1) (omega (arith, run-count (a .f .now) (a .s) (p .0) (a .m) (p .1) (model .result) (c .before .before .model2 .result) (model .ensures .0) (c .before .before .model2 .ensures .0)))
 
 pub set-dependents-spec : {M : Type 1} → statement M
 set-dependents-spec =

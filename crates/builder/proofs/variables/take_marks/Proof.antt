@@ -34,7 +34,8 @@ loop-less c = omega arith
 loop-again : tie.Need-loop-again Inv-loop μ-loop
 loop-again c =
     let a = c .before .before .before .before .before .args in
-    (omega arith, taken-more (a .table .now) (a .next .now) (c .before .before .before .before .loop .v) (c .before .before .before .before .loop .changed) (c .before .before .before .before .loop .table) (omega arith) (c .before .before .before .before .loop .inv .1))
+    let loop = c .before .before .before .before .loop in
+    (omega arith, taken-more (a .table .now) (a .next .now) (loop .v) (loop .changed) (loop .table) (omega arith) (loop .inv .1))
 
 same-length : tie.Need-same-length Inv-loop μ-loop
 same-length c = c .before .loop .inv .1 .filled .long

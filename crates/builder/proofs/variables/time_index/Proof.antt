@@ -34,7 +34,8 @@ sub-result c = omega arith
 returns : tie.Need-returns Inv-loop μ-loop
 returns c =
     let a = c .before .before .before .before .before .args in
-    sym (ap plusOne (c .before .before .before .loop .inv .2) ∙ time-found (a .deps .now) (a .first) (a .end) (c .before .before .before .loop .i) (omega arith) (omega arith) (omega arith) (sym (c .before .read-word .ensures) ∙ c .if1 .taken))
+    let loop = c .before .before .before .loop in
+    sym (ap plusOne (loop .inv .2) ∙ time-found (a .deps .now) (a .first) (a .end) (loop .i) (omega arith) (omega arith) (omega arith) (sym (c .before .read-word .ensures) ∙ c .if1 .taken))
 
 sub-i : tie.Need-sub-i Inv-loop μ-loop
 sub-i c = omega arith
@@ -45,7 +46,8 @@ loop-less c = omega arith
 loop-again : tie.Need-loop-again Inv-loop μ-loop
 loop-again c =
     let a = c .before .before .before .before .before .args in
-    (omega arith, omega arith, c .before .before .before .loop .inv .2 ∙ time-passed (a .deps .now) (a .first) (a .end) (c .before .before .before .loop .i) (omega arith) (omega arith) (omega arith) (λ e. c .if1 .left (c .before .read-word .ensures ∙ e)))
+    let loop = c .before .before .before .loop in
+    (omega arith, omega arith, loop .inv .2 ∙ time-passed (a .deps .now) (a .first) (a .end) (loop .i) (omega arith) (omega arith) (omega arith) (λ e. c .if1 .left (c .before .read-word .ensures ∙ e)))
 
 returns-2 : tie.Need-returns-2 Inv-loop μ-loop
 returns-2 c =

@@ -28,8 +28,9 @@ add-result c = omega arith
 returns : tie.Need-returns Inv-loop μ-loop
 returns c =
     let a = c .before .before .before .before .before .args in
-    let h : 0 < a .count - c .before .before .before .before .loop .n = omega arith in
-    (sym (c .before .before .before .before .loop .inv .1 ∙ zero-here (a .classes .now) (c .before .before .before .before .loop .n) (a .count - c .before .before .before .before .loop .n) h (sym (c .before .is-time .ensures) ∙ c .if1 .taken)), omega arith)
+    let loop = c .before .before .before .before .loop in
+    let h : 0 < a .count - loop .n = omega arith in
+    (sym (loop .inv .1 ∙ zero-here (a .classes .now) (loop .n) (a .count - loop .n) h (sym (c .before .is-time .ensures) ∙ c .if1 .taken)), omega arith)
 
 add-n : tie.Need-add-n Inv-loop μ-loop
 add-n c = omega arith
@@ -40,9 +41,10 @@ loop-less c = omega arith
 loop-again : tie.Need-loop-again Inv-loop μ-loop
 loop-again c =
     let a = c .before .before .before .before .before .args in
-    let h : 0 < a .count - c .before .before .before .before .loop .n = omega arith in
-    let e : a .count - c .before .before .before .before .loop .n - 1 ≡ a .count - (c .before .before .before .before .loop .n + 1) = omega arith in
-    (omega arith, rw e at (c .before .before .before .before .loop .inv .1 ∙ zero-on (a .classes .now) (c .before .before .before .before .loop .n) (a .count - c .before .before .before .before .loop .n) h (sym (c .before .is-time .ensures) ∙ c .if1 .left)))
+    let loop = c .before .before .before .before .loop in
+    let h : 0 < a .count - loop .n = omega arith in
+    let e : a .count - loop .n - 1 ≡ a .count - (loop .n + 1) = omega arith in
+    (omega arith, rw e at (loop .inv .1 ∙ zero-on (a .classes .now) (loop .n) (a .count - loop .n) h (sym (c .before .is-time .ensures) ∙ c .if1 .left)))
 
 returns-2 : tie.Need-returns-2 Inv-loop μ-loop
 returns-2 c =

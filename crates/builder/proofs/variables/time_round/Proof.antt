@@ -48,8 +48,9 @@ reaches-time-requires : tie.Need-reaches-time-requires Inv-loop μ-loop
 reaches-time-requires c κs =
     let a = c .before .before .before .before .before .before .before .args in
     let p = c .before .before .before .before .before .before .before .pre in
-    let l : c .before .before .before .loop .v < a .vars = omega arith in
-    (p .0 .rise (c .before .before .before .loop .v) l, p .0 .within (c .before .before .before .loop .v) l, unfold nextIn in all-wider (a .vars) 129 (nextIn (a .starts .now) (a .deps .now) (c .before .before .before .loop .v)) (p .0 .few) (p .0 .below (c .before .before .before .loop .v) l), p .2)
+    let loop = c .before .before .before .loop in
+    let l : loop .v < a .vars = omega arith in
+    (p .0 .rise (loop .v) l, p .0 .within (loop .v) l, unfold nextIn in all-wider (a .vars) 129 (nextIn (a .starts .now) (a .deps .now) (loop .v)) (p .0 .few) (p .0 .below (loop .v) l), p .2)
 
 mark-requires : tie.Need-mark-requires Inv-loop μ-loop
 mark-requires c κs = tt
@@ -66,7 +67,8 @@ loop-less c = omega arith
 loop-again : tie.Need-loop-again Inv-loop μ-loop
 loop-again c =
     let a = c .before .before .before .before .before .before .before .before .before .args in
-    (omega arith, simp length-set (c .before .before .before .before .before .loop .inv .1), round-more (a .starts .now) (a .deps .now) (a .vars) (a .old .now) (c .before .before .before .before .before .loop .new) (c .before .before .before .before .before .loop .v) (c .mark .result) (omega (arith, c .before .before .before .before .before .loop .inv .1, c .before .before .before .before .before .before .before .before .before .pre .0 .few)) (unfold nextIn in c .mark .ensures ∙ ap flag (c .before .reaches-time .ensures)) (c .before .before .before .before .before .loop .inv .2))
+    let loop = c .before .before .before .before .before .loop in
+    (omega arith, simp length-set (loop .inv .1), round-more (a .starts .now) (a .deps .now) (a .vars) (a .old .now) (loop .new) (loop .v) (c .mark .result) (omega (arith, loop .inv .1, c .before .before .before .before .before .before .before .before .before .pre .0 .few)) (unfold nextIn in c .mark .ensures ∙ ap flag (c .before .reaches-time .ensures)) (loop .inv .2))
 
 returns : tie.Need-returns Inv-loop μ-loop
 returns c =

@@ -41,14 +41,17 @@ set-dependents-requires : tie.Need-set-dependents-requires Inv-loop μ-loop
 set-dependents-requires c κs =
     let a = c .before .before .before .before .before .before .before .before .before .args in
     let p = c .before .before .before .before .before .before .before .before .before .pre in
-    (p .0, p .1, p .2 .numbers, p .2 .every, runs-room (keptDeps (rosterIn (a .f .now) (a .s) (a .m)) (unknownsIn (a .f .now) (a .s) (a .m))) (rosterIn (a .f .now) (a .s) (a .m)) (a .out .now) 0 (omega (arith, kept-few (a .f .now) (a .s) (p .0) (a .m))) (c .before .before .before .loop .v) (c .before .before .before .loop .out) (c .before .before .before .loop .total) (c .before .before .before .loop .inv .1) 0 (getD (a .names .now) (c .before .before .before .loop .v) 0) (omega (arith, p .2 .count)) (listing-name (rosterIn (a .f .now) (a .s) (a .m)) (rostered (a .count) (a .names .now) (a .numbers .now)) (p .2) (c .before .before .before .loop .v) (omega arith)))
+    let loop = c .before .before .before .loop in
+    (p .0, p .1, p .2 .numbers, p .2 .every, runs-room (keptDeps (rosterIn (a .f .now) (a .s) (a .m)) (unknownsIn (a .f .now) (a .s) (a .m))) (rosterIn (a .f .now) (a .s) (a .m)) (a .out .now) 0 (omega (arith, kept-few (a .f .now) (a .s) (p .0) (a .m))) (loop .v) (loop .out) (loop .total) (loop .inv .1) 0 (getD (a .names .now) (loop .v) 0) (omega (arith, p .2 .count)) (listing-name (rosterIn (a .f .now) (a .s) (a .m)) (rostered (a .count) (a .names .now) (a .numbers .now)) (p .2) (loop .v) (omega arith)))
 
 cast-starts : tie.Need-cast-starts Inv-loop μ-loop
 cast-starts c =
     let a = c .before .before .before .before .before .before .before .before .before .before .before .before .args in
     let p = c .before .before .before .before .before .before .before .before .before .before .before .before .pre in
-    let n = runs-next (keptDeps (rosterIn (a .f .now) (a .s) (a .m)) (unknownsIn (a .f .now) (a .s) (a .m))) (rosterIn (a .f .now) (a .s) (a .m)) (a .out .now) 0 (omega (arith, kept-few (a .f .now) (a .s) (p .0) (a .m))) (c .before .before .before .before .before .before .loop .v) (c .before .before .before .before .before .before .loop .out) (c .before .before .before .before .before .before .loop .total) (c .before .before .before .before .before .before .loop .inv .1) 0 (getD (a .names .now) (c .before .before .before .before .before .before .loop .v) 0) _ (c .before .before .set-dependents .result) (omega (arith, p .2 .count)) (listing-name (rosterIn (a .f .now) (a .s) (a .m)) (rostered (a .count) (a .names .now) (a .numbers .now)) (p .2) (c .before .before .before .before .before .before .loop .v) (omega arith)) (c .before .before .set-dependents .ensures .0) (c .before .before .set-dependents .ensures .1) in
-    omega (arith, runs-few (keptDeps (rosterIn (a .f .now) (a .s) (a .m)) (unknownsIn (a .f .now) (a .s) (a .m))) (rosterIn (a .f .now) (a .s) (a .m)) (a .out .now) 0 (omega (arith, kept-few (a .f .now) (a .s) (p .0) (a .m))) (c .before .before .before .before .before .before .loop .v + 1) _ (c .before .before .set-dependents .result) n, kept-few (a .f .now) (a .s) (p .0) (a .m))
+    let loop = c .before .before .before .before .before .before .loop in
+    let set-dependents = c .before .before .set-dependents in
+    let n = runs-next (keptDeps (rosterIn (a .f .now) (a .s) (a .m)) (unknownsIn (a .f .now) (a .s) (a .m))) (rosterIn (a .f .now) (a .s) (a .m)) (a .out .now) 0 (omega (arith, kept-few (a .f .now) (a .s) (p .0) (a .m))) (loop .v) (loop .out) (loop .total) (loop .inv .1) 0 (getD (a .names .now) (loop .v) 0) _ (set-dependents .result) (omega (arith, p .2 .count)) (listing-name (rosterIn (a .f .now) (a .s) (a .m)) (rostered (a .count) (a .names .now) (a .numbers .now)) (p .2) (loop .v) (omega arith)) (set-dependents .ensures .0) (set-dependents .ensures .1) in
+    omega (arith, runs-few (keptDeps (rosterIn (a .f .now) (a .s) (a .m)) (unknownsIn (a .f .now) (a .s) (a .m))) (rosterIn (a .f .now) (a .s) (a .m)) (a .out .now) 0 (omega (arith, kept-few (a .f .now) (a .s) (p .0) (a .m))) (loop .v + 1) _ (set-dependents .result) n, kept-few (a .f .now) (a .s) (p .0) (a .m))
 
 add-starts : tie.Need-add-starts Inv-loop μ-loop
 add-starts c =
@@ -77,9 +80,11 @@ loop-again : tie.Need-loop-again Inv-loop μ-loop
 loop-again c =
     let a = c .before .before .before .before .before .before .before .before .before .before .before .before .args in
     let p = c .before .before .before .before .before .before .before .before .before .before .before .before .pre in
-    let n = runs-next (keptDeps (rosterIn (a .f .now) (a .s) (a .m)) (unknownsIn (a .f .now) (a .s) (a .m))) (rosterIn (a .f .now) (a .s) (a .m)) (a .out .now) 0 (omega (arith, kept-few (a .f .now) (a .s) (p .0) (a .m))) (c .before .before .before .before .before .before .loop .v) (c .before .before .before .before .before .before .loop .out) (c .before .before .before .before .before .before .loop .total) (c .before .before .before .before .before .before .loop .inv .1) 0 (getD (a .names .now) (c .before .before .before .before .before .before .loop .v) 0) _ (c .before .before .set-dependents .result) (omega (arith, p .2 .count)) (listing-name (rosterIn (a .f .now) (a .s) (a .m)) (rostered (a .count) (a .names .now) (a .numbers .now)) (p .2) (c .before .before .before .before .before .before .loop .v) (omega arith)) (c .before .before .set-dependents .ensures .0) (c .before .before .set-dependents .ensures .1) in
-    let k : c .before .before .before .before .before .before .loop .v + 1 < length (c .before .before .before .before .before .before .loop .starts) = omega (arith, p .2 .few, c .before .before .before .before .before .before .loop .inv .2) in
-    (omega arith, n, simp length-set (c .before .before .before .before .before .before .loop .inv .2), starts-next (rosterIn (a .f .now) (a .s) (a .m)) (keptDeps (rosterIn (a .f .now) (a .s) (a .m)) (unknownsIn (a .f .now) (a .s) (a .m))) (c .before .before .before .before .before .before .loop .starts) (c .before .before .before .before .before .before .loop .v) (c .before .before .set-dependents .result) k (omega (arith, n .sum)) (c .before .before .before .before .before .before .loop .inv .3))
+    let loop = c .before .before .before .before .before .before .loop in
+    let set-dependents = c .before .before .set-dependents in
+    let n = runs-next (keptDeps (rosterIn (a .f .now) (a .s) (a .m)) (unknownsIn (a .f .now) (a .s) (a .m))) (rosterIn (a .f .now) (a .s) (a .m)) (a .out .now) 0 (omega (arith, kept-few (a .f .now) (a .s) (p .0) (a .m))) (loop .v) (loop .out) (loop .total) (loop .inv .1) 0 (getD (a .names .now) (loop .v) 0) _ (set-dependents .result) (omega (arith, p .2 .count)) (listing-name (rosterIn (a .f .now) (a .s) (a .m)) (rostered (a .count) (a .names .now) (a .numbers .now)) (p .2) (loop .v) (omega arith)) (set-dependents .ensures .0) (set-dependents .ensures .1) in
+    let k : loop .v + 1 < length (loop .starts) = omega (arith, p .2 .few, loop .inv .2) in
+    (omega arith, n, simp length-set (loop .inv .2), starts-next (rosterIn (a .f .now) (a .s) (a .m)) (keptDeps (rosterIn (a .f .now) (a .s) (a .m)) (unknownsIn (a .f .now) (a .s) (a .m))) (loop .starts) (loop .v) (set-dependents .result) k (omega (arith, n .sum)) (loop .inv .3))
 
 same-length : tie.Need-same-length Inv-loop μ-loop
 same-length c =

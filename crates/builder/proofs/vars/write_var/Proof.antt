@@ -82,9 +82,10 @@ unfolding stmtsAt varsAt depsAt varWords
 returns c =
     let a = c .before .before .before .before .before .before .before .before .before .before .before .before .before .before .before .before .before .before .before .before .before .before .args in
     let p = c .before .before .before .before .before .before .before .before .before .before .before .before .before .before .before .before .before .before .before .before .before .before .pre in
-    let e : c .before .before .before .before .before .before .before .before .before .before .before .before .before .before .vars-at .result + 48 * a .v ≡ varsAt (a .z) + 48 * a .v = omega (arith, c .before .before .before .before .before .before .before .before .before .before .before .before .before .before .vars-at .ensures) in
+    let vars-at = c .before .before .before .before .before .before .before .before .before .before .before .before .before .before .vars-at in
+    let e : vars-at .result + 48 * a .v ≡ varsAt (a .z) + 48 * a .v = omega (arith, vars-at .ensures) in
     let l : varsAt (a .z) + 48 * a .v + 48 ≤ length (a .area .now) = omega (arith, p .5, p .7) in
-    lead-and-bounds (a .area .now) _ _ (c .before .before .before .before .before .before .before .before .before .before .before .before .before .before .vars-at .result + 48 * a .v) (varsAt (a .z) + 48 * a .v) _ _ _ _ _ _ _ _ _ _ e l (p .8) (p .9) (c .before .before .before .before .before .before .before .put-lead .ensures) (c .before .before .put-var-bounds .ensures)
+    lead-and-bounds (a .area .now) _ _ (vars-at .result + 48 * a .v) (varsAt (a .z) + 48 * a .v) _ _ _ _ _ _ _ _ _ _ e l (p .8) (p .9) (c .before .before .before .before .before .before .before .put-lead .ensures) (c .before .before .put-var-bounds .ensures)
 
 pub write-var-spec : {M : Type 1} → statement M
 write-var-spec =

@@ -71,11 +71,13 @@ unfolding stmtsAt varsAt depsAt
 write-var-requires c κs =
     let a = c .before .before .before .before .before .before .before .before .before .before .before .before .before .before .before .before .before .before .before .before .before .before .args in
     let p = c .before .before .before .before .before .before .before .before .before .before .before .before .before .before .before .before .before .before .before .before .before .before .pre in
-    let few : c .before .before .before .loop .v < 129 = omega (arith, c .before .if1 .taken, p .4 .vars) in
+    let note-fates = c .before .before .before .before .before .before .before .note-fates in
+    let loop = c .before .before .before .loop in
+    let few : loop .v < 129 = omega (arith, c .before .if1 .taken, p .4 .vars) in
     let k : stmtsAt (a .z) + 32 * a .z .stmts ≤ varsAt (a .z) = omega arith in
     let b : varsAt (a .z) ≤ length (a .area .now) = omega (arith, p .5) in
-    let same : section 8 (a .z .stmts) (stmtsAt (a .z)) (c .before .before .before .loop .area) ≡ section 8 (a .z .stmts) (stmtsAt (a .z)) (a .area .now) = ap (section 8 (a .z .stmts) (stmtsAt (a .z))) (c .before .before .before .loop .inv .2) ∙ section-before (a .z .stmts) (stmtsAt (a .z)) (a .area .now) _ (varsAt (a .z)) k b in
-    (p .0, p .1, p .2, p .3, p .4, omega (arith, p .5, c .before .before .before .loop .inv .1), p .6, c .before .if1 .taken, rw same (c .before .before .before .before .before .before .before .note-fates .ensures .held-of (c .before .before .before .loop .v) few), rw same (c .before .before .before .before .before .before .before .note-fates .ensures .conditions-of (c .before .before .before .loop .v) few))
+    let same : section 8 (a .z .stmts) (stmtsAt (a .z)) (loop .area) ≡ section 8 (a .z .stmts) (stmtsAt (a .z)) (a .area .now) = ap (section 8 (a .z .stmts) (stmtsAt (a .z))) (loop .inv .2) ∙ section-before (a .z .stmts) (stmtsAt (a .z)) (a .area .now) _ (varsAt (a .z)) k b in
+    (p .0, p .1, p .2, p .3, p .4, omega (arith, p .5, loop .inv .1), p .6, c .before .if1 .taken, rw same (note-fates .ensures .held-of (loop .v) few), rw same (note-fates .ensures .conditions-of (loop .v) few))
 
 add-v : tie.Need-add-v Inv-loop μ-loop
 add-v c = omega (arith, c .before .before .before .before .if1 .taken, c .before .before .before .before .before .before .before .before .before .before .before .before .before .before .before .before .before .before .before .before .before .before .before .before .before .pre .4 .vars)
@@ -88,11 +90,13 @@ unfolding stmtsAt varsAt depsAt
 loop-again c =
     let a = c .before .before .before .before .before .before .before .before .before .before .before .before .before .before .before .before .before .before .before .before .before .before .before .before .before .args in
     let p = c .before .before .before .before .before .before .before .before .before .before .before .before .before .before .before .before .before .before .before .before .before .before .before .before .before .pre in
-    let l : varsAt (a .z) + 48 * c .before .before .before .before .before .before .loop .v ≤ length (a .area .now) = omega (arith, p .5, c .before .before .before .before .if1 .taken) in
+    let loop = c .before .before .before .before .before .before .loop in
+    let if1 = c .before .before .before .before .if1 in
+    let l : varsAt (a .z) + 48 * loop .v ≤ length (a .area .now) = omega (arith, p .5, if1 .taken) in
     let k : stmtsAt (a .z) + 32 * a .z .stmts ≤ varsAt (a .z) = omega arith in
     let b : varsAt (a .z) ≤ length (a .area .now) = omega (arith, l) in
-    let same : section 8 (a .z .stmts) (stmtsAt (a .z)) (c .before .before .before .before .before .before .loop .area) ≡ section 8 (a .z .stmts) (stmtsAt (a .z)) (a .area .now) = ap (section 8 (a .z .stmts) (stmtsAt (a .z))) (c .before .before .before .before .before .before .loop .inv .2) ∙ section-before (a .z .stmts) (stmtsAt (a .z)) (a .area .now) _ (varsAt (a .z)) k b in
-    (omega (arith, c .before .before .before .before .if1 .taken), c .before .before .write-var .kept .1 .1 .1 .1 .0 ∙ c .before .before .before .before .before .before .loop .inv .1, c .before .before .write-var .ensures ∙ rw same (vars-next (fileIn (a .f .now) (a .s) .names) (modelAt (fileIn (a .f .now) (a .s)) (a .m) .unknowns) (section 8 (a .z .stmts) (stmtsAt (a .z)) (a .area .now)) (a .names .now) (a .starts .now) (a .indexes .now) (a .reach .now) (a .area .now) (c .before .before .before .before .before .before .loop .area) (varsAt (a .z)) (c .before .before .before .before .before .before .loop .v) l (c .before .before .before .before .before .before .loop .inv .2)))
+    let same : section 8 (a .z .stmts) (stmtsAt (a .z)) (loop .area) ≡ section 8 (a .z .stmts) (stmtsAt (a .z)) (a .area .now) = ap (section 8 (a .z .stmts) (stmtsAt (a .z))) (loop .inv .2) ∙ section-before (a .z .stmts) (stmtsAt (a .z)) (a .area .now) _ (varsAt (a .z)) k b in
+    (omega (arith, if1 .taken), c .before .before .write-var .kept .1 .1 .1 .1 .0 ∙ loop .inv .1, c .before .before .write-var .ensures ∙ rw same (vars-next (fileIn (a .f .now) (a .s) .names) (modelAt (fileIn (a .f .now) (a .s)) (a .m) .unknowns) (section 8 (a .z .stmts) (stmtsAt (a .z)) (a .area .now)) (a .names .now) (a .starts .now) (a .indexes .now) (a .reach .now) (a .area .now) (loop .area) (varsAt (a .z)) (loop .v) l (loop .inv .2)))
 
 same-length : tie.Need-same-length Inv-loop μ-loop
 same-length c = c .before .before .loop .inv .1
@@ -100,8 +104,9 @@ same-length c = c .before .before .loop .inv .1
 returns : tie.Need-returns Inv-loop μ-loop
 unfolding stmtsAt varsAt depsAt
 returns c =
-    let e : c .before .before .loop .v ≡ c .before .before .before .before .before .before .before .before .before .before .before .before .before .before .before .before .before .before .before .before .before .args .z .vars = omega (arith, c .before .before .loop .inv .0, c .if1 .left) in
-    rw (← e) (c .before .before .loop .inv .2)
+    let loop = c .before .before .loop in
+    let e : loop .v ≡ c .before .before .before .before .before .before .before .before .before .before .before .before .before .before .before .before .before .before .before .before .before .args .z .vars = omega (arith, loop .inv .0, c .if1 .left) in
+    rw (← e) (loop .inv .2)
 
 pub write-vars-spec : {M : Type 1} → statement M
 write-vars-spec =
