@@ -73,3 +73,15 @@ fn the_unmodified_original_notices_errors() {
         assert!(!agrees(&case, &spoiled), "byte {at}");
     }
 }
+
+/// Whether x and y get 16 and 17 hangs on the order, and with it whether there are more errors than are listed: 257 or 255.
+#[test]
+#[cfg_attr(no_source, ignore = "SKIPPED: the original source is not there")]
+fn errors_about_the_most() {
+    let many = ["q"; 253].join(" + ");
+    let stmts = format!("x = {many}; dot(q) = 1; x(0) = 1; dot(z) = 1");
+    let case = judged(&format!("model root(x(t), y(t), z(t)) {{ {stmts} }}"));
+    for _ in 0..32 {
+        assert!(agrees(&case, &case.area));
+    }
+}

@@ -13,9 +13,9 @@ pub fn compare(file: &File, root: &[u8], answer: &[u8]) -> Result<bool, String> 
     match report_unmodified(file, root)? {
         Run::Ended(Outcome::Built(mut theirs)) => {
             let mut own = report(&area).ok_or("a number of the answer does not fit")?;
-            alike(&mut own, counted);
-            let count = theirs.built.errors.len();
-            alike(&mut theirs, count);
+            let all_listed = counted.max(theirs.built.errors.len()) <= MOST_LISTED;
+            alike(&mut own, all_listed);
+            alike(&mut theirs, all_listed);
             same_up_to_order(&Outcome::Built(own), &Outcome::Built(theirs))
                 .map_err(|what| format!("the unmodified original: {what}"))?;
             Ok(true)
@@ -25,8 +25,9 @@ pub fn compare(file: &File, root: &[u8], answer: &[u8]) -> Result<bool, String> 
     }
 }
 
-/// Leaves out what cannot be compared: a NaN's payload, and where more errors came up than are listed, the last pass.
-fn alike(report: &mut Report, counted: usize) {
+/// Leaves out what cannot be compared: a NaN's payload, and where more errors came up than are listed, on either side, the
+/// last pass: how many come up in it may hang on the order.
+fn alike(report: &mut Report, all_listed: bool) {
     let built = &mut report.built;
     let bounds = built.variables.iter_mut().map(|v| &mut v.bounds);
     for bits in bounds.chain([&mut built.time]).flatten() {
@@ -34,7 +35,7 @@ fn alike(report: &mut Report, counted: usize) {
             *bits = f64::NAN.to_bits();
         }
     }
-    if counted > MOST_LISTED {
+    if !all_listed {
         let steps = |error: &Error| error.kind < 16;
         built.errors.retain(steps);
         built.errors.truncate(MOST_LISTED);
