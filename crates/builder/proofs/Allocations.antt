@@ -9,6 +9,7 @@ use native.Mathlib.Omega.{arith}
 use borrow.Author.Tests.{ltb-true}
 use lib.Dec.{eqb}
 use lib.ListN.{length, getD}
+use lib.Ieee.{Float}
 use Rattle.functions.specs.Lists.{any, each, place, plusOne, _>>=_}
 use Rattle.ast.specs.Tree.{Span, Expr, name, number, binary, unary, call, Args, Flat, equation, rate}
 use Rattle.ast.specs.Words.{wordOf}
@@ -19,8 +20,8 @@ use Rattle.definitions.specs.Check.{Scope, lookup}
 use Rattle.definitions.specs.Roles.{Start, starts, rates, free, startOf, takesRate, rateRole, rateErrors, atLower, startRole, startErrors, roleOf, roleErrors, shortFor, shortCall, shortLeft, tooShort}
 use Rattle.builder.specs.Tables.{roleNumber}
 use Rattle.builder.specs.declared.places.Sizes.{Sizes}
-use Rattle.builder.specs.Allocating.{flatAt, nodesIn, stmtIn, flatIn, flatsIn, Flattened, lessOne, entryBy, startBy, fewFor, shortCallBy, shortLeftBy, shortBy, startNumber, startErrorsBy, rateNumber, rateErrorsBy, roleBy, roleErrorsBy, Agree}
-use Rattle.builder.proofs.Flats.{flats-count, flat-at, flat-equation, flat-rate}
+use Rattle.builder.specs.Allocating.{flatAt, areaNodes, areaStmt, flatIn, flatsIn, Flattened, lessOne, entryBy, startBy, fewFor, shortCallBy, shortLeftBy, shortBy, startNumber, startErrorsBy, rateNumber, rateErrorsBy, roleBy, roleErrorsBy, Agree}
+use Rattle.builder.proofs.Flats.{same-float, flats-count, flat-at, flat-equation, flat-rate}
 use Rattle.definitions.proofs.ListLaws.{flag-one, place-below}
 
 -- A statement whose names there are.
@@ -32,15 +33,15 @@ FlatFormed names (rate n r s) = (n < names) × WellFormed names r
 pub flat-formed : (names : ℕ) (b : List ℕ) (z : Sizes) → Flattened names b z → (i : ℕ) → i < z .stmts → FlatFormed names (flatIn b z i)
 flat-formed names b z o i h = ⊎-elim (λ e. equation-formed e) (λ e. rate-formed e) (o .kind i h)
   where
-    right-formed : WellFormed names (treeAt (nodesIn b z) (wordOf (stmtIn b z i) 3))
-    right-formed = let r = o .right i h in tree-formed names (nodesIn b z) (z .nodes) (o .nodes) (wordOf (stmtIn b z i) 3) (r .0) (r .1)
+    right-formed : WellFormed names (treeAt (areaNodes b z) (wordOf (areaStmt b z i) 3))
+    right-formed = let r = o .right i h in tree-formed names (areaNodes b z) (z .nodes) (o .nodes) (wordOf (areaStmt b z i) 3) (r .0) (r .1)
 
-    equation-formed : wordOf (stmtIn b z i) 0 ≡ 1 → FlatFormed names (flatIn b z i)
+    equation-formed : wordOf (areaStmt b z i) 0 ≡ 1 → FlatFormed names (flatIn b z i)
     equation-formed e =
         let l = o .left i h e in
-        rw (flat-equation b z i e) (tree-formed names (nodesIn b z) (z .nodes) (o .nodes) (wordOf (stmtIn b z i) 2) (l .0) (l .1), right-formed)
+        rw (flat-equation b z i e) (tree-formed names (areaNodes b z) (z .nodes) (o .nodes) (wordOf (areaStmt b z i) 2) (l .0) (l .1), right-formed)
 
-    rate-formed : wordOf (stmtIn b z i) 0 ≡ 2 → FlatFormed names (flatIn b z i)
+    rate-formed : wordOf (areaStmt b z i) 0 ≡ 2 → FlatFormed names (flatIn b z i)
     rate-formed e = rw (flat-rate b z i (λ g. omega arith)) (o .name i h e, right-formed)
 
 lookup-below : (c : Scope) (n v : ℕ) → lookup c n ≡ some v → v < length (c .vars)
@@ -53,7 +54,7 @@ unfolding lessOne plusOne
 less-plus none = refl
 less-plus (some v) = refl
 
-module _ (c : Scope) (time : Bounds) (numbers indexes rateTable : List ℕ) (lower : ℕ) (a : Agree c time numbers indexes rateTable lower) where
+module _ (c : Scope) (time : Bounds) (numbers indexes rateTable : List ℕ) (lower : Float) (a : Agree c time numbers indexes rateTable lower) where
   -- ---- entries
 
   entry-number : (n : ℕ) → n < length (c .names) → entryBy numbers n ≡ lookup c n
@@ -110,7 +111,7 @@ module _ (c : Scope) (time : Bounds) (numbers indexes rateTable : List ℕ) (low
   start-number : (o : Option Start) → startNumber lower o ≡ roleNumber (startRole time o)
   unfolding startNumber roleNumber startRole atLower
   start-number none = refl
-  start-number (some x) = rw (a .low) (go (atLower time x))
+  start-number (some x) = rw (a .low, same-float (x .bits) (time .lower)) (go (atLower time x))
     where
       go : (b : Bool) → cond b (2 * x .variable + 1) 0 ≡ roleNumber (cond b (starts (x .variable)) free)
       go true = refl
@@ -119,7 +120,7 @@ module _ (c : Scope) (time : Bounds) (numbers indexes rateTable : List ℕ) (low
   start-errors : (o : Option Start) → startErrorsBy lower o ≡ startErrors time o
   unfolding startErrorsBy startErrors atLower
   start-errors none = refl
-  start-errors (some x) = rw (a .low) refl
+  start-errors (some x) = rw (a .low, same-float (x .bits) (time .lower)) refl
 
   rate-number : (n : ℕ) → n < length (c .names) → rateNumber rateTable (entryBy numbers n) ≡ roleNumber (rateRole c (lookup c n))
   unfolding rateNumber roleNumber rateRole
@@ -179,9 +180,9 @@ module _ (d : Flat) where
   each-alike f g [] h = refl
   each-alike f g (q ∷ l) h = rw (h 0 (omega arith), each-alike f g l (λ i k. h (suc i) (omega arith))) refl
 
-module _ (c : Scope) (time : Bounds) (numbers indexes rateTable : List ℕ) (lower : ℕ) (a : Agree c time numbers indexes rateTable lower) (b : List ℕ) (z : Sizes) (o : Flattened (length (c .names)) b z) where
+module _ (c : Scope) (time : Bounds) (numbers indexes rateTable : List ℕ) (lower : Float) (a : Agree c time numbers indexes rateTable lower) (b : List ℕ) (z : Sizes) (o : Flattened (length (c .names)) b z) where
   abbrev noFlat : Flat
-  noFlat = flatAt (nodesIn b z) []
+  noFlat = flatAt (areaNodes b z) []
 
   all-formed : (i : ℕ) → i < length (flatsIn b z) → FlatFormed (length (c .names)) (getD (flatsIn b z) i noFlat)
   all-formed i h = rw (flat-at b z i) (flat-formed (length (c .names)) b z o i (omega (arith, flats-count b z)))

@@ -4,6 +4,7 @@ use mathlib.Core.List.{List, [], _∷_, _++_}
 use Prim.Native.Nat.{ℕ, _+_, _-_, _^_, _≤_, _<_}
 use native.Mathlib.Omega.{arith}
 use lib.ListN.{length, take, drop, length-append, length-drop}
+use lib.Ieee.{Float}
 use lib.Seq.{take-all}
 use Rattle.functions.specs.Lists.{each}
 use Rattle.ast.specs.Tree.{File, Flat}
@@ -14,7 +15,7 @@ use Rattle.definitions.specs.Flatten.{modelAt, errorsOf}
 use Rattle.definitions.specs.Allocate.{countErrors}
 use Rattle.builder.specs.Places.{errorsAt}
 use Rattle.builder.specs.Listing.{Lists, Room}
-use Rattle.builder.specs.Allocating.{nodesIn, stmtsIn, flatsIn, Flattened, ListsAt, roleErrorsBy}
+use Rattle.builder.specs.Allocating.{areaNodes, areaStmts, flatsIn, Flattened, ListsAt, roleErrorsBy}
 use Rattle.builder.specs.Starting.{Righted, startingIn}
 use Rattle.builder.specs.Root.{errorsBy}
 use Rattle.builder.specs.declared.places.Sizes.{Sizes}
@@ -28,7 +29,7 @@ use Rattle.builder.proofs.Open.{models-long}
 
 -- ---- the roles' errors: at most one a statement
 
-few-roles : (numbers indexes rates : List ℕ) (lower : ℕ) (qs : List Flat) → length (each (roleErrorsBy numbers indexes rates lower) qs) ≤ length qs
+few-roles : (numbers indexes rates : List ℕ) (lower : Float) (qs : List Flat) → length (each (roleErrorsBy numbers indexes rates lower) qs) ≤ length qs
 unfolding each
 few-roles numbers indexes rates lower [] = omega arith
 few-roles numbers indexes rates lower (q ∷ qs) = rw length-append (omega (arith, errors-few numbers indexes rates lower q, few-roles numbers indexes rates lower qs))
@@ -75,7 +76,7 @@ module _ (z : Sizes) (b b₁ : List ℕ) (f : File) (m built : ℕ) (w : Righted
     pub built-few : built + z .stmts < 2 ^ 40
     built-few = omega (arith, p .0, few, w .small .stmts)
 
-  module _ (b₂ numbers indexes rates : List ℕ) (lower stated : ℕ) (q : ListsAt (errorsAt z) b₁ built (each (roleErrorsBy numbers indexes rates lower) (flatsIn b₁ z)) stated b₂) where
+  module _ (b₂ numbers indexes rates : List ℕ) (lower : Float) (stated : ℕ) (q : ListsAt (errorsAt z) b₁ built (each (roleErrorsBy numbers indexes rates lower) (flatsIn b₁ z)) stated b₂) where
     righted-stated : Righted b₂ z
     righted-stated = righted-listed z b₁ b₂ built stated (each (roleErrorsBy numbers indexes rates lower) (flatsIn b₁ z)) righted-built q
 
@@ -102,7 +103,7 @@ module _ (z : Sizes) (b b₁ : List ℕ) (f : File) (m built : ℕ) (w : Righted
         counted-few = omega (arith, s .0, length-counts (modelAt f m .span) left states, stated-most, p .0, few, w .small .stmts, w .small .vars)
 
       -- the four parts together
-      pub all-listed : (b₄ names : List ℕ) (r : ℕ) → ListsAt (errorsAt z) b₃ counted (startingIn (modelAt f m .span) (nodesIn b₃ z) (stmtsIn b₃ z) names (z .vars)) r b₄
+      pub all-listed : (b₄ names : List ℕ) (r : ℕ) → ListsAt (errorsAt z) b₃ counted (startingIn (modelAt f m .span) (areaNodes b₃ z) (areaStmts b₃ z) names (z .vars)) r b₄
           → ListsAt (errorsAt z) b 0 (errorsBy b z numbers indexes rates lower f m names left states) r b₄
       unfolding errorsBy
       all-listed b₄ names r t =
@@ -110,9 +111,9 @@ module _ (z : Sizes) (b b₁ : List ℕ) (f : File) (m built : ℕ) (w : Righted
           let k₁ = kept-listed z b b₁ 0 built (errorsOf f (length (f .models)) m) (w .long) p in
           let k₂ = kept-listed z b₁ b₂ built stated (each (roleErrorsBy numbers indexes rates lower) (flatsIn b₁ z)) (righted-built .long) q in
           let k₃ = kept-listed z b₂ b₃ stated counted (countErrors (modelAt f m .span) left states) stated-room s in
-          let n : nodesIn b₃ z ≡ nodesIn b z = sym (k₁ .nodes ∙ k₂ .nodes ∙ k₃ .nodes) in
-          let c : stmtsIn b₃ z ≡ stmtsIn b z = sym (k₁ .stmts ∙ k₂ .stmts ∙ k₃ .stmts) in
+          let n : areaNodes b₃ z ≡ areaNodes b z = sym (k₁ .nodes ∙ k₂ .nodes ∙ k₃ .nodes) in
+          let c : areaStmts b₃ z ≡ areaStmts b z = sym (k₁ .stmts ∙ k₂ .stmts ∙ k₃ .stmts) in
           let g : flatsIn b₁ z ≡ flatsIn b z = sym (kept-flats z b b₁ k₁) in
           let q′ : ListsAt (errorsAt z) b₁ built (each (roleErrorsBy numbers indexes rates lower) (flatsIn b z)) stated b₂ = rw g at q in
-          let t′ : ListsAt (errorsAt z) b₃ counted (startingIn (modelAt f m .span) (nodesIn b z) (stmtsIn b z) names (z .vars)) r b₄ = rw (n, c) at t in
+          let t′ : ListsAt (errorsAt z) b₃ counted (startingIn (modelAt f m .span) (areaNodes b z) (areaStmts b z) names (z .vars)) r b₄ = rw (n, c) at t in
           then-at (errorsAt z) b b₃ b₄ 0 counted r _ _ l (then-at (errorsAt z) b b₂ b₃ 0 stated counted _ _ l (then-at (errorsAt z) b b₁ b₂ 0 built stated _ _ l p q′) s) t′

@@ -7,28 +7,29 @@ use Prim.Native.Nat.{ℕ, zero, suc, _+_, _-_, _*_, _≤_, _<_}
 use native.Mathlib.Omega.{arith}
 use borrow.Author.Tests.{ne-eqb}
 use lib.ListN.{length, take, drop, getD, length-map, List·getD-map}
+use lib.Ieee.{Float, eq}
 use lib.Seq.{length-take-le, getD-take, ext-getD}
 use Rattle.functions.specs.Lists.{any}
 use Rattle.functions.proofs.Lists.{drop-here, drop-past}
 use Rattle.ast.specs.Tree.{Flat, equation, rate}
 use Rattle.ast.specs.Words.{wordOf, spanFrom}
 use Rattle.ast.specs.Nodes.{nameAt, bitsAt, treeAt}
-use Rattle.ast.specs.Numbers.{numberOf, sameNumber}
+use Rattle.ast.specs.Numbers.{numberOf}
 use Rattle.ast.proofs.Fields.{length-section}
 use Rattle.definitions.specs.Roles.{sameFloat}
 use Rattle.builder.specs.Places.{stmtsAt}
 use Rattle.builder.specs.declared.places.Sizes.{Sizes}
 use Rattle.builder.specs.declared.allocate.Start.{Start}
 use Rattle.builder.specs.declared.allocate.Start.the-variants.{Nothing, Short, Number}
-use Rattle.builder.specs.Allocating.{flatAt, nodesIn, stmtsIn, stmtIn, flatIn, flatsIn, Flattened, entryBy, shortBy, startNumber, rateNumber, roleBy, foundStart, startAt, isShort, StartFits}
+use Rattle.builder.specs.Allocating.{flatAt, areaNodes, areaStmts, areaStmt, flatIn, flatsIn, Flattened, entryBy, shortBy, startNumber, rateNumber, roleBy, foundStart, startAt, isShort, StartFits}
 use Rattle.builder.proofs.Filled.{Filled}
 use Rattle.builder.proofs.LeftSides.{entry-none, entry-some, found-start, short-start}
 
 -- ---- an answer for a left side, case by case
 
--- f64's == on bits is the same on both sides
-pub same-float : (a b : ℕ) → sameNumber a b ≡ sameFloat a b
-unfolding sameNumber numberOf sameFloat
+-- f64's == on bits
+pub same-float : (a b : ℕ) → eq (numberOf a) (numberOf b) ≡ sameFloat a b
+unfolding numberOf sameFloat
 same-float a b = refl
 
 -- the variable and the argument of an answer with a number
@@ -36,16 +37,16 @@ pub number-fits : (z : Sizes) (s : Start) (v a : ℕ) → s ≡ Number v a → S
 unfolding StartFits
 number-fits z s v a e f = rw e at f
 
-module _ (ns : List (List ℕ)) (lower f : ℕ) (s : Start) where
+module _ (ns : List (List ℕ)) (lower : Float) (f : ℕ) (s : Start) where
   -- a number that is time's lower bound, or another
   module _ (v a : ℕ) (e : s ≡ Number v a) where
     -- an initial condition
-    pub role-lower : sameFloat (bitsAt ns (a - 1)) lower ≡ true → startNumber lower (foundStart ns f s) ≡ 2 * v + 1
+    pub role-lower : eq (numberOf (bitsAt ns (a - 1))) lower ≡ true → startNumber lower (foundStart ns f s) ≡ 2 * v + 1
     unfolding startNumber foundStart
     role-lower h = rw (e, h) refl
 
     -- no role
-    pub role-wrong : sameFloat (bitsAt ns (a - 1)) lower ≡ false → startNumber lower (foundStart ns f s) ≡ 0
+    pub role-wrong : eq (numberOf (bitsAt ns (a - 1))) lower ≡ false → startNumber lower (foundStart ns f s) ≡ 0
     unfolding startNumber foundStart
     role-wrong h = rw (e, h) refl
 
@@ -73,14 +74,14 @@ module _ (b : List ℕ) (z : Sizes) where
   flats-count = simp length-map (length-section 8 (z .stmts) (stmtsAt z) b)
 
   -- statement i of all
-  pub flat-at : (i : ℕ) → getD (flatsIn b z) i (flatAt (nodesIn b z) []) ≡ flatIn b z i
+  pub flat-at : (i : ℕ) → getD (flatsIn b z) i (flatAt (areaNodes b z) []) ≡ flatIn b z i
   unfolding flatsIn flatIn
-  flat-at i = List·getD-map (flatAt (nodesIn b z)) (stmtsIn b z) i []
+  flat-at i = List·getD-map (flatAt (areaNodes b z)) (areaStmts b z) i []
 
   -- the statements from i on
   pub any-here : (p : Flat → Bool) (i : ℕ) → i < z .stmts → any p (drop i (flatsIn b z)) ≡ (p (flatIn b z i) || any p (drop (i + 1) (flatsIn b z)))
   unfolding any
-  any-here p i h = ap (any p) (drop-here (flatsIn b z) (flatAt (nodesIn b z) []) i (omega (arith, flats-count))) ∙ rw (flat-at i) refl
+  any-here p i h = ap (any p) (drop-here (flatsIn b z) (flatAt (areaNodes b z) []) i (omega (arith, flats-count))) ∙ rw (flat-at i) refl
 
   -- there are none behind the last
   pub any-past : (p : Flat → Bool) (i : ℕ) → z .stmts ≤ i → any p (drop i (flatsIn b z)) ≡ false
@@ -92,50 +93,50 @@ module _ (b : List ℕ) (z : Sizes) where
   map-filled g n t h l f =
       let k : length (take (z .stmts) t) ≡ z .stmts = length-take-le (z .stmts) t (omega (arith, f .long)) in
       ext-getD 0 (take (z .stmts) t) (map g (flatsIn b z)) (k ∙ sym (length-map (flatsIn b z) g ∙ flats-count))
-      (λ i m. getD-take (z .stmts) t i 0 (omega arith) ∙ f .entry i (omega arith) ∙ sym (map-at g (flatsIn b z) (flatAt (nodesIn b z) []) i (omega (arith, flats-count)) ∙ ap g (flat-at i)))
+      (λ i m. getD-take (z .stmts) t i 0 (omega arith) ∙ f .entry i (omega arith) ∙ sym (map-at g (flatsIn b z) (flatAt (areaNodes b z) []) i (omega (arith, flats-count)) ∙ ap g (flat-at i)))
 
   module _ (i : ℕ) where
     -- one of kind 1 is an equation
-    pub flat-equation : wordOf (stmtIn b z i) 0 ≡ 1
-        → flatIn b z i ≡ equation (treeAt (nodesIn b z) (wordOf (stmtIn b z i) 2)) (treeAt (nodesIn b z) (wordOf (stmtIn b z i) 3)) (spanFrom (stmtIn b z i) 4)
+    pub flat-equation : wordOf (areaStmt b z i) 0 ≡ 1
+        → flatIn b z i ≡ equation (treeAt (areaNodes b z) (wordOf (areaStmt b z i) 2)) (treeAt (areaNodes b z) (wordOf (areaStmt b z i) 3)) (spanFrom (areaStmt b z i) 4)
     unfolding flatIn flatAt
     flat-equation e = rw e refl
 
     -- another is a rate equation
-    pub flat-rate : (wordOf (stmtIn b z i) 0 ≡ 1 → ⊥) → flatIn b z i ≡ rate (wordOf (stmtIn b z i) 1) (treeAt (nodesIn b z) (wordOf (stmtIn b z i) 3)) (spanFrom (stmtIn b z i) 4)
+    pub flat-rate : (wordOf (areaStmt b z i) 0 ≡ 1 → ⊥) → flatIn b z i ≡ rate (wordOf (areaStmt b z i) 1) (treeAt (areaNodes b z) (wordOf (areaStmt b z i) 3)) (spanFrom (areaStmt b z i) 4)
     unfolding flatIn flatAt
     flat-rate ne = rw (ne-eqb _ _ ne) refl
 
   module _ (names : ℕ) (o : Flattened names b z) (numbers indexes : List ℕ) (i : ℕ) (h : i < z .stmts) where
     -- a rate equation's name
-    pub rate-name : (wordOf (stmtIn b z i) 0 ≡ 1 → ⊥) → wordOf (stmtIn b z i) 1 < names
+    pub rate-name : (wordOf (areaStmt b z i) 0 ≡ 1 → ⊥) → wordOf (areaStmt b z i) 1 < names
     rate-name ne = ⊎-elim (λ e. absurd (ne e)) (λ e. o .name i h e) (o .kind i h)
 
     -- an equation, by the answer for its left side
-    module _ (e : wordOf (stmtIn b z i) 0 ≡ 1) where
+    module _ (e : wordOf (areaStmt b z i) 0 ≡ 1) where
       -- whether it is too short
-      pub short-equation : shortBy numbers indexes (flatIn b z i) ≡ isShort (startAt (nodesIn b z) numbers indexes (wordOf (stmtIn b z i) 2))
+      pub short-equation : shortBy numbers indexes (flatIn b z i) ≡ isShort (startAt (areaNodes b z) numbers indexes (wordOf (areaStmt b z i) 2))
       unfolding shortBy
       short-equation =
           let t = o .left i h e in
-          ap (shortBy numbers indexes) (flat-equation i e) ∙ sym (short-start names (nodesIn b z) (z .nodes) (o .nodes) numbers indexes (wordOf (stmtIn b z i) 2) (t .0) (t .1))
+          ap (shortBy numbers indexes) (flat-equation i e) ∙ sym (short-start names (areaNodes b z) (z .nodes) (o .nodes) numbers indexes (wordOf (areaStmt b z i) 2) (t .0) (t .1))
 
       -- its role
-      pub role-equation : (rates : List ℕ) (lower : ℕ)
-          → roleBy numbers indexes rates lower (flatIn b z i) ≡ startNumber lower (foundStart (nodesIn b z) (nameAt (nodesIn b z) (wordOf (stmtIn b z i) 2)) (startAt (nodesIn b z) numbers indexes (wordOf (stmtIn b z i) 2)))
+      pub role-equation : (rates : List ℕ) (lower : Float)
+          → roleBy numbers indexes rates lower (flatIn b z i) ≡ startNumber lower (foundStart (areaNodes b z) (nameAt (areaNodes b z) (wordOf (areaStmt b z i) 2)) (startAt (areaNodes b z) numbers indexes (wordOf (areaStmt b z i) 2)))
       unfolding roleBy
       role-equation rates lower =
           let t = o .left i h e in
-          ap (roleBy numbers indexes rates lower) (flat-equation i e) ∙ ap (startNumber lower) (sym (found-start names (nodesIn b z) (z .nodes) (o .nodes) numbers indexes (wordOf (stmtIn b z i) 2) (t .0) (t .1)))
+          ap (roleBy numbers indexes rates lower) (flat-equation i e) ∙ ap (startNumber lower) (sym (found-start names (areaNodes b z) (z .nodes) (o .nodes) numbers indexes (wordOf (areaStmt b z i) 2) (t .0) (t .1)))
 
     -- a rate equation of name f
-    module _ (ne : wordOf (stmtIn b z i) 0 ≡ 1 → ⊥) where
+    module _ (ne : wordOf (areaStmt b z i) 0 ≡ 1 → ⊥) where
       -- it is never too short
       pub short-rate : shortBy numbers indexes (flatIn b z i) ≡ false
       unfolding shortBy
       short-rate = ap (shortBy numbers indexes) (flat-rate i ne)
 
-      module _ (rates : List ℕ) (lower f : ℕ) (g : f ≡ wordOf (stmtIn b z i) 1) where
+      module _ (rates : List ℕ) (lower : Float) (f : ℕ) (g : f ≡ wordOf (areaStmt b z i) 1) where
         role-rate : roleBy numbers indexes rates lower (flatIn b z i) ≡ rateNumber rates (entryBy numbers f)
         unfolding roleBy
         role-rate = ap (roleBy numbers indexes rates lower) (flat-rate i ne) ∙ rw g refl

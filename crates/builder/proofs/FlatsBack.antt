@@ -24,9 +24,9 @@ use Rattle.definitions.specs.Allocate.{Fate}
 use Rattle.definitions.specs.Answer.{fateNumber, fateVariable, flatWords, flatRecords}
 use Rattle.builder.specs.Unfated.{unfatedWords, unfated}
 use Rattle.builder.specs.Places.{Small, stmtsAt, varsAt, depsAt, errorsAt}
-use Rattle.builder.specs.Allocating.{flatAt, nodesIn, stmtsIn, flatsIn, Flattened}
+use Rattle.builder.specs.Allocating.{flatAt, areaNodes, areaStmts, flatsIn, Flattened}
 use Rattle.builder.specs.Starting.{Righted}
-use Rattle.builder.specs.Root.{flatsOf, scopeAt, timeAt, rolesAt, fatesAt, SizesOf, part, Laid, Unfated, Fated}
+use Rattle.builder.specs.Root.{flatsOf, scopeAt, timeAt, rolesAt, fatesAt, SizesOf, part, PartsLaid, Unfated, Fated}
 use Rattle.builder.specs.declared.places.Sizes.{Sizes}
 use Rattle.definitions.proofs.Lengths.{length-flat-nodes, nodes-wide, count-nodes, length-fates}
 use Rattle.builder.proofs.Allocations.{FlatFormed}
@@ -41,13 +41,13 @@ section-read w n at k rs b h l e =
     section-joined w n at rs b (joined rs) (drop k (drop at b)) h l refl
     (sym (take-append-drop k (drop at b)) ∙ ap (λ (x : List ℕ). x ++ drop k (drop at b)) (e ∙ sym (bytes-joined rs)))
 
-module _ (F : File) (m : ℕ) (z : Sizes) (rs : List (List ℕ)) (b : List ℕ) (o : SizesOf F m z) (a : Laid F m z rs b) where
+module _ (F : File) (m : ℕ) (z : Sizes) (rs : List (List ℕ)) (b : List ℕ) (o : SizesOf F m z) (a : PartsLaid F m z rs b) where
   -- the nodes
-  pub nodes-read : nodesIn b z ≡ each flatNodes (flatsOf F m)
+  pub nodes-read : areaNodes b z ≡ each flatNodes (flatsOf F m)
   nodes-read = section-read 8 (z .nodes) 40 (32 * z .nodes) (each flatNodes (flatsOf F m)) b (nodes-wide (flatsOf F m)) (count-nodes (flatsOf F m) ∙ sym (o .nodes)) (a .nodes)
 
   -- and the statements' records
-  pub stmts-read : length rs ≡ z .stmts → Wide 8 rs → stmtsIn b z ≡ rs
+  pub stmts-read : length rs ≡ z .stmts → Wide 8 rs → areaStmts b z ≡ rs
   stmts-read l w = section-read 8 (z .stmts) (stmtsAt z) (32 * z .stmts) rs b w l (a .stmts)
 
 -- ---- records of statements: the first six words are a statement's, whatever the fate
@@ -214,7 +214,7 @@ holds-all ns j l =
 
 -- ---- the statements in an area
 
-module _ (names : ℕ) (qs : List Flat) (rs : List (List ℕ)) (b : List ℕ) (z : Sizes) (w : Each (FlatFormed names) qs) (t : Tells 0 qs rs) (en : nodesIn b z ≡ each flatNodes qs) (er : stmtsIn b z ≡ rs) where
+module _ (names : ℕ) (qs : List Flat) (rs : List (List ℕ)) (b : List ℕ) (z : Sizes) (w : Each (FlatFormed names) qs) (t : Tells 0 qs rs) (en : areaNodes b z ≡ each flatNodes qs) (er : areaStmts b z ≡ rs) where
   all-stmts : (n : ℕ) → n ≡ sumOf flatSize qs → StmtsFrom names (each flatNodes qs) n 0 qs rs
   all-stmts n e = stmts-at names (each flatNodes qs) qs rs n 0 w t (omega arith) (holds-all (each flatNodes qs))
 
@@ -245,7 +245,7 @@ pub fates-count : (F : File) (m : ℕ) → length (fatesAt F m) ≡ length (flat
 fates-count F m = length-fates _ (rolesAt F m) ∙ length-map (flatsOf F m) (roleOf (scopeAt F m) (timeAt F m))
 
 -- the records, whatever the fates
-stmts-told : (F : File) (m : ℕ) (z : Sizes) (rs : List (List ℕ)) (b : List ℕ) → SizesOf F m z → Laid F m z rs b → Tells 0 (flatsOf F m) rs → stmtsIn b z ≡ rs
+stmts-told : (F : File) (m : ℕ) (z : Sizes) (rs : List (List ℕ)) (b : List ℕ) → SizesOf F m z → PartsLaid F m z rs b → Tells 0 (flatsOf F m) rs → areaStmts b z ≡ rs
 stmts-told F m z rs b k a t = stmts-read F m z rs b k a (tells-count 0 (flatsOf F m) rs t ∙ sym (k .stmts)) (tells-wide 0 (flatsOf F m) rs t)
 
 module _ (F : File) (m : ℕ) where
@@ -254,11 +254,11 @@ module _ (F : File) (m : ℕ) where
 
   module _ (z : Sizes) (b : List ℕ) (k : SizesOf F m z) where
     -- before the fates are known
-    pub unfated-stmts : Unfated F m z b → stmtsIn b z ≡ unfated 0 (flatsOf F m)
+    pub unfated-stmts : Unfated F m z b → areaStmts b z ≡ unfated 0 (flatsOf F m)
     unfated-stmts a = stmts-told F m z _ b k a (unfated-tells 0 (flatsOf F m))
 
     -- and with them
-    pub fated-stmts : Fated F m z b → stmtsIn b z ≡ flatRecords 0 (flatsOf F m) (fatesAt F m)
+    pub fated-stmts : Fated F m z b → areaStmts b z ≡ flatRecords 0 (flatsOf F m) (fatesAt F m)
     fated-stmts a = stmts-told F m z _ b k a fates-tell
 
     -- room for errors, and right sides that are nodes
@@ -273,7 +273,7 @@ module _ (F : File) (m : ℕ) where
         }
 
 module _ (f : List ℕ) (s : Sections) (m : ℕ) (z : Sizes) (b : List ℕ) (o : Open f s) (k : SizesOf (fileIn f s) m z) where
-  module _ (rs : List (List ℕ)) (a : Laid (fileIn f s) m z rs b) (t : Tells 0 (flatsOf (fileIn f s) m) rs) where
+  module _ (rs : List (List ℕ)) (a : PartsLaid (fileIn f s) m z rs b) (t : Tells 0 (flatsOf (fileIn f s) m) rs) where
     laid-flats : flatsIn b z ≡ flatsOf (fileIn f s) m
     laid-flats = flats-read (s .counts .names) (flatsOf (fileIn f s) m) rs b z (formed f s o (length (fileIn f s .models)) m) t (nodes-read (fileIn f s) m z rs b k a) (stmts-told (fileIn f s) m z rs b k a t)
 

@@ -1,34 +1,26 @@
--- A root model's flattened statements laid into an answer: read at level 0 they are as they stand; and time's lower bound, read back from the header.
-use mathlib.Core.Path.{_≡_, refl, sym, ap, _∙_}
-use mathlib.Core.Bool.{true}
-use mathlib.Core.List.{List, [], _∷_, _++_}
+-- A root model's flattened statements laid into an answer: read at level 0 they are as they stand.
+use mathlib.Core.Path.{_≡_, sym, ap, _∙_}
+use mathlib.Core.List.{List, _++_}
 use Prim.Native.Nat.{ℕ, _+_, _-_, _*_, _≤_}
 use native.Mathlib.Omega.{arith}
-use lib.ListN.{length, take, drop, getD, length-drop}
+use lib.ListN.{length, take, drop, length-drop}
 use lib.Seq.{length-take-le}
 use Rattle.functions.specs.Lists.{each, sumOf}
 use Rattle.ast.specs.Tree.{Flat, flatSize}
-use Rattle.ast.specs.Words.{section, wordOf, floatFrom, bytesOf}
 use Rattle.ast.specs.Bytes.{put}
 use Rattle.ast.specs.Encode.{flatNodes, encode}
 use Rattle.ast.specs.Rows.{levelsOf}
 use Rattle.ast.specs.Opens.{Open, fileIn}
 use Rattle.ast.specs.declared.sections.Sections.{Sections}
-use Rattle.ast.proofs.Encodes.{encode-one}
 use Rattle.ast.proofs.Fronts.{lent-put, put-zero}
-use Rattle.ast.proofs.UnknownsBack.{float-back}
-use Rattle.definitions.specs.Variables.{Bounds, fromZero, lastBounds}
-use Rattle.definitions.specs.Flatten.{modelAt, flatten}
-use Rattle.definitions.specs.Answer.{boundsWords}
+use Rattle.definitions.specs.Flatten.{flatten}
 use Rattle.builder.specs.Descent.{flatAt, RowsIn, RowsKept}
 use Rattle.builder.specs.Unfated.{unfated, RecordsFit, Recorded}
-use Rattle.builder.specs.Bounding.{boundsFrom}
 use Rattle.builder.specs.Root.{flatsOf}
 use Rattle.builder.proofs.Flattening.{map-none}
 use Rattle.builder.proofs.Open.{models-long}
 use Rattle.builder.proofs.Putting.{length-flats}
 use Rattle.builder.proofs.Recording.{fits-same}
-use Rattle.definitions.proofs.Sections.{section-back}
 use Rattle.builder.proofs.Puts.{length-put}
 
 -- ---- a lent rest
@@ -90,35 +82,3 @@ room-behind d d′ qs n e h g l =
     let z : length (encode (each flatNodes qs)) ≡ 32 * sumOf flatSize qs = length-flats qs in
     let p : length d′ ≡ length d = ap length e ∙ length-put d (encode (each flatNodes qs)) 40 (omega (arith, z, h, l)) in
     omega (arith, p, h, g, l)
-
--- ---- time's lower bound
-
-lower-first : (b : Bounds) → floatFrom (boundsWords b) 0 ≡ b .lower
-unfolding floatFrom wordOf boundsWords
-lower-first b = float-back (b .lower)
-
-bounds-four : (b : Bounds) → length (boundsWords b) ≡ 4
-unfolding boundsWords
-bounds-four b = refl
-
--- the words of bounds that are put, as a record
-bounds-back : (d d′ : List ℕ) (at : ℕ) (b : Bounds) → at ≤ length d → d′ ≡ put d at (bytesOf (boundsWords b)) → section 4 1 at d′ ≡ boundsWords b ∷ []
-unfolding put
-bounds-back d d′ at b h e =
-    let rest = drop (at + length (bytesOf (boundsWords b))) d in
-    ap (section 4 1 at) e
-    ∙ ap (λ (x : List ℕ). section 4 1 at (take at d ++ (x ++ rest))) (sym (encode-one (boundsWords b)))
-    ∙ section-back 4 1 at (take at d) (boundsWords b ∷ []) rest (bounds-four b, tt) refl (length-take-le at d h)
-
--- the lower one is read
-pub lower-read : (d d′ : List ℕ) (at r : ℕ) (b : Bounds) → at ≤ length d → d′ ≡ put d at (bytesOf (boundsWords b)) → r ≡ floatFrom (getD (section 4 1 at d′) 0 []) 0 → r ≡ b .lower
-lower-read d d′ at r b h e g = g ∙ ap (λ (rs : List (List ℕ)). floatFrom (getD rs 0 []) 0) (bounds-back d d′ at b h e) ∙ lower-first b
-
-module _ (f : List ℕ) (s : Sections) (m name : ℕ) where
-  pub time-read : (d d′ : List ℕ) (r : ℕ) → 40 ≤ length d
-      → d′ ≡ put d 24 (bytesOf (boundsWords (lastBounds (fileIn f s .names) name (boundsFrom true) (modelAt (fileIn f s) m .unknowns))))
-      → r ≡ floatFrom (getD (section 4 1 24 d′) 0 []) 0
-      → (r ≡ lastBounds (fileIn f s .names) name fromZero (modelAt (fileIn f s) m .unknowns) .lower)
-      × (d′ ≡ put d 24 (bytesOf (boundsWords (lastBounds (fileIn f s .names) name fromZero (modelAt (fileIn f s) m .unknowns)))))
-  unfolding boundsFrom
-  time-read d d′ r h e g = (lower-read d d′ 24 r (lastBounds (fileIn f s .names) name fromZero (modelAt (fileIn f s) m .unknowns)) (omega (arith, h)) e g, e)

@@ -21,7 +21,7 @@ use Rattle.definitions.specs.Roles.{argAt, numberIn}
 use Rattle.builder.specs.declared.places.Sizes.{Sizes}
 use Rattle.builder.specs.declared.allocate.Start.{Start}
 use Rattle.builder.specs.declared.allocate.Start.the-variants.{Nothing, Short, Number}
-use Rattle.builder.specs.Allocating.{lessOne, entryBy, Tabled, startBy, fewFor, shortCallBy, shortLeftBy, argNode, foundStart, atArg, atIndex, atVariable, startAt, isShort, StartFits, CallFits}
+use Rattle.builder.specs.Allocating.{lessOne, entryBy, TablesLong, startBy, fewFor, shortCallBy, shortLeftBy, argNode, foundStart, atArg, atIndex, atVariable, startAt, isShort, StartFits, CallFits}
 
 -- ---- the node of an argument, from the last argument back
 
@@ -255,7 +255,7 @@ module _ (names : ℕ) (ns : List (List ℕ)) (n : ℕ) (ok : nodesFit names ns 
         (λ e. rw (tree-binary names ns n ok i l x e, e) refl) (λ e. rw (tree-unary names ns n ok i l x e, e) refl) (λ e. rw (tree-call names ns n ok i l x e) (short-call i l e))
 
 -- the answer's variable and nodes are there
-module _ (names : ℕ) (ns : List (List ℕ)) (z : Sizes) (ok : nodesFit names ns (z .nodes) ≡ true) (few : names ≤ 256) (numbers indexes : List ℕ) (t : Tabled z numbers indexes) (i : ℕ) (l : i < z .nodes) where
+module _ (names : ℕ) (ns : List (List ℕ)) (z : Sizes) (ok : nodesFit names ns (z .nodes) ≡ true) (few : names ≤ 256) (numbers indexes : List ℕ) (t : TablesLong z numbers indexes) (i : ℕ) (l : i < z .nodes) where
   -- whatever the node is
   pub start-fits : StartFits z (startAt ns numbers indexes i)
   unfolding StartFits startAt atVariable atIndex atArg

@@ -13,7 +13,7 @@ use Rattle.definitions.specs.Variables.{Error}
 use Rattle.builder.specs.Listing.{listed}
 use Rattle.builder.specs.Places.{stmtsAt, varsAt, depsAt, errorsAt}
 use Rattle.builder.specs.declared.places.Sizes.{Sizes}
-use Rattle.builder.specs.Allocating.{nodesIn, stmtsIn, flatsIn, flatIn, Flattened, listedAt, ListsAt}
+use Rattle.builder.specs.Allocating.{areaNodes, areaStmts, flatsIn, flatIn, Flattened, listedAt, ListsAt}
 use Rattle.builder.proofs.Listings.{listed-append, length-listed}
 
 -- ---- a section is read from its own bytes
@@ -64,8 +64,8 @@ section-kept w n at k d d′ h l l′ e =
 
 -- the same in two areas
 pub record Kept (b b′ : List ℕ) (z : Sizes) : Type 0 where
-  pub nodes : nodesIn b z ≡ nodesIn b′ z
-  pub stmts : stmtsIn b z ≡ stmtsIn b′ z
+  pub nodes : areaNodes b z ≡ areaNodes b′ z
+  pub stmts : areaStmts b z ≡ areaStmts b′ z
 
 module _ (z : Sizes) (b b′ : List ℕ) where
   -- where the bytes before the errors stay

@@ -13,8 +13,8 @@ use Rattle.ast.specs.Levels.{throughFlat}
 use Rattle.ast.specs.Rows.{levelsOf, atMost}
 use Rattle.definitions.specs.Numbers.{modelCycle, selfListedUnknown, argumentBeyond, overMost}
 use Rattle.definitions.specs.Flatten.{flatten, instances, cyclic, selfListed, overfull}
-use Rattle.definitions.specs.Build.{tooBig}
-use Rattle.builder.specs.Root.{forbiddenOf, sizeOf, measureOf}
+use Rattle.definitions.specs.Build.{Result, refusal, accepted, tooBig}
+use Rattle.builder.specs.Root.{Measure, forbiddenOf, sizeOf, measureOf, measuredAs}
 use Rattle.builder.specs.declared.measure.Measured.{Measured}
 use Rattle.builder.specs.declared.measure.Measured.the-variants.{Refused, Sized}
 use Rattle.builder.proofs.Flattening.{map-none}
@@ -40,11 +40,11 @@ module _ (f : File) (m : ℕ) where
 
   -- ---- one of them, or the sizes
 
-  pub measured-forbidden : (n : ℕ) → n ≡ forbiddenOf f m → (n ≡ 0 → ⊥) → Refused n ≡ measureOf f m
-  unfolding measureOf
+  pub measured-forbidden : (n : ℕ) → n ≡ forbiddenOf f m → (n ≡ 0 → ⊥) → measuredAs (Refused n) ≡ measureOf f m
+  unfolding measureOf measuredAs
   measured-forbidden n e h = rw (← e, ne-eqb n 0 h) refl
 
-  pub measured-size : (n : ℕ) (r : Measured) → n ≡ forbiddenOf f m → n ≡ 0 → r ≡ sizeOf f m → r ≡ measureOf f m
+  pub measured-size : (n : ℕ) (r : Measured) → n ≡ forbiddenOf f m → n ≡ 0 → measuredAs r ≡ sizeOf f m → measuredAs r ≡ measureOf f m
   unfolding measureOf
   measured-size n r e h g = rw (← e, eq-eqb n 0 h) g
 
@@ -61,19 +61,23 @@ unfolding atMost
 at-most-whole most i x e h = omega arith
 
 -- by three numbers: instances, statements and nodes
-abbrev sizing : ℕ → ℕ → ℕ → Measured
-sizing i q n = cond (ltb 1024 i || ltb 1024 n || ltb 256 q) (Refused overMost) (Sized i q n)
+abbrev sizing : ℕ → ℕ → ℕ → Result Measure
+sizing i q n = cond (ltb 1024 i || ltb 1024 n || ltb 256 q) (refusal overMost) (accepted (record { instances = i; stmts = q; nodes = n }))
 
-over-first : (i q n : ℕ) → 1024 < i → Refused overMost ≡ sizing i q n
+over-first : (i q n : ℕ) → 1024 < i → measuredAs (Refused overMost) ≡ sizing i q n
+unfolding measuredAs
 over-first i q n h = rw (lt-ltb 1024 i h) refl
 
-over-second : (i q n : ℕ) → 256 < q → Refused overMost ≡ sizing i q n
+over-second : (i q n : ℕ) → 256 < q → measuredAs (Refused overMost) ≡ sizing i q n
+unfolding measuredAs
 over-second i q n h = rw (lt-ltb 256 q h, or-true (ltb 1024 i || ltb 1024 n)) refl
 
-over-third : (i q n : ℕ) → 1024 < n → Refused overMost ≡ sizing i q n
+over-third : (i q n : ℕ) → 1024 < n → measuredAs (Refused overMost) ≡ sizing i q n
+unfolding measuredAs
 over-third i q n h = rw (lt-ltb 1024 n h, or-true (ltb 1024 i)) refl
 
-over-none : (i q n : ℕ) → i ≤ 1024 → q ≤ 256 → n ≤ 1024 → Sized i q n ≡ sizing i q n
+over-none : (i q n : ℕ) → i ≤ 1024 → q ≤ 256 → n ≤ 1024 → measuredAs (Sized i q n) ≡ sizing i q n
+unfolding measuredAs
 over-none i q n hi hq hn = rw (le-ltb 1024 i hi, le-ltb 256 q hq, le-ltb 1024 n hn) refl
 
 module _ (f : File) (m k : ℕ) (ek : length (f .models) ≡ k) where
@@ -83,11 +87,11 @@ module _ (f : File) (m k : ℕ) (ek : length (f .models) ≡ k) where
   size-at = ap (λ (d : ℕ). sizing (instances f d m) (length (flatten f d m)) (sumOf flatSize (flatten f d m))) (sym ek)
 
   module _ (i : ℕ) (ei : i ≡ atMost 1025 (instances f k m)) where
-    pub over-instances : 1024 < i → Refused overMost ≡ sizeOf f m
+    pub over-instances : 1024 < i → measuredAs (Refused overMost) ≡ sizeOf f m
     over-instances h = over-first (instances f k m) (length (flatten f k m)) (sumOf flatSize (flatten f k m)) (at-most-over 1024 i _ ei h) ∙ size-at
 
     module _ (q : ℕ) (eq : q ≡ atMost 257 (length (flatten f k m))) where
-      pub over-stmts : 256 < q → Refused overMost ≡ sizeOf f m
+      pub over-stmts : 256 < q → measuredAs (Refused overMost) ≡ sizeOf f m
       over-stmts h = over-second (instances f k m) (length (flatten f k m)) (sumOf flatSize (flatten f k m)) (at-most-over 256 q _ eq h) ∙ size-at
 
       -- the nodes are read at level 0, where nothing is replaced
@@ -96,10 +100,10 @@ module _ (f : File) (m k : ℕ) (ek : length (f .models) ≡ k) where
         unfolding levelsOf
         plain = en ∙ ap (λ (qs : List Flat). atMost 1025 (sumOf flatSize qs)) (map-none (flatten f k m))
 
-        pub over-nodes : 1024 < n → Refused overMost ≡ sizeOf f m
+        pub over-nodes : 1024 < n → measuredAs (Refused overMost) ≡ sizeOf f m
         over-nodes h = over-third (instances f k m) (length (flatten f k m)) (sumOf flatSize (flatten f k m)) (at-most-over 1024 n _ plain h) ∙ size-at
 
-        pub sized : i ≤ 1024 → q ≤ 256 → n ≤ 1024 → Sized i q n ≡ sizeOf f m
+        pub sized : i ≤ 1024 → q ≤ 256 → n ≤ 1024 → measuredAs (Sized i q n) ≡ sizeOf f m
         sized hi hq hn =
             let ai : i ≡ instances f k m = at-most-whole 1024 i _ ei hi in
             let aq : q ≡ length (flatten f k m) = at-most-whole 256 q _ eq hq in

@@ -1,71 +1,50 @@
 -- How the errors of a model go on, in the code's terms: those of an unknown, of a run, of the arguments of a submodel statement and of a statement.
 use mathlib.Core.Path.{_≡_, refl, sym, ap, _∙_}
-use mathlib.Core.Bool.{Bool, true, false, cond, not, _&&_, _||_}
+use mathlib.Core.Bool.{Bool, true, false, not, _||_}
 use mathlib.Core.List.{List, [], _∷_, _++_, append-nil}
 use mathlib.Core.Option.{Option, none, some}
 use Prim.Native.Nat.{ℕ, zero, suc, _+_, _-_, _≤_, _<_}
 use native.Mathlib.Omega.{arith}
 use native.Mathlib.Numerals.{add-one, sub-one}
-use borrow.Author.Tests.{ltb-true, eqb-true, eqb-false, ne-eqb}
-use lib.Dec.{eqb, leb, ltb}
+use borrow.Author.Tests.{eqb-true, eqb-false, ne-eqb}
+use lib.Dec.{eqb, leb}
+use lib.Ieee.{Float}
 use lib.ListN.{length, take, drop, getD, take-append-drop}
 use lib.Seq.{take-suc, take-all}
 use Rattle.functions.specs.Lists.{unless, each, plusOne}
-use Rattle.functions.proofs.Lists.{clash, and-both, drop-here}
-use Rattle.ast.specs.Tree.{Span, Expr, Args, snoc, submodel, File}
+use Rattle.functions.proofs.Lists.{clash, drop-here}
+use Rattle.ast.specs.Tree.{Span, Expr, Args, snoc, Domain, unstated, range, named, submodel, File}
 use Rattle.ast.specs.Words.{wordOf}
 use Rattle.ast.specs.Nodes.{nameAt, opAt, sizeAt, spanAt}
-use Rattle.ast.specs.Records.{domainKind, domainName, domainFits, domainOf, unknownOf, spanOfUnknown, spanOfStmt}
+use Rattle.ast.specs.Records.{domainOf, unknownOf, spanOfUnknown, spanOfStmt}
+use Rattle.ast.specs.Numbers.{DomainRead}
+use Rattle.ast.specs.WellFormed.{DomainFormed}
 use Rattle.ast.specs.Opens.{Open, contentsIn, fileIn}
 use Rattle.ast.specs.declared.sections.Sections.{Sections}
+use Rattle.ast.specs.declared.numbers.Domain as declaredDomain
+use Rattle.ast.specs.declared.numbers.Domain.the-variants as is
 use Rattle.ast.proofs.Encodes.{each-append}
-use Rattle.definitions.specs.Names.{textOf, isNonNegative, isReal}
+use Rattle.definitions.specs.Names.{textOf}
 use Rattle.definitions.specs.Variables.{Error, error, domainErrors, unknownErrors}
 use Rattle.definitions.specs.Check.{Scope, hasKeyword, exprErrors, flatErrors}
 use Rattle.definitions.specs.Flatten.{modelNamed, modelAt, scopeOf, orderErrors, subErrors, stmtErrors, errorsOf}
 use Rattle.builder.specs.Tables.{classOf, calleeOf, VarsOf}
 use Rattle.builder.specs.Listing.{Lists, Room}
-use Rattle.builder.specs.Checking.{nodesOf, scopeIn, treeIn, argsIn, argsOf, unknownIn, stmtIn, UnknownIn, ExprIn, CallIn, ArgsIn, Against, Tabled}
+use Rattle.builder.specs.Checking.{nodesOf, scopeIn, treeIn, argsIn, argsOf, unknownIn, stmtIn, UnknownIn, ExprIn, CallIn, ArgsIn, Against, TablesRead}
+use Rattle.builder.proofs.Domains.{domain-formed, coded, says-coded, coded-named}
 use Rattle.builder.proofs.Classes.{class-time, class-reserved, class-non-negative, class-real}
 use Rattle.builder.proofs.OpenRecords.{long, model-is, unknown-is, stmt-is}
 use Rattle.builder.proofs.Listings.{Joins, lists-none, lists-then, room-first, room-then}
 use Rattle.builder.proofs.Checks.{args-are}
 use Rattle.definitions.proofs.StmtKinds.{stmt-equation, stmt-rate, stmt-submodel}
 
--- ---- a domain, by its kind k
+-- ---- a domain that is no name has no error
 
-first-of : (x : Bool) (a b : ℕ) (y z : Bool) → cond x (ltb a b && y && z) false ≡ true → a < b
-first-of true a b y z h = ltb-true _ _ (and-both _ _ (and-both _ _ h .0) .0)
-first-of false a b y z h = clash (cc)
-
-module _ (names : List (List ℕ)) (p : Span) (r : List ℕ) where
-  -- a domain that is no name has no error
-  no-name : domainKind r ≤ 1 → domainErrors names p (domainOf r) ≡ []
-  unfolding domainErrors domainOf
-  no-name l = go (eqb (domainKind r) 0) (eqb (domainKind r) 1) refl refl
-    where
-      go : (x y : Bool) → eqb (domainKind r) 0 ≡ x → eqb (domainKind r) 1 ≡ y → domainErrors names p (domainOf r) ≡ []
-      go true y e g = rw e refl
-      go false true e g = rw (e, g) refl
-      go false false e g =
-          let a = eqb-false (domainKind r) 0 e in
-          let b = eqb-false (domainKind r) 1 g in
-          absurd (omega arith)
-
-  module _ (l : 1 < domainKind r) where
-    a-name : domainErrors names p (domainOf r) ≡ unless (isNonNegative names (domainName r) || isReal names (domainName r)) (error 1 p (suc (domainName r)))
-    unfolding domainErrors domainOf
-    a-name =
-        let e : eqb (domainKind r) 0 ≡ false = ne-eqb (domainKind r) 0 (λ q. omega arith) in
-        let g : eqb (domainKind r) 1 ≡ false = ne-eqb (domainKind r) 1 (λ q. omega arith) in
-        rw (e, g) refl
-
-    name-fits : (n : ℕ) → domainFits n r ≡ true → domainName r < n
-    unfolding domainFits
-    name-fits n h =
-        let e : eqb (domainKind r) 0 ≡ false = ne-eqb (domainKind r) 0 (λ q. omega arith) in
-        let g : eqb (domainKind r) 1 ≡ false = ne-eqb (domainKind r) 1 (λ q. omega arith) in
-        first-of (eqb (domainKind r) 2) (domainName r) n _ _ (rw (e, g) at h)
+no-name : (names : List (List ℕ)) (p : Span) (d : Domain) → ((n : ℕ) → coded d ≡ is.Named n → ⊥) → domainErrors names p d ≡ []
+unfolding domainErrors
+no-name names p unstated h = refl
+no-name names p (range l u) h = refl
+no-name names p (named n) h = absurd (h n refl)
 
 -- ---- unknown u
 
@@ -76,28 +55,42 @@ module _ {f : List ℕ} {s : Sections} {cs : List ℕ} {u : ℕ} (q : UnknownIn 
   class-of : (x : ℕ) → x < s .counts .names → getD cs x 0 ≡ classOf (textOf (fileIn f s .names) x)
   class-of x h = q .classes .class x (omega (arith, long f s (q .opened) .file-names))
 
-  -- no domain, or a range
-  pub domain-none : (k : ℕ) → k ≡ wordOf record-u 3 → k ≤ 1 → domainErrors (fileIn f s .names) (unknownIn f s u .span) (unknownIn f s u .domain) ≡ []
-  unfolding unknownOf
-  domain-none k e l = no-name (fileIn f s .names) _ record-u (omega arith)
+  -- its domain, read as x
+  module _ (x : declaredDomain.Domain) (e : DomainRead (domainOf record-u) x) where
+    is-coded : x ≡ coded (domainOf record-u)
+    is-coded = says-coded x (domainOf record-u) (e .says)
 
-  -- a domain by name
-  module _ (k x : ℕ) (ek : k ≡ wordOf record-u 3) (l : 1 < k) (ex : x ≡ wordOf record-u 4) where
-    pub domain-below : x < s .counts .names
-    domain-below = omega (arith, ex, name-fits (fileIn f s .names) (spanOfUnknown record-u) record-u (omega arith) (s .counts .names) (unknown-is f s (q .opened) u (q .within) .domain-fits))
-
-    pub domain-small : x < 256
-    domain-small = omega (arith, domain-below, q .opened .laid .within .names)
-
-    pub domain-named : domainErrors (fileIn f s .names) (unknownIn f s u .span) (unknownIn f s u .domain) ≡ unless (eqb (getD cs x 0) 6 || eqb (getD cs x 0) 7) (error 1 (spanOfUnknown record-u) (x + 1))
+    -- none
+    pub domain-none : x ≡ is.None → domainErrors (fileIn f s .names) (unknownIn f s u .span) (unknownIn f s u .domain) ≡ []
     unfolding unknownOf
-    domain-named =
-        let names = fileIn f s .names in
-        let w = a-name names (spanOfUnknown record-u) record-u (omega arith) in
-        let c = class-of x domain-below in
-        let e₁ = class-non-negative names x in
-        let e₂ = class-real names x in
-        rw (c, e₁, e₂, add-one, ex) w
+    domain-none g = no-name (fileIn f s .names) (spanOfUnknown record-u) (domainOf record-u) (λ n h. let k : is.None ≡ is.Named n = sym g ∙ is-coded ∙ h in clash (cc))
+
+    -- a range
+    pub domain-range : (l h : Float) → x ≡ is.Span l h → domainErrors (fileIn f s .names) (unknownIn f s u .span) (unknownIn f s u .domain) ≡ []
+    unfolding unknownOf
+    domain-range l h g = no-name (fileIn f s .names) (spanOfUnknown record-u) (domainOf record-u) (λ n i. let k : is.Span l h ≡ is.Named n = sym g ∙ is-coded ∙ i in clash (cc))
+
+    -- a name
+    module _ (n : ℕ) (g : x ≡ is.Named n) where
+      is-named : domainOf record-u ≡ named n
+      is-named = coded-named (domainOf record-u) n (sym is-coded ∙ g)
+
+      pub domain-below : n < s .counts .names
+      domain-below =
+          let h : DomainFormed (s .counts .names) (domainOf record-u) = domain-formed (s .counts .names) record-u (unknown-is f s (q .opened) u (q .within) .domain-fits) (e .small) in
+          rw is-named at h
+
+      pub domain-small : n < 256
+      domain-small = omega (arith, domain-below, q .opened .laid .within .names)
+
+      pub domain-named : domainErrors (fileIn f s .names) (unknownIn f s u .span) (unknownIn f s u .domain) ≡ unless (eqb (getD cs n 0) 6 || eqb (getD cs n 0) 7) (error 1 (spanOfUnknown record-u) (n + 1))
+      unfolding unknownOf domainErrors
+      domain-named =
+          let names = fileIn f s .names in
+          let c = class-of n domain-below in
+          let e₁ = class-non-negative names n in
+          let e₂ = class-real names n in
+          rw (is-named, c, e₁, e₂, add-one) refl
 
   -- its name
   module _ (x : ℕ) (ex : x ≡ wordOf record-u 0) where
@@ -249,7 +242,7 @@ module _ (f : File) (sub : ℕ → List Error) (n : ℕ) (a : Args) (p : Span) w
   one-found none c e h = absurd (h e)
   one-found (some m) c e h = let z : m ≡ c - 1 = omega arith in ap (λ (j : ℕ). sub j ++ orderErrors a) z
 
-module _ {f : List ℕ} {s : Sections} {cs rs ts : List ℕ} (g : Tabled f s cs rs ts) (q : ℕ) (l : q < s .counts .stmts) where
+module _ {f : List ℕ} {s : Sections} {cs rs ts : List ℕ} (g : TablesRead f s cs rs ts) (q : ℕ) (l : q < s .counts .stmts) where
   module _ (k : ℕ) (ek : k ≡ wordOf (getD (contentsIn f s .stmts) q []) 0) (h : k ≡ 3) (x : ℕ) (ex : x ≡ wordOf (getD (contentsIn f s .stmts) q []) 3) where
     submodel-is : stmtIn f s q ≡ submodel (nameAt (nodesOf f s) x) (argsOf f s x) (spanAt (nodesOf f s) x) (spanOfStmt (getD (contentsIn f s .stmts) q []))
     submodel-is = rw ex (stmt-submodel (nodesOf f s) (getD (contentsIn f s .stmts) q []) (sym ek ∙ h))
@@ -293,6 +286,6 @@ module _ (f : File) where
   errors-more (suc k) m n = record { is = rw (sub-one (suc k)) refl }
 
 -- what its statements are checked against
-pub against : {f : List ℕ} {s : Sections} {cs rs ts : List ℕ} → Tabled f s cs rs ts → (m : ℕ) → m < s .counts .models → {vs : List ℕ} → VarsOf (scopeIn f s m) vs → Against f s m cs rs vs
+pub against : {f : List ℕ} {s : Sections} {cs rs ts : List ℕ} → TablesRead f s cs rs ts → (m : ℕ) → m < s .counts .models → {vs : List ℕ} → VarsOf (scopeIn f s m) vs → Against f s m cs rs vs
 unfolding scopeOf
 against g m h v = record { scoped = record { opened = g .opened; model = h; vars = v }; classes = g .classes; rules = g .rules }

@@ -7,6 +7,7 @@ use native.Mathlib.Omega.{arith}
 use borrow.Author.Tests.{eq-eqb, ne-eqb}
 use lib.Dec.{eqb}
 use lib.ListN.{length, take, length-map}
+use lib.Ieee.{Float}
 use lib.Seq.{length-take-le}
 use Rattle.functions.specs.Lists.{times}
 use Rattle.ast.specs.Bytes.{put}
@@ -14,7 +15,7 @@ use Rattle.ast.specs.Encode.{encode}
 use Rattle.builder.specs.Places.{stmtsAt, varsAt}
 use Rattle.builder.specs.Tables.{lackingIn}
 use Rattle.builder.specs.Fating.{fatesIn, fated}
-use Rattle.builder.specs.Allocating.{stmtsIn, flatsIn, roleBy, Flattened}
+use Rattle.builder.specs.Allocating.{areaStmts, flatsIn, roleBy, Flattened}
 use Rattle.builder.specs.Root.{pairedCount, rolesBy, lackingBy, queueBy, fatedBy}
 use Rattle.builder.specs.declared.places.Sizes.{Sizes}
 use Rattle.builder.proofs.Flats.{flats-count}
@@ -62,7 +63,7 @@ pub flattened-long : (names : ℕ) (b : List ℕ) (z : Sizes) → Flattened name
 unfolding stmtsAt varsAt
 flattened-long names b z f = omega (arith, f .long)
 
-module _ (b : List ℕ) (z : Sizes) (numbers indexes rates : List ℕ) (lower : ℕ) (roles : List ℕ) (t : take (z .stmts) roles ≡ map (roleBy numbers indexes rates lower) (flatsIn b z)) where
+module _ (b : List ℕ) (z : Sizes) (numbers indexes rates : List ℕ) (lower : Float) (roles : List ℕ) (t : take (z .stmts) roles ≡ map (roleBy numbers indexes rates lower) (flatsIn b z)) where
   -- a table of them holds every statement's
   pub roles-long : z .stmts ≤ length roles
   roles-long = cut-length (z .stmts) roles (map (roleBy numbers indexes rates lower) (flatsIn b z)) t (length-map (flatsIn b z) (roleBy numbers indexes rates lower) ∙ flats-count b z)
@@ -95,9 +96,9 @@ module _ (b : List ℕ) (z : Sizes) (numbers indexes rates : List ℕ) (lower : 
           ∙ ap (λ (n : ℕ). cond (eqb (times (eqb 0) (rolesBy b z numbers indexes rates lower)) n) (lackingBy b z numbers indexes rates lower starts) []) states-by
 
       -- the area with the statements' fates
-      pub fated-by : (d : List ℕ) → d ≡ put b (stmtsAt z) (encode (fated (stmtsIn b z) (fatesIn (take queued states) (take (z .stmts) roles)))) → d ≡ put b (stmtsAt z) (encode (fatedBy b z numbers indexes rates lower starts))
+      pub fated-by : (d : List ℕ) → d ≡ put b (stmtsAt z) (encode (fated (areaStmts b z) (fatesIn (take queued states) (take (z .stmts) roles)))) → d ≡ put b (stmtsAt z) (encode (fatedBy b z numbers indexes rates lower starts))
       unfolding fatedBy
       fated-by d p =
           p
-          ∙ ap (λ (x : List ℕ). put b (stmtsAt z) (encode (fated (stmtsIn b z) (fatesIn x (take (z .stmts) roles))))) queue-by
-          ∙ ap (λ (x : List ℕ). put b (stmtsAt z) (encode (fated (stmtsIn b z) (fatesIn (queueBy b z numbers indexes rates lower starts) x)))) roles-by
+          ∙ ap (λ (x : List ℕ). put b (stmtsAt z) (encode (fated (areaStmts b z) (fatesIn x (take (z .stmts) roles))))) queue-by
+          ∙ ap (λ (x : List ℕ). put b (stmtsAt z) (encode (fated (areaStmts b z) (fatesIn (queueBy b z numbers indexes rates lower starts) x)))) roles-by

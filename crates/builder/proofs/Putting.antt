@@ -45,16 +45,14 @@ module _ (f : List ℕ) (s : Sections) (o : Open f s) (rows : List ℕ) (level i
   bearing-size = size-respan (spanning from to) _ ∙ ap (λ (ns : List (List ℕ)). size (read ns rows level i)) (nodes-from f s o)
 
   bearing-own : i < s .counts .nodes → isExpr (contentsIn f s .nodes) i ≡ true
-      → from ≡ wordOf (nodeAt (section 8 (s .counts .nodes) (s .starts .nodes) f) i) 4 → to ≡ wordOf (nodeAt (section 8 (s .counts .nodes) (s .starts .nodes) f) i) 5
+      → from ≡ wordOf (nodeAt (contentsIn f s .nodes) i) 4 → to ≡ wordOf (nodeAt (contentsIn f s .nodes) i) 5
       → bearing from to (section 8 (s .counts .nodes) (s .starts .nodes) f) rows level i ≡ read (contentsIn f s .nodes) rows level i
   bearing-own l x ef et =
-      let gf : from ≡ wordOf (nodeAt (contentsIn f s .nodes) i) 4 = rw (nodes-from f s o) at ef in
-      let gt : to ≡ wordOf (nodeAt (contentsIn f s .nodes) i) 5 = rw (nodes-from f s o) at et in
       ap (λ (ns : List (List ℕ)). bearing from to ns rows level i) (nodes-from f s o)
-      ∙ read-own (s .counts .names) (contentsIn f s .nodes) (s .counts .nodes) (passes f s o .nodes) rows level i l x from to gf gt
+      ∙ read-own (s .counts .names) (contentsIn f s .nodes) (s .counts .nodes) (passes f s o .nodes) rows level i l x from to ef et
 
   pub tree-put : (d ys : List ℕ) (done r : ℕ) → 32 * done ≤ length d → i < s .counts .nodes → isExpr (contentsIn f s .nodes) i ≡ true
-      → from ≡ wordOf (nodeAt (section 8 (s .counts .nodes) (s .starts .nodes) f) i) 4 → to ≡ wordOf (nodeAt (section 8 (s .counts .nodes) (s .starts .nodes) f) i) 5
+      → from ≡ wordOf (nodeAt (contentsIn f s .nodes) i) 4 → to ≡ wordOf (nodeAt (contentsIn f s .nodes) i) 5
       → (r ≡ size (bearing from to (section 8 (s .counts .nodes) (s .starts .nodes) f) rows level i))
       × (ys ≡ front (take (length d - 32 * done) (drop (32 * done) d)) (encode (nodes (bearing from to (section 8 (s .counts .nodes) (s .starts .nodes) f) rows level i))))
       → (done + r ≡ done + size (read (contentsIn f s .nodes) rows level i))

@@ -1,6 +1,6 @@
 -- The refusals 6, 7 and 8 in the code's terms: models reached from the last down, unknowns that list themselves, arguments argsBeyond.
 use mathlib.Core.Path.{_≡_, refl, sym, ap, _∙_}
-use mathlib.Core.Bool.{Bool, true, false, not, _&&_, _||_, or-false}
+use mathlib.Core.Bool.{Bool, true, false, not, _&&_, _||_, or-true, or-false}
 use mathlib.Core.List.{List, []}
 use mathlib.Core.Option.{Option, none, some}
 use Prim.Native.Nat.{ℕ, zero, suc, _+_, _-_, _*_, _≤_, _<_}
@@ -100,10 +100,20 @@ beyond-done ns m end c total h = ap (argsBeyond m) (args-none ns end c total (om
 
 module _ (f : List ℕ) (s : Sections) (o : Open f s) (end c total : ℕ) (l : end ≤ s .counts .nodes) (x : argsFit (contentsIn f s .nodes) end c total ≡ true) (h : 0 < c) where
   -- the same in an open file
-  pub beyond-here : (m : ℕ) → argsBeyond m (argsBefore (contentsIn f s .nodes) end c total)
+  beyond-here : (m : ℕ) → argsBeyond m (argsBefore (contentsIn f s .nodes) end c total)
       ≡ (argsBeyond m (argsBefore (contentsIn f s .nodes) (end - sizeAt (contentsIn f s .nodes) (end - 1)) (c - 1) (total - sizeAt (contentsIn f s .nodes) (end - 1)))
       || (eqb (nameAt (contentsIn f s .nodes) (end - 1)) 0 && leb m (c - 1)))
   beyond-here m = beyond-turn _ _ _ (passes f s o .nodes) m end c total l x h
+
+  abbrev before : Args
+  before = argsBefore (contentsIn f s .nodes) (end - sizeAt (contentsIn f s .nodes) (end - 1)) (c - 1) (total - sizeAt (contentsIn f s .nodes) (end - 1))
+
+  -- where the last argument is beyond, one is; where it is not, those before it decide
+  pub beyond-yes : (m : ℕ) → (eqb (nameAt (contentsIn f s .nodes) (end - 1)) 0 && leb m (c - 1)) ≡ true → argsBeyond m (argsBefore (contentsIn f s .nodes) end c total) ≡ true
+  beyond-yes m e = beyond-here m ∙ ap (λ (b : Bool). argsBeyond m before || b) e ∙ or-true (argsBeyond m before)
+
+  pub beyond-no : (m : ℕ) → (eqb (nameAt (contentsIn f s .nodes) (end - 1)) 0 && leb m (c - 1)) ≡ false → argsBeyond m (argsBefore (contentsIn f s .nodes) end c total) ≡ argsBeyond m before
+  beyond-no m e = beyond-here m ∙ ap (λ (b : Bool). argsBeyond m before || b) e ∙ or-false (argsBeyond m before)
 
 -- ---- a submodel statement whose model is found
 

@@ -7,6 +7,7 @@ use native.Mathlib.Omega.{arith}
 use native.Mathlib.Numerals.{add-one}
 use lib.Dec.{eqb}
 use lib.ListN.{length, take, getD}
+use lib.Ieee.{Float, eq}
 use lib.Seq.{take-suc, take-all}
 use Rattle.functions.specs.Lists.{each, unless}
 use Rattle.ast.specs.Tree.{Span, Flat, equation, rate}
@@ -16,11 +17,11 @@ use Rattle.ast.proofs.Encodes.{each-append}
 use Rattle.definitions.specs.Numbers.{nameNotFound, wrongStart, rateInvalid}
 use Rattle.definitions.specs.Variables.{Error, error}
 use Rattle.definitions.specs.Roles as roles
-use Rattle.definitions.specs.Roles.{sameFloat}
+use Rattle.ast.specs.Numbers.{numberOf}
 use Rattle.builder.specs.declared.places.Sizes.{Sizes}
 use Rattle.builder.specs.declared.allocate.Start.{Start}
 use Rattle.builder.specs.declared.allocate.Start.the-variants.{Nothing, Short, Number}
-use Rattle.builder.specs.Allocating.{flatAt, nodesIn, stmtIn, flatIn, flatsIn, Flattened, entryBy, startBy, startErrorsBy, rateErrorsBy, roleErrorsBy, foundStart, startAt, CallFits}
+use Rattle.builder.specs.Allocating.{flatAt, areaNodes, areaStmt, flatIn, flatsIn, Flattened, entryBy, startBy, startErrorsBy, rateErrorsBy, roleErrorsBy, foundStart, startAt, CallFits}
 use Rattle.builder.proofs.LeftSides.{entry-none, entry-some, found-start}
 use Rattle.builder.proofs.Flats.{flats-count, flat-at, flat-equation, flat-rate}
 use Rattle.definitions.proofs.ErrorCount.{length-unless}
@@ -32,9 +33,9 @@ pub number-calls : (ns : List (List ℕ)) (i : ℕ) (s : Start) (v a : ℕ) → 
 unfolding CallFits
 number-calls ns i s v a e f = rw e at f
 
-module _ (ns : List (List ℕ)) (lower f : ℕ) (s : Start) where
+module _ (ns : List (List ℕ)) (lower : Float) (f : ℕ) (s : Start) where
   -- a number is an error unless it is time's lower bound
-  pub errors-number : (v a : ℕ) → s ≡ Number v a → startErrorsBy lower (foundStart ns f s) ≡ unless (sameFloat (bitsAt ns (a - 1)) lower) (error wrongStart (spanAt ns a) (suc f))
+  pub errors-number : (v a : ℕ) → s ≡ Number v a → startErrorsBy lower (foundStart ns f s) ≡ unless (eq (numberOf (bitsAt ns (a - 1))) lower) (error wrongStart (spanAt ns a) (suc f))
   unfolding startErrorsBy foundStart
   errors-number v a e = rw e refl
 
@@ -63,23 +64,23 @@ module _ (numbers rates : List ℕ) (n : ℕ) (s : Span) where
 
 -- ---- of statement i
 
-module _ (b : List ℕ) (z : Sizes) (names : ℕ) (o : Flattened names b z) (numbers indexes rates : List ℕ) (lower i : ℕ) (h : i < z .stmts) where
+module _ (b : List ℕ) (z : Sizes) (names : ℕ) (o : Flattened names b z) (numbers indexes rates : List ℕ) (lower : Float) (i : ℕ) (h : i < z .stmts) where
   -- an equation's, by the answer for its left side
-  pub errors-equation : wordOf (stmtIn b z i) 0 ≡ 1
-      → roleErrorsBy numbers indexes rates lower (flatIn b z i) ≡ startErrorsBy lower (foundStart (nodesIn b z) (nameAt (nodesIn b z) (wordOf (stmtIn b z i) 2)) (startAt (nodesIn b z) numbers indexes (wordOf (stmtIn b z i) 2)))
+  pub errors-equation : wordOf (areaStmt b z i) 0 ≡ 1
+      → roleErrorsBy numbers indexes rates lower (flatIn b z i) ≡ startErrorsBy lower (foundStart (areaNodes b z) (nameAt (areaNodes b z) (wordOf (areaStmt b z i) 2)) (startAt (areaNodes b z) numbers indexes (wordOf (areaStmt b z i) 2)))
   unfolding roleErrorsBy
   errors-equation e =
       let t = o .left i h e in
-      ap (roleErrorsBy numbers indexes rates lower) (flat-equation b z i e) ∙ ap (startErrorsBy lower) (sym (found-start names (nodesIn b z) (z .nodes) (o .nodes) numbers indexes (wordOf (stmtIn b z i) 2) (t .0) (t .1)))
+      ap (roleErrorsBy numbers indexes rates lower) (flat-equation b z i e) ∙ ap (startErrorsBy lower) (sym (found-start names (areaNodes b z) (z .nodes) (o .nodes) numbers indexes (wordOf (areaStmt b z i) 2) (t .0) (t .1)))
 
   -- a rate equation's, by its name
-  pub errors-rate : (wordOf (stmtIn b z i) 0 ≡ 1 → ⊥)
-      → roleErrorsBy numbers indexes rates lower (flatIn b z i) ≡ rateErrorsBy rates (wordOf (stmtIn b z i) 1) (spanFrom (stmtIn b z i) 4) (entryBy numbers (wordOf (stmtIn b z i) 1))
+  pub errors-rate : (wordOf (areaStmt b z i) 0 ≡ 1 → ⊥)
+      → roleErrorsBy numbers indexes rates lower (flatIn b z i) ≡ rateErrorsBy rates (wordOf (areaStmt b z i) 1) (spanFrom (areaStmt b z i) 4) (entryBy numbers (wordOf (areaStmt b z i) 1))
   unfolding roleErrorsBy
   errors-rate ne = ap (roleErrorsBy numbers indexes rates lower) (flat-rate b z i ne)
 
 -- whatever it is
-pub errors-few : (numbers indexes rates : List ℕ) (lower : ℕ) (q : Flat) → length (roleErrorsBy numbers indexes rates lower q) ≤ 1
+pub errors-few : (numbers indexes rates : List ℕ) (lower : Float) (q : Flat) → length (roleErrorsBy numbers indexes rates lower q) ≤ 1
 unfolding roleErrorsBy startErrorsBy rateErrorsBy
 errors-few numbers indexes rates lower (equation l r s) = go (startBy numbers indexes l)
   where
@@ -99,7 +100,7 @@ module _ (b : List ℕ) (z : Sizes) (f : Flat → List Error) where
   pub errors-turn : (i : ℕ) → i < z .stmts → each f (take (i + 1) (flatsIn b z)) ≡ each f (take i (flatsIn b z)) ++ f (flatIn b z i)
   unfolding each
   errors-turn i h =
-      let t : take (i + 1) (flatsIn b z) ≡ take i (flatsIn b z) ++ (flatIn b z i ∷ []) = rw (add-one, ← flat-at b z i) (take-suc (flatsIn b z) i (flatAt (nodesIn b z) []) (omega (arith, flats-count b z))) in
+      let t : take (i + 1) (flatsIn b z) ≡ take i (flatsIn b z) ++ (flatIn b z i ∷ []) = rw (add-one, ← flat-at b z i) (take-suc (flatsIn b z) i (flatAt (areaNodes b z) []) (omega (arith, flats-count b z))) in
       ap (each f) t ∙ each-append f (take i (flatsIn b z)) (flatIn b z i ∷ []) ∙ ap (λ (x : List Error). each f (take i (flatsIn b z)) ++ x) (append-nil (f (flatIn b z i)))
 
   -- up to the last they are all

@@ -5,21 +5,25 @@ use Prim.Native.Nat.{ℕ, _+_, _*_, _^_, min, _≤_, _<_}
 use native.Mathlib.Omega.{arith}
 use lib.Dec.{eqb}
 use lib.ListN.{length, take, getD, length-append}
+use lib.Ieee.{Float}
+use Rattle.ast.specs.Numbers.{numberOf}
 use Rattle.functions.specs.Lists.{times}
 use Rattle.ast.specs.Words.{bytesOf, section}
 use Rattle.ast.specs.Bytes.{put}
 use Rattle.ast.specs.Encode.{encode}
 use Rattle.ast.specs.Opens.{Open, fileIn}
+use Rattle.ast.specs.declared.numbers.Bounds as declared
 use Rattle.ast.specs.declared.sections.Sections.{Sections}
-use Rattle.definitions.specs.Variables.{fromZero, lastBounds}
+use Rattle.definitions.specs.Variables.{Bounds, fromZero, lastBounds}
 use Rattle.definitions.specs.Flatten.{modelAt, instances, errorsOf}
 use Rattle.definitions.specs.Allocate.{lacking, leftCount}
 use Rattle.definitions.specs.Answer.{answerBytes, nodeCount, depsOf}
 use Rattle.definitions.specs.Build.{answerFrom}
 use Rattle.builder.specs.Tables.{Classes}
+use Rattle.builder.specs.Bounding.{floats, Floating}
 use Rattle.builder.specs.Places.{Small, stmtsAt, varsAt, depsAt, errorsAt}
 use Rattle.builder.specs.Checking as checking
-use Rattle.builder.specs.Allocating.{Flattened, Tabled, ListsAt}
+use Rattle.builder.specs.Allocating.{Flattened, TablesLong, ListsAt}
 use Rattle.builder.specs.Starting.{Righted}
 use Rattle.builder.specs.VarRecords.{VarTables, varRecords, headWords}
 use Rattle.builder.specs.declared.places.Sizes.{Sizes}
@@ -33,14 +37,19 @@ use Rattle.builder.proofs.RootTies.{next-start, left-tie, states-tie, f
 use Rattle.builder.proofs.RootWritten.{fates-written, vars-written, answer-written, room}
 use Rattle.definitions.proofs.ErrorCount.{length-roles, length-counts, length-starting}
 
+-- time's lower bound in floats
+pub lower-float : (b : Bounds) (x : declared.Bounds) → Floating b x → x .lower ≡ numberOf (b .lower)
+unfolding floats
+lower-float b x h = ap (λ (y : declared.Bounds). y .lower) (h .same)
+
 module _ (f : List ℕ) (s : Sections) (m : ℕ) (classes names numbers starts indexes reach rates : List ℕ) (z : Sizes) (k : Known f s m classes names numbers starts indexes reach rates z) where
   -- ---- allocating
 
-  pub allocate-needs : (b : List ℕ) → Unfated (fileIn f s) m z b → ((n : ℕ) × Flattened n b z) × Tabled z numbers indexes × (129 ≤ length rates) × (z .vars < length starts)
+  pub allocate-needs : (b : List ℕ) → Unfated (fileIn f s) m z b → ((n : ℕ) × Flattened n b z) × TablesLong z numbers indexes × (129 ≤ length rates) × (z .vars < length starts)
   allocate-needs b u =
       ((s .counts .names, unfated-flattened f s m z b (k .is-open) (k .sizes) u), tabled f s m classes names numbers starts indexes reach rates z k, omega (arith, k .tables .rates-long), omega (arith, k .tables .starts-long, k .listing .few))
 
-  module _ (lower : ℕ) (el : lower ≡ timeAt (fileIn f s) m .lower) (b b₁ : List ℕ) (u : Unfated (fileIn f s) m z b) (left states : ℕ)
+  module _ (lower : Float) (el : lower ≡ numberOf (timeAt (fileIn f s) m .lower)) (b b₁ : List ℕ) (u : Unfated (fileIn f s) m z b) (left states : ℕ)
       (e : (left ≡ times (eqb 0) (rolesBy b z numbers indexes rates lower)) × (states ≡ length (lackingBy b z numbers indexes rates lower starts)) × (b₁ ≡ put b (stmtsAt z) (encode (fatedBy b z numbers indexes rates lower starts)))) where
     pub left-is : left ≡ leftCount (rolesAt (fileIn f s) m)
     left-is = e .0 ∙ left-tie f s m classes names numbers starts indexes reach rates z k lower el b u
@@ -85,11 +94,11 @@ module _ (f : List ℕ) (s : Sections) (m : ℕ) (classes names numbers starts i
 
   module _ (calls : List ℕ) (i : ℕ) (ei : i ≡ instances (fileIn f s) (length (fileIn f s .models)) m) (hi : i ≤ 1024) where
     pub errors-needs : (b : List ℕ) → checking.Called f s classes calls → Fated (fileIn f s) m z b
-        → checking.Called f s classes calls × (m < s .counts .models) × (z .vars ≤ length names) × Righted b z × ((n : ℕ) × Flattened n b z) × Tabled z numbers indexes × (129 ≤ length rates) × (length (errorsOf (fileIn f s) (length (fileIn f s .models)) m) < 2 ^ 32)
+        → checking.Called f s classes calls × (m < s .counts .models) × (z .vars ≤ length names) × Righted b z × ((n : ℕ) × Flattened n b z) × TablesLong z numbers indexes × (129 ≤ length rates) × (length (errorsOf (fileIn f s) (length (fileIn f s .models)) m) < 2 ^ 32)
     errors-needs b t u =
         (t, k .model, omega (arith, k .listing .room, k .listing .few), righted (fileIn f s) m z b (k .sizes) u, (s .counts .names, fated-flattened f s m z b (k .is-open) (k .sizes) u), tabled f s m classes names numbers starts indexes reach rates z k, omega (arith, k .tables .rates-long), omega (arith, errors-few f s (k .is-open) i m ei hi))
 
-    module _ (lower : ℕ) (el : lower ≡ timeAt (fileIn f s) m .lower) (left states : ℕ) (eq : left ≡ leftCount (rolesAt (fileIn f s) m)) (es : states ≡ length (lacking (scopeAt (fileIn f s) m .vars) (rolesAt (fileIn f s) m)))
+    module _ (lower : Float) (el : lower ≡ numberOf (timeAt (fileIn f s) m .lower)) (left states : ℕ) (eq : left ≡ leftCount (rolesAt (fileIn f s) m)) (es : states ≡ length (lacking (scopeAt (fileIn f s) m .vars) (rolesAt (fileIn f s) m)))
         (b b₁ : List ℕ) (r : ℕ) (u : Varied (fileIn f s) m z b) (e : ListsAt (errorsAt z) b 0 (errorsBy b z numbers indexes rates lower (fileIn f s) m names left states) r b₁) where
       listed : ListsAt (errorsAt z) b 0 (answerAt (fileIn f s) m .errors) r b₁
       listed = rw (errors-tie f s m classes names numbers starts indexes reach rates z k b (u .0) lower el left states eq es) at e
@@ -117,10 +126,11 @@ module _ (f : List ℕ) (s : Sections) (m : ℕ) (classes names numbers starts i
       pub errors-small : r < 2 ^ 32
       errors-small = omega (arith, listed .0, errors-count)
 
-      pub header-needs : Open f s × Classes (fileIn f s .names) classes × (s .counts .names ≤ length classes) × (m < s .counts .models) × Small z × (40 ≤ length b₁) × (r < 2 ^ 32) × (i < 2 ^ 32)
-      header-needs =
+      pub header-needs : (time : declared.Bounds) → Floating (timeAt (fileIn f s) m) time
+          → Open f s × (m < s .counts .models) × Small z × (40 ≤ length b₁) × (r < 2 ^ 32) × (i < 2 ^ 32) × Floating (lastBounds (fileIn f s .names) (getD names 0 0) fromZero (modelAt (fileIn f s) m .unknowns)) time
+      header-needs time h =
           let l : length b₁ ≡ 55384 = lists-length (errorsAt z) b b₁ 0 r (answerAt (fileIn f s) m .errors) (omega (arith, u .0 .long, room (fileIn f s) m z (k .sizes))) listed ∙ u .0 .long in
-          (k .is-open, k .classed, omega (arith, k .classes-long, k .is-open .laid .within .names), k .model, k .sizes .small, omega (arith, l), errors-small, omega (arith, hi))
+          (k .is-open, k .model, k .sizes .small, omega (arith, l), errors-small, omega (arith, hi), rw (first-bounds f s m classes names numbers starts indexes reach rates z k) h)
 
       pub finished : (b₂ : List ℕ) (n : ℕ) → b₂ ≡ put b₁ 0 (bytesOf (headWords z r i (lastBounds (fileIn f s .names) (getD names 0 0) fromZero (modelAt (fileIn f s) m .unknowns)))) → n ≡ errorsAt z + 16 * min r 256
           → (take n b₂ ≡ answerBytes (answerAt (fileIn f s) m)) × (n ≤ 55384)

@@ -6,6 +6,8 @@ use Prim.Native.Nat.{ℕ, suc, _≤_}
 use native.Mathlib.Omega.{arith}
 use lib.Dec.{eqb}
 use lib.ListN.{length, getD}
+use lib.Ieee.{Float}
+use Rattle.ast.specs.Numbers as floating
 use Rattle.functions.specs.Lists.{place, plusOne}
 use Rattle.ast.specs.Opens.{fileIn}
 use Rattle.ast.specs.declared.sections.Sections.{Sections}
@@ -14,7 +16,7 @@ use Rattle.definitions.specs.Variables.{fromZero, lastBounds, variableNames, nu
 use Rattle.definitions.specs.Check.{lookup}
 use Rattle.definitions.specs.Flatten.{modelAt, scopeOf}
 use Rattle.builder.specs.VariableTables.{unknownsIn, rosterIn}
-use Rattle.builder.specs.Allocating.{Tabled, Agree}
+use Rattle.builder.specs.Allocating.{TablesLong, Agree}
 use Rattle.builder.specs.Root.{scopeAt, timeAt, Known}
 use Rattle.builder.specs.declared.places.Sizes.{Sizes}
 use Rattle.builder.proofs.Open.{names-long}
@@ -46,7 +48,7 @@ module _ (f : List ℕ) (s : Sections) (m : ℕ) where
 
   module _ (classes names numbers starts indexes reach rates : List ℕ) (z : Sizes) (k : Known f s m classes names numbers starts indexes reach rates z) where
     -- The tables are those of the scope and of time's bounds.
-    pub agree : (lower : ℕ) → lower ≡ timeAt (fileIn f s) m .lower → Agree (scopeAt (fileIn f s) m) (timeAt (fileIn f s) m) numbers indexes rates lower
+    pub agree : (lower : Float) → lower ≡ floating.numberOf (timeAt (fileIn f s) m .lower) → Agree (scopeAt (fileIn f s) m) (timeAt (fileIn f s) m) numbers indexes rates lower
     agree lower e =
         record {
           number = λ n h. k .listing .numbers .number n (omega (arith, scope-names, k .is-open .laid .within .names)) ∙ ap plusOne (sym (scope-number n));
@@ -56,7 +58,7 @@ module _ (f : List ℕ) (s : Sections) (m : ℕ) where
         }
 
     -- They are long enough, and each number is a variable's.
-    pub tabled : Tabled z numbers indexes
+    pub tabled : TablesLong z numbers indexes
     tabled =
         record {
           names = omega (arith, k .listing .every);

@@ -6,6 +6,8 @@ use Prim.Native.Nat.{ℕ, zero, suc, _+_, _<_}
 use native.Mathlib.Omega.{arith}
 use lib.Dec.{eqb}
 use lib.ListN.{length, take, getD, length-append}
+use lib.Ieee.{Float}
+use Rattle.ast.specs.Numbers.{numberOf}
 use lib.Seq.{getD-take}
 use Rattle.functions.specs.Lists.{each, times}
 use Rattle.ast.specs.Tree.{Flat, equation, rate, flatSize}
@@ -21,7 +23,7 @@ use Rattle.builder.specs.Tables.{roleNumber, lackingIn}
 use Rattle.builder.specs.VariableTables.{rosterIn, unknownsIn}
 use Rattle.builder.specs.Unfated.{unfatedWords, unfated}
 use Rattle.builder.specs.Fating as fating
-use Rattle.builder.specs.Allocating.{nodesIn, stmtsIn, flatsIn, roleErrorsBy, Flattened}
+use Rattle.builder.specs.Allocating.{areaNodes, areaStmts, flatsIn, roleErrorsBy, Flattened}
 use Rattle.builder.specs.Starting.{startingIn}
 use Rattle.builder.specs.VarRecords.{varRecords}
 use Rattle.builder.specs.declared.places.Sizes.{Sizes}
@@ -91,7 +93,7 @@ module _ (f : List ℕ) (s : Sections) (m : ℕ) (classes names numbers starts i
 
   -- ---- before the fates are known
 
-  module _ (lower : ℕ) (el : lower ≡ timeAt (fileIn f s) m .lower) (b : List ℕ) (u : Unfated (fileIn f s) m z b) where
+  module _ (lower : Float) (el : lower ≡ numberOf (timeAt (fileIn f s) m .lower)) (b : List ℕ) (u : Unfated (fileIn f s) m z b) where
     formed : Flattened (length (scopeAt (fileIn f s) m .names)) b z
     formed = rw names-all (unfated-flattened f s m z b (k .is-open) (k .sizes) u)
 
@@ -134,7 +136,7 @@ module _ (f : List ℕ) (s : Sections) (m : ℕ) (classes names numbers starts i
   -- ---- with the fates
 
   module _ (b : List ℕ) (u : Fated (fileIn f s) m z b) where
-    agreeing : Agreeing (answerAt (fileIn f s) m) (fileIn f s .names) (modelAt (fileIn f s) m .unknowns) (stmtsIn b z) names starts indexes reach
+    agreeing : Agreeing (answerAt (fileIn f s) m) (fileIn f s .names) (modelAt (fileIn f s) m .unknowns) (areaStmts b z) names starts indexes reach
     unfolding answerFrom scopeOf
     agreeing = record {
       fates = ap (map recordPair) (fated-stmts (fileIn f s) m z b (k .sizes) u) ∙ records-pairs 0 (flatsOf (fileIn f s) m) (fatesAt (fileIn f s) m) (fates-count (fileIn f s) m);
@@ -147,13 +149,13 @@ module _ (f : List ℕ) (s : Sections) (m : ℕ) (classes names numbers starts i
     }
 
     -- the variables' records
-    pub vars-tie : varRecords (fileIn f s .names) (modelAt (fileIn f s) m .unknowns) (stmtsIn b z) names starts indexes reach (z .vars) ≡ variableRecords (answerAt (fileIn f s) m) 0 0 (scopeAt (fileIn f s) m .vars)
+    pub vars-tie : varRecords (fileIn f s .names) (modelAt (fileIn f s) m .unknowns) (areaStmts b z) names starts indexes reach (z .vars) ≡ variableRecords (answerAt (fileIn f s) m) 0 0 (scopeAt (fileIn f s) m .vars)
     unfolding answerFrom
     vars-tie =
-        ap (varRecords (fileIn f s .names) (modelAt (fileIn f s) m .unknowns) (stmtsIn b z) names starts indexes reach) (k .sizes .vars)
-        ∙ var-records-are (answerAt (fileIn f s) m) (fileIn f s .names) (modelAt (fileIn f s) m .unknowns) (stmtsIn b z) names starts indexes reach agreeing
+        ap (varRecords (fileIn f s .names) (modelAt (fileIn f s) m .unknowns) (areaStmts b z) names starts indexes reach) (k .sizes .vars)
+        ∙ var-records-are (answerAt (fileIn f s) m) (fileIn f s .names) (modelAt (fileIn f s) m .unknowns) (areaStmts b z) names starts indexes reach agreeing
 
-    module _ (lower : ℕ) (el : lower ≡ timeAt (fileIn f s) m .lower) (left states : ℕ) (eq : left ≡ leftCount (rolesAt (fileIn f s) m)) (es : states ≡ length (lacking (scopeAt (fileIn f s) m .vars) (rolesAt (fileIn f s) m))) where
+    module _ (lower : Float) (el : lower ≡ numberOf (timeAt (fileIn f s) m .lower)) (left states : ℕ) (eq : left ≡ leftCount (rolesAt (fileIn f s) m)) (es : states ≡ length (lacking (scopeAt (fileIn f s) m .vars) (rolesAt (fileIn f s) m))) where
       formed-too : Flattened (length (scopeAt (fileIn f s) m .names)) b z
       formed-too = rw names-all (fated-flattened f s m z b (k .is-open) (k .sizes) u)
 
@@ -162,7 +164,7 @@ module _ (f : List ℕ) (s : Sections) (m : ℕ) (classes names numbers starts i
           all-errors-same (scopeAt (fileIn f s) m) (timeAt (fileIn f s) m) numbers indexes rates lower (agree f s m classes names numbers starts indexes reach rates z k lower el) b z formed-too
           ∙ ap (each (roleErrors (scopeAt (fileIn f s) m) (timeAt (fileIn f s) m))) (fated-read f s m z b (k .is-open) (k .sizes) u)
 
-      start-errors-tie : startingIn (modelAt (fileIn f s) m .span) (nodesIn b z) (stmtsIn b z) names (z .vars) ≡ startingErrors (modelAt (fileIn f s) m .span) (scopeAt (fileIn f s) m .vars) (flatsOf (fileIn f s) m) (fatesAt (fileIn f s) m)
+      start-errors-tie : startingIn (modelAt (fileIn f s) m .span) (areaNodes b z) (areaStmts b z) names (z .vars) ≡ startingErrors (modelAt (fileIn f s) m .span) (scopeAt (fileIn f s) m .vars) (flatsOf (fileIn f s) m) (fatesAt (fileIn f s) m)
       start-errors-tie =
           let rs = flatRecords 0 (flatsOf (fileIn f s) m) (fatesAt (fileIn f s) m) in
           rw (nodes-read (fileIn f s) m z rs b (k .sizes) u, fated-stmts (fileIn f s) m z b (k .sizes) u, k .sizes .vars)

@@ -20,7 +20,7 @@ use Rattle.definitions.specs.Variables.{Error, error}
 use Rattle.definitions.specs.Flatten.{noModel, modelAt}
 use Rattle.definitions.specs.Allocate.{countErrors}
 use Rattle.builder.specs.Places.{errorsAt}
-use Rattle.builder.specs.Allocating.{nodesIn, stmtsIn, ListsAt}
+use Rattle.builder.specs.Allocating.{areaNodes, areaStmts, ListsAt}
 use Rattle.builder.specs.Fating.{isFated}
 use Rattle.builder.specs.Starting.{rightSpanIn, heldErrorsIn, stateErrorsIn, startingIn, Righted}
 use Rattle.builder.specs.declared.places.Sizes.{Sizes}
@@ -129,13 +129,13 @@ righted-listed z d d′ n r es w p =
 
 -- one variable more
 pub starting-next : (z : Sizes) (d d′ d″ : List ℕ) (model : Span) (names : List ℕ) (v n r r′ held first : ℕ) → Righted d z
-    → held ≡ plusOne (place (isFated 2 v) (stmtsIn d z)) → first ≡ plusOne (place (isFated 1 v) (stmtsIn d z))
-    → ListsAt (errorsAt z) d n (startingIn model (nodesIn d z) (stmtsIn d z) names v) r d′
-    → ListsAt (errorsAt z) d′ r (heldErrorsIn model (nodesIn d′ z) (stmtsIn d′ z) (getD names v 0) held first) r′ d″
-    → (r′ ≤ r + 1) × ListsAt (errorsAt z) d n (startingIn model (nodesIn d z) (stmtsIn d z) names (v + 1)) r′ d″
+    → held ≡ plusOne (place (isFated 2 v) (areaStmts d z)) → first ≡ plusOne (place (isFated 1 v) (areaStmts d z))
+    → ListsAt (errorsAt z) d n (startingIn model (areaNodes d z) (areaStmts d z) names v) r d′
+    → ListsAt (errorsAt z) d′ r (heldErrorsIn model (areaNodes d′ z) (areaStmts d′ z) (getD names v 0) held first) r′ d″
+    → (r′ ≤ r + 1) × ListsAt (errorsAt z) d n (startingIn model (areaNodes d z) (areaStmts d z) names (v + 1)) r′ d″
 unfolding stateErrorsIn
 starting-next z d d′ d″ model names v n r r′ held first w eh ef p q =
     let k = kept-listed z d d′ n r _ (w .long) p in
-    let q′ : ListsAt (errorsAt z) d′ r (stateErrorsIn model (nodesIn d z) (stmtsIn d z) (getD names v 0) v) r′ d″ = rw (← eh, ← ef, k .nodes, k .stmts) q in
+    let q′ : ListsAt (errorsAt z) d′ r (stateErrorsIn model (areaNodes d z) (areaStmts d z) (getD names v 0) v) r′ d″ = rw (← eh, ← ef, k .nodes, k .stmts) q in
     let l : errorsAt z ≤ length d = omega (arith, w .long) in
-    (omega (arith, q′ .0, state-few model (nodesIn d z) (stmtsIn d z) (getD names v 0) v), rw (starting-turn model (nodesIn d z) (stmtsIn d z) names v) (then-at (errorsAt z) d d′ d″ n r r′ _ _ l p q′))
+    (omega (arith, q′ .0, state-few model (areaNodes d z) (areaStmts d z) (getD names v 0) v), rw (starting-turn model (areaNodes d z) (areaStmts d z) names v) (then-at (errorsAt z) d d′ d″ n r r′ _ _ l p q′))

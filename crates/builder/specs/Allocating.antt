@@ -7,14 +7,16 @@ use mathlib.Core.List.{List, [], _∷_, _++_, map}
 use mathlib.Core.Option.{Option, none, some}
 use lib.Dec.{eqb, leb}
 use lib.ListN.{length, take, drop, getD}
+use lib.Ieee.{Float, eq}
 use Rattle.functions.specs.Lists.{unless, plusOne, flag, _>>=_}
 use Rattle.ast.specs.Tree.{Span, Expr, name, number, binary, unary, call, Args, Flat, equation, rate, count}
 use Rattle.ast.specs.Words.{section, wordOf, spanFrom}
+use Rattle.ast.specs.Numbers.{numberOf}
 use Rattle.ast.specs.Nodes.{kindAt, nameAt, opAt, sizeAt, spanAt, bitsAt, treeAt, isExpr, nodesFit}
 use Rattle.definitions.specs.Numbers.{nameNotFound, wrongStart, rateInvalid}
 use Rattle.definitions.specs.Variables.{Error, error, Bounds, at, timeIndex}
 use Rattle.definitions.specs.Check.{Scope, lookup}
-use Rattle.definitions.specs.Roles.{Start, argAt, numberIn, sameFloat, takesRate}
+use Rattle.definitions.specs.Roles.{Start, argAt, numberIn, takesRate}
 use Rattle.builder.specs.Listing.{listed}
 use Rattle.builder.specs.Places.{Small, stmtsAt}
 use Rattle.builder.specs.declared.places.Sizes.{Sizes}
@@ -30,32 +32,32 @@ flatAt ns r =
 
 module _ (b : List ℕ) (z : Sizes) where
   -- the nodes and the statements' records
-  abbrev pub nodesIn : List (List ℕ)
-  nodesIn = section 8 (z .nodes) 40 b
+  abbrev pub areaNodes : List (List ℕ)
+  areaNodes = section 8 (z .nodes) 40 b
 
-  abbrev pub stmtsIn : List (List ℕ)
-  stmtsIn = section 8 (z .stmts) (stmtsAt z) b
+  abbrev pub areaStmts : List (List ℕ)
+  areaStmts = section 8 (z .stmts) (stmtsAt z) b
 
-  abbrev pub stmtIn : ℕ → List ℕ
-  stmtIn i = getD stmtsIn i []
+  abbrev pub areaStmt : ℕ → List ℕ
+  areaStmt i = getD areaStmts i []
 
   -- statement i, and all of them
   unfoldable pub flatIn : ℕ → Flat
-  flatIn i = flatAt nodesIn (stmtIn i)
+  flatIn i = flatAt areaNodes (areaStmt i)
 
   unfoldable pub flatsIn : List Flat
-  flatsIn = map (flatAt nodesIn) stmtsIn
+  flatsIn = map (flatAt areaNodes) areaStmts
 
 -- An area with the nodes and statements of a flattened model, where there are `names` names.
 pub record Flattened (names : ℕ) (b : List ℕ) (z : Sizes) : Type 0 where
   pub long : 40 + 32 * z .nodes + 32 * z .stmts ≤ length b
   pub small : Small z
   pub few : names ≤ 256
-  pub nodes : nodesFit names (nodesIn b z) (z .nodes) ≡ true
-  pub kind : (i : ℕ) → i < z .stmts → (wordOf (stmtIn b z i) 0 ≡ 1) ⊎ (wordOf (stmtIn b z i) 0 ≡ 2)
-  pub right : (i : ℕ) → i < z .stmts → (wordOf (stmtIn b z i) 3 < z .nodes) × (isExpr (nodesIn b z) (wordOf (stmtIn b z i) 3) ≡ true)
-  pub left : (i : ℕ) → i < z .stmts → wordOf (stmtIn b z i) 0 ≡ 1 → (wordOf (stmtIn b z i) 2 < z .nodes) × (isExpr (nodesIn b z) (wordOf (stmtIn b z i) 2) ≡ true)
-  pub name : (i : ℕ) → i < z .stmts → wordOf (stmtIn b z i) 0 ≡ 2 → wordOf (stmtIn b z i) 1 < names
+  pub nodes : nodesFit names (areaNodes b z) (z .nodes) ≡ true
+  pub kind : (i : ℕ) → i < z .stmts → (wordOf (areaStmt b z i) 0 ≡ 1) ⊎ (wordOf (areaStmt b z i) 0 ≡ 2)
+  pub right : (i : ℕ) → i < z .stmts → (wordOf (areaStmt b z i) 3 < z .nodes) × (isExpr (areaNodes b z) (wordOf (areaStmt b z i) 3) ≡ true)
+  pub left : (i : ℕ) → i < z .stmts → wordOf (areaStmt b z i) 0 ≡ 1 → (wordOf (areaStmt b z i) 2 < z .nodes) × (isExpr (areaNodes b z) (wordOf (areaStmt b z i) 2) ≡ true)
+  pub name : (i : ℕ) → i < z .stmts → wordOf (areaStmt b z i) 0 ≡ 2 → wordOf (areaStmt b z i) 1 < names
 
 -- ---- tables: `numbers` has each name's variable number plus 1 or 0, `indexes` each variable's time index plus 1 or 0, `rates` 1 for each
 -- variable that a rate equation may go to; `lower` is time's lower bound
@@ -69,7 +71,7 @@ unfoldable pub entryBy : List ℕ → ℕ → Option ℕ
 entryBy table n = lessOne (getD table n 0)
 
 -- tables that are long enough, for names up to 256 and variables up to 129
-pub record Tabled (z : Sizes) (numbers indexes : List ℕ) : Type 0 where
+pub record TablesLong (z : Sizes) (numbers indexes : List ℕ) : Type 0 where
   pub names : 256 ≤ length numbers
   pub vars : 129 ≤ length indexes
   pub entries : (n : ℕ) → n < 256 → getD numbers n 0 ≤ z .vars
@@ -109,13 +111,13 @@ module _ (numbers indexes : List ℕ) where
   shortBy (rate n r s) = false
 
 -- Roles as numbers: 0 for neither, 2 v + 1 for an initial condition of v, 2 v + 2 for a rate equation that goes to v.
-unfoldable pub startNumber : ℕ → Option Start → ℕ
+unfoldable pub startNumber : Float → Option Start → ℕ
 startNumber lower none = 0
-startNumber lower (some x) = cond (sameFloat (x .bits) lower) (2 * x .variable + 1) 0
+startNumber lower (some x) = cond (eq (numberOf (x .bits)) lower) (2 * x .variable + 1) 0
 
-unfoldable pub startErrorsBy : ℕ → Option Start → List Error
+unfoldable pub startErrorsBy : Float → Option Start → List Error
 startErrorsBy lower none = []
-startErrorsBy lower (some x) = unless (sameFloat (x .bits) lower) (error wrongStart (x .span) (suc (x .caller)))
+startErrorsBy lower (some x) = unless (eq (numberOf (x .bits)) lower) (error wrongStart (x .span) (suc (x .caller)))
 
 unfoldable pub rateNumber : List ℕ → Option ℕ → ℕ
 rateNumber rates none = 0
@@ -125,7 +127,7 @@ unfoldable pub rateErrorsBy : List ℕ → ℕ → Span → Option ℕ → List 
 rateErrorsBy rates n s none = error nameNotFound s (suc n) ∷ []
 rateErrorsBy rates n s (some v) = unless (eqb (getD rates v 0) 1) (error rateInvalid s (suc n))
 
-module _ (numbers indexes rates : List ℕ) (lower : ℕ) where
+module _ (numbers indexes rates : List ℕ) (lower : Float) where
   unfoldable pub roleBy : Flat → ℕ
   roleBy (equation l r s) = startNumber lower (startBy numbers indexes l)
   roleBy (rate n r s) = rateNumber rates (entryBy numbers n)
@@ -135,11 +137,11 @@ module _ (numbers indexes rates : List ℕ) (lower : ℕ) where
   roleErrorsBy (rate n r s) = rateErrorsBy rates n s (entryBy numbers n)
 
 -- The tables are those of a scope and of time's bounds.
-pub record Agree (c : Scope) (time : Bounds) (numbers indexes rates : List ℕ) (lower : ℕ) : Type 0 where
+pub record Agree (c : Scope) (time : Bounds) (numbers indexes rates : List ℕ) (lower : Float) : Type 0 where
   pub number : (n : ℕ) → n < length (c .names) → getD numbers n 0 ≡ plusOne (lookup c n)
   pub index : (v : ℕ) → v < length (c .vars) → getD indexes v 0 ≡ plusOne (timeIndex (at (c .vars) v))
   pub rate : (v : ℕ) → v < length (c .vars) → getD rates v 0 ≡ flag (takesRate c v)
-  pub low : lower ≡ time .lower
+  pub low : lower ≡ numberOf (time .lower)
 
 -- ---- the code's answer for a left side
 

@@ -1,11 +1,12 @@
--- Bounds in floats, as the code works them out by an unknown's domain, and the unknown that declares a name last.
-use Prim.Native.Nat.{ℕ, _-_, _≤_}
+-- Bounds in floats, as the code works them out by an unknown's domain, and in bits; and the unknown that declares a name last.
+use Prim.Native.Nat.{ℕ, _-_, _^_, _≤_, _<_}
 use mathlib.Core.Path.{_≡_}
-use mathlib.Core.Bool.{Bool, cond}
+use mathlib.Core.Bool.{Bool, true, cond}
 use mathlib.Core.List.{List, []}
 use lib.Dec.{eqb}
 use lib.ListN.{getD}
-use lib.Ieee.{binary64, toBits}
+use lib.Ieee.{Float, binary64, isNan, toBits}
+use Rattle.ast.specs.Words.{floatFrom}
 use Rattle.ast.specs.Records.{nameOfUnknown, domainOf}
 use Rattle.ast.specs.Numbers.{numberOf}
 use Rattle.ast.specs.Opens.{contentsIn, fileIn}
@@ -20,18 +21,27 @@ use Rattle.definitions.specs.Flatten.{modelAt}
 unfoldable pub boundsFrom : Bool → Bounds
 boundsFrom floor = cond floor fromZero unbounded
 
--- the pair of floats that two numbers of 64 bits are, and back: a NaN has no bits of its own
+-- the pair of floats that two numbers of 64 bits are: any NaN is one and the same
 unfoldable pub floats : Bounds → declared.Bounds
 floats b = record { lower = numberOf (b .lower); upper = numberOf (b .upper) }
 
-unfoldable pub bitsOf : declared.Bounds → Bounds
-bitsOf b = record { lower = toBits binary64 (b .lower); upper = toBits binary64 (b .upper) }
+-- what the code holds of bounds
+pub record Floating (b : Bounds) (x : declared.Bounds) : Type 0 where
+  pub same : x ≡ floats b
+  pub lower-small : b .lower < 2 ^ 64
+  pub upper-small : b .upper < 2 ^ 64
 
--- Each case of a domain: none, where a time begins at 0; the range itself; a name, where NonNegative begins at 0.
-unfoldable pub caseBounds : Domain → Bool → Bool → declared.Bounds
-caseBounds None time positive = floats (boundsFrom time)
-caseBounds (Span l u) time positive = record { lower = l; upper = u }
-caseBounds (Named n) time positive = floats (boundsFrom positive)
+-- Each case of a domain: none, where a time begins at 0; the range itself; a name by its class, where NonNegative begins at 0.
+unfoldable pub caseBounds : Domain → Bool → List ℕ → declared.Bounds
+caseBounds None time classes = floats (boundsFrom time)
+caseBounds (Span l u) time classes = record { lower = l; upper = u }
+caseBounds (Named n) time classes = floats (boundsFrom (eqb (getD classes n 0) 6))
+
+-- a domain's name is one of k
+unfoldable pub NamedBelow : ℕ → Domain → Type 0
+NamedBelow k None = Unit {0}
+NamedBelow k (Span l u) = Unit {0}
+NamedBelow k (Named n) = n < k
 
 module _ (f : List ℕ) (s : Sections) where
   -- The bounds of unknown u by its record.
@@ -48,3 +58,14 @@ module _ (f : List ℕ) (s : Sections) where
   pub record LastDeclared (m name r : ℕ) : Type 0 where
     pub within : r ≤ s .counts .unknowns
     pub bounds : (b : Bounds) → lastBounds (fileIn f s .names) name b (modelAt (fileIn f s) m .unknowns) ≡ declaredBounds r b
+
+  -- The bits of a bound that unknown r - 1 declares: those of its number. A NaN has none of its own: those of the file, from word k of the unknown on.
+  unfoldable pub boundBits : ℕ → ℕ → Float → ℕ
+  boundBits r k x = cond (isNan x) (floatFrom (getD (contentsIn f s .unknowns) (r - 1) []) k) (toBits binary64 x)
+
+  unfoldable pub boundsBits : ℕ → declared.Bounds → Bounds
+  boundsBits r x = record { lower = boundBits r 4 (x .lower); upper = boundBits r 6 (x .upper) }
+
+-- A NaN is an unknown's.
+abbrev pub NanDeclared : ℕ → Float → Type 0
+NanDeclared r x = isNan x ≡ true → 0 < r

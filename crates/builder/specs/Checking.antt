@@ -77,7 +77,7 @@ pub record Called (f : List ℕ) (s : Sections) (cs ts : List ℕ) : Type 0 wher
   pub callees : Callees f s ts
 
 -- The tables that the models of a file are checked with: these, and the rules of the names.
-pub record Tabled (f : List ℕ) (s : Sections) (cs rs ts : List ℕ) : Type 0 where
+pub record TablesRead (f : List ℕ) (s : Sections) (cs rs ts : List ℕ) : Type 0 where
   pub opened : Open f s
   pub classes : Classes (fileIn f s .names) cs
   pub rules : RuleNumbers (fileIn f s .names) rs

@@ -5,6 +5,7 @@ use mathlib.Core.Bool.{cond, _||_}
 use mathlib.Core.List.{List, [], _++_, map}
 use lib.Dec.{eqb}
 use lib.ListN.{length, take, drop, getD}
+use lib.Ieee.{Float}
 use Rattle.functions.specs.Lists.{each, sumOf, plusOne, flag, times}
 use Rattle.ast.specs.Tree.{File, Flat, flatSize}
 use Rattle.ast.specs.Words.{bytesOf}
@@ -24,13 +25,19 @@ use Rattle.builder.specs.VariableTables.{rosterIn, rostered, Listing}
 use Rattle.builder.specs.Unfated.{unfated}
 use Rattle.builder.specs.Places.{Small, stmtsAt, varsAt, depsAt}
 use Rattle.builder.specs.Fating as fating
-use Rattle.builder.specs.Allocating.{nodesIn, stmtsIn, flatsIn, roleBy, roleErrorsBy}
+use Rattle.builder.specs.Allocating.{areaNodes, areaStmts, flatsIn, roleBy, roleErrorsBy}
 use Rattle.builder.specs.Starting.{startingIn}
 use Rattle.builder.specs.declared.places.Sizes.{Sizes}
 use Rattle.builder.specs.declared.measure.Measured as measured
 use Rattle.builder.specs.declared.measure.Measured.the-variants.{Refused, Sized}
 use Rattle.builder.specs.declared.filling.Answered as answered
 use Rattle.builder.specs.declared.filling.Answered.the-variants as is
+
+-- The numbers of instances, flattened statements and flattened nodes.
+pub record Measure : Type 0 where
+  pub instances : ℕ
+  pub stmts : ℕ
+  pub nodes : ℕ
 
 -- ---- the parts of a root model's answer
 
@@ -60,12 +67,20 @@ module _ (f : File) (m : ℕ) where
       (cond (selfListed f m) selfListedUnknown
       (cond (overfull f m) argumentBeyond 0))
 
-  -- refusal 9, or the numbers of instances, statements and nodes
-  unfoldable pub sizeOf : measured.Measured
-  sizeOf = cond (tooBig f m flatsOf) (Refused overMost) (Sized (instances f (length (f .models)) m) (length flatsOf) (sumOf flatSize flatsOf))
+  -- refusal 9, or the sizes
+  unfoldable pub sizeOf : Result Measure
+  sizeOf =
+      cond (tooBig f m flatsOf) (refusal overMost)
+      (accepted (record { instances = instances f (length (f .models)) m; stmts = length flatsOf; nodes = sumOf flatSize flatsOf }))
 
-  unfoldable pub measureOf : measured.Measured
-  measureOf = cond (eqb forbiddenOf 0) sizeOf (Refused forbiddenOf)
+  -- refusals 6 to 9, or the sizes
+  unfoldable pub measureOf : Result Measure
+  measureOf = cond (eqb forbiddenOf 0) sizeOf (refusal forbiddenOf)
+
+-- Each case of the code's answer: a refusal's number, or the sizes.
+unfoldable pub measuredAs : measured.Measured → Result Measure
+measuredAs (Refused n) = refusal n
+measuredAs (Sized i q n) = accepted (record { instances = i; stmts = q; nodes = n })
 
 -- ---- the tables of the root's variables
 
@@ -124,7 +139,7 @@ unfoldable pub part : ℕ → ℕ → List ℕ → List ℕ
 part at n b = take n (drop at b)
 
 -- An area with the nodes, the statements' records `rs` and the dependents of the answer.
-pub record Laid (f : File) (m : ℕ) (z : Sizes) (rs : List (List ℕ)) (b : List ℕ) : Type 0 where
+pub record PartsLaid (f : File) (m : ℕ) (z : Sizes) (rs : List (List ℕ)) (b : List ℕ) : Type 0 where
   pub long : length b ≡ 55384
   pub nodes : part 40 (32 * z .nodes) b ≡ encode (each flatNodes (flatsOf f m))
   pub stmts : part (stmtsAt z) (32 * z .stmts) b ≡ encode rs
@@ -132,10 +147,10 @@ pub record Laid (f : File) (m : ℕ) (z : Sizes) (rs : List (List ℕ)) (b : Lis
 
 -- before their fates are known, and with them
 abbrev pub Unfated : File → ℕ → Sizes → List ℕ → Type 0
-Unfated f m z b = Laid f m z (unfated 0 (flatsOf f m)) b
+Unfated f m z b = PartsLaid f m z (unfated 0 (flatsOf f m)) b
 
 abbrev pub Fated : File → ℕ → Sizes → List ℕ → Type 0
-Fated f m z b = Laid f m z (flatRecords 0 (flatsOf f m) (fatesAt f m)) b
+Fated f m z b = PartsLaid f m z (flatRecords 0 (flatsOf f m) (fatesAt f m)) b
 
 -- how many of the states are paired
 unfoldable pub pairedCount : ℕ → ℕ → ℕ
@@ -147,7 +162,7 @@ Varied f m z b = Fated f m z b × (part (varsAt z) (48 * z .vars) b ≡ encode (
 
 -- ---- fates and errors by the tables, over the records in an area
 
-module _ (b : List ℕ) (z : Sizes) (numbers indexes rates : List ℕ) (lower : ℕ) where
+module _ (b : List ℕ) (z : Sizes) (numbers indexes rates : List ℕ) (lower : Float) where
   unfoldable pub rolesBy : List ℕ
   rolesBy = map (roleBy numbers indexes rates lower) (flatsIn b z)
 
@@ -161,18 +176,18 @@ module _ (b : List ℕ) (z : Sizes) (numbers indexes rates : List ℕ) (lower : 
 
     -- the statements' records with their fates
     unfoldable pub fatedBy : List (List ℕ)
-    fatedBy = fating.fated (stmtsIn b z) (fating.fatesIn queueBy rolesBy)
+    fatedBy = fating.fated (areaStmts b z) (fating.fatesIn queueBy rolesBy)
 
   -- the errors of root model m, where `left` statements and `states` states are left
   unfoldable pub errorsBy : File → ℕ → List ℕ → ℕ → ℕ → List Error
   errorsBy f m names left states =
-      errorsOf f (length (f .models)) m ++ each (roleErrorsBy numbers indexes rates lower) (flatsIn b z) ++ countErrors (modelAt f m .span) left states ++ startingIn (modelAt f m .span) (nodesIn b z) (stmtsIn b z) names (z .vars)
+      errorsOf f (length (f .models)) m ++ each (roleErrorsBy numbers indexes rates lower) (flatsIn b z) ++ countErrors (modelAt f m .span) left states ++ startingIn (modelAt f m .span) (areaNodes b z) (areaStmts b z) names (z .vars)
 
 -- ---- what the build of a model answers: a refusal, or the bytes used of an area
 
-unfoldable pub given : answered.Answered → List ℕ → Result (List ℕ)
-given (is.Refused n) b = refusal n
-given (is.Used n) b = accepted (take n b)
+unfoldable pub answeredAs : answered.Answered → List ℕ → Result (List ℕ)
+answeredAs (is.Refused n) b = refusal n
+answeredAs (is.Used n) b = accepted (take n b)
 
 unfoldable pub usedIn : answered.Answered → ℕ
 usedIn (is.Refused n) = 0

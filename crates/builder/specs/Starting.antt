@@ -11,7 +11,7 @@ use Rattle.ast.specs.Nodes.{spanAt}
 use Rattle.definitions.specs.Numbers.{noInitialCondition, algebraicInitialCondition}
 use Rattle.definitions.specs.Variables.{Error, error}
 use Rattle.builder.specs.Places.{Small, errorsAt}
-use Rattle.builder.specs.Allocating.{stmtIn}
+use Rattle.builder.specs.Allocating.{areaStmt}
 use Rattle.builder.specs.Fating.{isFated}
 use Rattle.builder.specs.declared.places.Sizes.{Sizes}
 
@@ -40,4 +40,4 @@ module _ (model : Span) (ns rs : List (List ℕ)) where
 pub record Righted (b : List ℕ) (z : Sizes) : Type 0 where
   pub small : Small z
   pub long : errorsAt z + 4096 ≤ length b
-  pub right : (i : ℕ) → i < z .stmts → wordOf (stmtIn b z i) 3 < z .nodes
+  pub right : (i : ℕ) → i < z .stmts → wordOf (areaStmt b z i) 3 < z .nodes

@@ -5,7 +5,7 @@ ghost use Rattle.ast.specs.Opens.{fileIn};
 ghost use Rattle.definitions.specs.Flatten.{errorsOf};
 ghost use Rattle.builder.specs.Places.{Small, errorsAt};
 ghost use Rattle.builder.specs.Checking as checking;
-ghost use Rattle.builder.specs.Allocating.{Flattened, Tabled, ListsAt};
+ghost use Rattle.builder.specs.Allocating.{Flattened, TablesLong, ListsAt};
 ghost use Rattle.builder.specs.Starting.{Righted};
 ghost use Rattle.builder.specs.Root.{errorsBy};
 use super::allocate::roles_errors;
@@ -49,10 +49,10 @@ pub fn all_errors(
     numbers: &[u32],
     indexes: &[u32],
     rates: &[u8],
-    lower: u64,
+    lower: f64,
     left: Left,
 ) -> usize
-    requires { ⌜ checking.Called (now f) s (now classes) (now calls) × (m < s .counts .models) × (z .vars ≤ length (now names)) × Righted (now own) z × ((count : ℕ) × Flattened count (now own) z) × Tabled z (now numbers) (now indexes) × (129 ≤ length (now rates)) × (length (errorsOf (fileIn (now f) s) (length (fileIn (now f) s .models)) m) < 2 ^ 32) ⌝ }
+    requires { ⌜ checking.Called (now f) s (now classes) (now calls) × (m < s .counts .models) × (z .vars ≤ length (now names)) × Righted (now own) z × ((count : ℕ) × Flattened count (now own) z) × TablesLong z (now numbers) (now indexes) × (129 ≤ length (now rates)) × (length (errorsOf (fileIn (now f) s) (length (fileIn (now f) s .models)) m) < 2 ^ 32) ⌝ }
     ensures { λ r. ⌜ ListsAt (errorsAt z) (now (own .entry)) 0 (errorsBy (now (own .entry)) z (now (numbers .entry)) (now (indexes .entry)) (now (rates .entry)) lower (fileIn (now (f .entry)) s) m (now (names .entry)) (left .stmts) (left .states)) r (now (own .exit)) ⌝ }
 {
     let built = models_errors(f, s, classes, calls, m, own, z);

@@ -5,13 +5,14 @@ ghost use Prim.Native.Nat.{ℕ, suc, _+_, _-_, _*_, _^_, _≤_, _<_};
 ghost use lib.ListN.{length, take, getD};
 ghost use Rattle.functions.specs.Lists.{any, unless, each};
 ghost use Rattle.ast.specs.Words.{wordOf, spanFrom};
+ghost use lib.Ieee.{eq};
+ghost use Rattle.ast.specs.Numbers.{numberOf};
 ghost use Rattle.ast.specs.Nodes.{nodeAt, kindAt, nameAt, opAt, spanAt, bitsAt};
 ghost use Rattle.builder.specs.Places.{Small, errorsAt};
 ghost use Rattle.definitions.specs.Numbers.{wrongStart};
 ghost use Rattle.definitions.specs.Variables.{error};
-ghost use Rattle.definitions.specs.Roles.{sameFloat};
 ghost use Rattle.builder.specs.Listing.{spanned};
-ghost use Rattle.builder.specs.Allocating.{nodesIn, stmtIn, flatIn, flatsIn, Flattened, Tabled, argNode, startAt, shortBy, startNumber, foundStart, StartFits, isShort, roleBy, CallFits, ListsAt, entryBy, startErrorsBy, rateErrorsBy, roleErrorsBy};
+ghost use Rattle.builder.specs.Allocating.{areaNodes, areaStmt, flatIn, flatsIn, Flattened, TablesLong, argNode, startAt, shortBy, startNumber, foundStart, StartFits, isShort, roleBy, CallFits, ListsAt, entryBy, startErrorsBy, rateErrorsBy, roleErrorsBy};
 use super::errors::put_error;
 use super::fated::stmt_of;
 use super::places::Sizes;
@@ -33,15 +34,15 @@ pub enum Start {
 // Word k of node i.
 fn node_of(area: &[u8], z: Sizes, i: usize, k: usize) -> usize
     requires { ⌜ (40 + 32 * z .nodes ≤ length (now area)) × (i < z .nodes) × (k < 8) ⌝ }
-    ensures { λ r. ⌜ (r ≡ wordOf (nodeAt (nodesIn (now (area .entry)) z) i) k) × (r < 2 ^ 32) ⌝ }
+    ensures { λ r. ⌜ (r ≡ wordOf (nodeAt (areaNodes (now (area .entry)) z) i) k) × (r < 2 ^ 32) ⌝ }
 {
     node_word(area, 40, z.nodes, i, k)
 }
 
 // The node of argument number i of a call.
 fn arg_at(area: &[u8], z: Sizes, call: usize, i: usize) -> usize
-    requires { ⌜ ((names : ℕ) × Flattened names (now area) z) × (call < z .nodes) × (kindAt (nodesIn (now area) z) call ≡ 5) × (i < opAt (nodesIn (now area) z) call) ⌝ }
-    ensures { λ r. ⌜ r ≡ argNode (nodesIn (now (area .entry)) z) i call (opAt (nodesIn (now (area .entry)) z) call) ⌝ }
+    requires { ⌜ ((names : ℕ) × Flattened names (now area) z) × (call < z .nodes) × (kindAt (areaNodes (now area) z) call ≡ 5) × (i < opAt (areaNodes (now area) z) call) ⌝ }
+    ensures { λ r. ⌜ r ≡ argNode (areaNodes (now (area .entry)) z) i call (opAt (areaNodes (now (area .entry)) z) call) ⌝ }
 {
     let mut end = call;
     let mut left = node_of(area, z, call, 2);
@@ -54,8 +55,8 @@ fn arg_at(area: &[u8], z: Sizes, call: usize, i: usize) -> usize
 
 // What the expression at node i is as a left side.
 fn start_of(area: &[u8], z: Sizes, numbers: &[u32], indexes: &[u32], i: usize) -> Start
-    requires { ⌜ ((names : ℕ) × Flattened names (now area) z) × Tabled z (now numbers) (now indexes) × (i < z .nodes) ⌝ }
-    ensures { λ r. ⌜ r ≡ startAt (nodesIn (now (area .entry)) z) (now (numbers .entry)) (now (indexes .entry)) i ⌝ }
+    requires { ⌜ ((names : ℕ) × Flattened names (now area) z) × TablesLong z (now numbers) (now indexes) × (i < z .nodes) ⌝ }
+    ensures { λ r. ⌜ r ≡ startAt (areaNodes (now (area .entry)) z) (now (numbers .entry)) (now (indexes .entry)) i ⌝ }
 {
     if node_of(area, z, i, 0) != 5 {
         return Start::Nothing;
@@ -90,7 +91,7 @@ fn short_start(start: Start) -> bool
 
 // Refusal 10, of statement i.
 fn is_short(area: &[u8], z: Sizes, numbers: &[u32], indexes: &[u32], i: usize) -> bool
-    requires { ⌜ ((names : ℕ) × Flattened names (now area) z) × Tabled z (now numbers) (now indexes) × (i < z .stmts) ⌝ }
+    requires { ⌜ ((names : ℕ) × Flattened names (now area) z) × TablesLong z (now numbers) (now indexes) × (i < z .stmts) ⌝ }
     ensures { λ r. ⌜ r ≡ shortBy (now (numbers .entry)) (now (indexes .entry)) (flatIn (now (area .entry)) z i) ⌝ }
 {
     if stmt_of(area, z, i, 0) != 1 {
@@ -101,7 +102,7 @@ fn is_short(area: &[u8], z: Sizes, numbers: &[u32], indexes: &[u32], i: usize) -
 
 // Refusal 10.
 pub fn any_short(area: &[u8], z: Sizes, numbers: &[u32], indexes: &[u32]) -> bool
-    requires { ⌜ ((names : ℕ) × Flattened names (now area) z) × Tabled z (now numbers) (now indexes) ⌝ }
+    requires { ⌜ ((names : ℕ) × Flattened names (now area) z) × TablesLong z (now numbers) (now indexes) ⌝ }
     ensures { λ r. ⌜ r ≡ any (shortBy (now (numbers .entry)) (now (indexes .entry))) (flatsIn (now (area .entry)) z) ⌝ }
 {
     let mut i = 0;
@@ -115,9 +116,9 @@ pub fn any_short(area: &[u8], z: Sizes, numbers: &[u32], indexes: &[u32]) -> boo
 }
 
 // The role of an equation by its left side, as a number.
-fn start_role(area: &[u8], z: Sizes, start: Start, lower: u64) -> u32
+fn start_role(area: &[u8], z: Sizes, start: Start, lower: f64) -> u32
     requires { ⌜ (40 + 32 * z .nodes ≤ length (now area)) × Small z × StartFits z start ⌝ }
-    ensures { λ r. ⌜ ((f : ℕ) → r ≡ startNumber lower (foundStart (nodesIn (now (area .entry)) z) f start)) ⌝ }
+    ensures { λ r. ⌜ ((f : ℕ) → r ≡ startNumber lower (foundStart (areaNodes (now (area .entry)) z) f start)) ⌝ }
 {
     match start {
         Start::Number(v, arg) => {
@@ -139,10 +140,10 @@ fn allocate_stmt(
     numbers: &[u32],
     indexes: &[u32],
     rates: &[u8],
-    lower: u64,
+    lower: f64,
     i: usize,
 ) -> u32
-    requires { ⌜ ((names : ℕ) × Flattened names (now area) z) × Tabled z (now numbers) (now indexes) × (129 ≤ length (now rates)) × (i < z .stmts) ⌝ }
+    requires { ⌜ ((names : ℕ) × Flattened names (now area) z) × TablesLong z (now numbers) (now indexes) × (129 ≤ length (now rates)) × (i < z .stmts) ⌝ }
     ensures { λ r. ⌜ r ≡ roleBy (now (numbers .entry)) (now (indexes .entry)) (now (rates .entry)) lower (flatIn (now (area .entry)) z i) ⌝ }
 {
     if stmt_of(area, z, i, 0) == 1 {
@@ -166,9 +167,9 @@ pub fn roles(
     numbers: &[u32],
     indexes: &[u32],
     rates: &[u8],
-    lower: u64,
+    lower: f64,
 ) -> [u32; 256]
-    requires { ⌜ ((names : ℕ) × Flattened names (now area) z) × Tabled z (now numbers) (now indexes) × (129 ≤ length (now rates)) ⌝ }
+    requires { ⌜ ((names : ℕ) × Flattened names (now area) z) × TablesLong z (now numbers) (now indexes) × (129 ≤ length (now rates)) ⌝ }
     ensures { λ r. ⌜ take (z .stmts) r ≡ map (roleBy (now (numbers .entry)) (now (indexes .entry)) (now (rates .entry)) lower) (flatsIn (now (area .entry)) z) ⌝ }
 {
     let mut out = [0u32; 256];
@@ -200,7 +201,7 @@ pub fn list_error(
 // Lists an error of statement i.
 fn stmt_error(area: &mut [u8], z: Sizes, i: usize, kind: u32, name: u32, count: usize) -> usize
     requires { ⌜ Small z × (errorsAt z + 4096 ≤ length (now area)) × (count < 2 ^ 40) × (i < z .stmts) ⌝ }
-    ensures { λ r. ⌜ ListsAt (errorsAt z) (now (area .entry)) count (error kind (spanFrom (stmtIn (now (area .entry)) z i) 4) name ∷ []) r (now (area .exit)) ⌝ }
+    ensures { λ r. ⌜ ListsAt (errorsAt z) (now (area .entry)) count (error kind (spanFrom (areaStmt (now (area .entry)) z i) 4) name ∷ []) r (now (area .exit)) ⌝ }
 {
     let at = stmts_at(z);
     let from = record_word(area, at, 8, z.stmts, i, 4);
@@ -213,12 +214,12 @@ fn number_error(
     area: &mut [u8],
     z: Sizes,
     arg: usize,
-    lower: u64,
+    lower: f64,
     call: usize,
     count: usize,
 ) -> usize
-    requires { ⌜ Small z × (errorsAt z + 4096 ≤ length (now area)) × (count < 2 ^ 40) × (1 ≤ arg) × (arg < z .nodes) × (call < z .nodes) × (nameAt (nodesIn (now area) z) call < 256) ⌝ }
-    ensures { λ r. ⌜ ListsAt (errorsAt z) (now (area .entry)) count (unless (sameFloat (bitsAt (nodesIn (now (area .entry)) z) (arg - 1)) lower) (error wrongStart (spanAt (nodesIn (now (area .entry)) z) arg) (suc (nameAt (nodesIn (now (area .entry)) z) call)))) r (now (area .exit)) ⌝ }
+    requires { ⌜ Small z × (errorsAt z + 4096 ≤ length (now area)) × (count < 2 ^ 40) × (1 ≤ arg) × (arg < z .nodes) × (call < z .nodes) × (nameAt (areaNodes (now area) z) call < 256) ⌝ }
+    ensures { λ r. ⌜ ListsAt (errorsAt z) (now (area .entry)) count (unless (eq (numberOf (bitsAt (areaNodes (now (area .entry)) z) (arg - 1))) lower) (error wrongStart (spanAt (areaNodes (now (area .entry)) z) arg) (suc (nameAt (areaNodes (now (area .entry)) z) call)))) r (now (area .exit)) ⌝ }
 {
     if same_number(record_bits(area, 40, 8, z.nodes, arg - 1, 6), lower) {
         return count;
@@ -234,12 +235,12 @@ fn start_errors(
     area: &mut [u8],
     z: Sizes,
     start: Start,
-    lower: u64,
+    lower: f64,
     call: usize,
     count: usize,
 ) -> usize
-    requires { ⌜ Small z × (errorsAt z + 4096 ≤ length (now area)) × (count < 2 ^ 40) × (call < z .nodes) × StartFits z start × CallFits (nodesIn (now area) z) call start ⌝ }
-    ensures { λ r. ⌜ ListsAt (errorsAt z) (now (area .entry)) count (startErrorsBy lower (foundStart (nodesIn (now (area .entry)) z) (nameAt (nodesIn (now (area .entry)) z) call) start)) r (now (area .exit)) ⌝ }
+    requires { ⌜ Small z × (errorsAt z + 4096 ≤ length (now area)) × (count < 2 ^ 40) × (call < z .nodes) × StartFits z start × CallFits (areaNodes (now area) z) call start ⌝ }
+    ensures { λ r. ⌜ ListsAt (errorsAt z) (now (area .entry)) count (startErrorsBy lower (foundStart (areaNodes (now (area .entry)) z) (nameAt (areaNodes (now (area .entry)) z) call) start)) r (now (area .exit)) ⌝ }
 {
     match start {
         Start::Number(_, arg) => number_error(area, z, arg, lower, call, count),
@@ -257,8 +258,8 @@ fn rate_errors(
     i: usize,
     count: usize,
 ) -> usize
-    requires { ⌜ Small z × (errorsAt z + 4096 ≤ length (now area)) × (count < 2 ^ 40) × (i < z .stmts) × (wordOf (stmtIn (now area) z i) 1 < 256) × (256 ≤ length (now numbers)) × (getD (now numbers) (wordOf (stmtIn (now area) z i) 1) 0 ≤ length (now rates)) ⌝ }
-    ensures { λ r. ⌜ ListsAt (errorsAt z) (now (area .entry)) count (rateErrorsBy (now (rates .entry)) (wordOf (stmtIn (now (area .entry)) z i) 1) (spanFrom (stmtIn (now (area .entry)) z i) 4) (entryBy (now (numbers .entry)) (wordOf (stmtIn (now (area .entry)) z i) 1))) r (now (area .exit)) ⌝ }
+    requires { ⌜ Small z × (errorsAt z + 4096 ≤ length (now area)) × (count < 2 ^ 40) × (i < z .stmts) × (wordOf (areaStmt (now area) z i) 1 < 256) × (256 ≤ length (now numbers)) × (getD (now numbers) (wordOf (areaStmt (now area) z i) 1) 0 ≤ length (now rates)) ⌝ }
+    ensures { λ r. ⌜ ListsAt (errorsAt z) (now (area .entry)) count (rateErrorsBy (now (rates .entry)) (wordOf (areaStmt (now (area .entry)) z i) 1) (spanFrom (areaStmt (now (area .entry)) z i) 4) (entryBy (now (numbers .entry)) (wordOf (areaStmt (now (area .entry)) z i) 1))) r (now (area .exit)) ⌝ }
 {
     let name = record_word(area, stmts_at(z), 8, z.stmts, i, 1);
     let v = numbers[name as usize] as usize;
@@ -278,11 +279,11 @@ fn role_errors(
     numbers: &[u32],
     indexes: &[u32],
     rates: &[u8],
-    lower: u64,
+    lower: f64,
     i: usize,
     count: usize,
 ) -> usize
-    requires { ⌜ ((names : ℕ) × Flattened names (now area) z) × Tabled z (now numbers) (now indexes) × (129 ≤ length (now rates)) × (i < z .stmts) × (errorsAt z + 4096 ≤ length (now area)) × (count < 2 ^ 40) ⌝ }
+    requires { ⌜ ((names : ℕ) × Flattened names (now area) z) × TablesLong z (now numbers) (now indexes) × (129 ≤ length (now rates)) × (i < z .stmts) × (errorsAt z + 4096 ≤ length (now area)) × (count < 2 ^ 40) ⌝ }
     ensures { λ r. ⌜ ListsAt (errorsAt z) (now (area .entry)) count (roleErrorsBy (now (numbers .entry)) (now (indexes .entry)) (now (rates .entry)) lower (flatIn (now (area .entry)) z i)) r (now (area .exit)) ⌝ }
 {
     if stmt_of(area, z, i, 0) == 1 {
@@ -300,10 +301,10 @@ pub fn roles_errors(
     numbers: &[u32],
     indexes: &[u32],
     rates: &[u8],
-    lower: u64,
+    lower: f64,
     count: usize,
 ) -> usize
-    requires { ⌜ ((names : ℕ) × Flattened names (now area) z) × Tabled z (now numbers) (now indexes) × (129 ≤ length (now rates)) × (errorsAt z + 4096 ≤ length (now area)) × (count + z .stmts < 2 ^ 40) ⌝ }
+    requires { ⌜ ((names : ℕ) × Flattened names (now area) z) × TablesLong z (now numbers) (now indexes) × (129 ≤ length (now rates)) × (errorsAt z + 4096 ≤ length (now area)) × (count + z .stmts < 2 ^ 40) ⌝ }
     ensures { λ r. ⌜ ListsAt (errorsAt z) (now (area .entry)) count (each (roleErrorsBy (now (numbers .entry)) (now (indexes .entry)) (now (rates .entry)) lower) (flatsIn (now (area .entry)) z)) r (now (area .exit)) ⌝ }
 {
     let mut listed = count;

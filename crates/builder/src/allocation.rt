@@ -7,7 +7,7 @@ ghost use Rattle.functions.specs.Lists.{times};
 ghost use Rattle.ast.specs.Bytes.{put};
 ghost use Rattle.ast.specs.Encode.{encode};
 ghost use Rattle.builder.specs.Places.{stmtsAt};
-ghost use Rattle.builder.specs.Allocating.{Flattened, Tabled};
+ghost use Rattle.builder.specs.Allocating.{Flattened, TablesLong};
 ghost use Rattle.builder.specs.Root.{pairedCount, rolesBy, lackingBy, fatedBy};
 use super::allocate::roles;
 use super::fated::write_fates;
@@ -35,9 +35,9 @@ pub fn allocate_stmts(
     starts: &[u32],
     indexes: &[u32],
     rates: &[u8],
-    lower: u64,
+    lower: f64,
 ) -> Left
-    requires { ⌜ ((names : ℕ) × Flattened names (now own) z) × Tabled z (now numbers) (now indexes) × (129 ≤ length (now rates)) × (z .vars < length (now starts)) ⌝ }
+    requires { ⌜ ((names : ℕ) × Flattened names (now own) z) × TablesLong z (now numbers) (now indexes) × (129 ≤ length (now rates)) × (z .vars < length (now starts)) ⌝ }
     ensures { λ r. ⌜ (r .stmts ≡ times (eqb 0) (rolesBy (now (own .entry)) z (now (numbers .entry)) (now (indexes .entry)) (now (rates .entry)) lower)) × (r .states ≡ length (lackingBy (now (own .entry)) z (now (numbers .entry)) (now (indexes .entry)) (now (rates .entry)) lower (now (starts .entry)))) × (now (own .exit) ≡ put (now (own .entry)) (stmtsAt z) (encode (fatedBy (now (own .entry)) z (now (numbers .entry)) (now (indexes .entry)) (now (rates .entry)) lower (now (starts .entry))))) ⌝ }
 {
     let role = roles(own, z, numbers, indexes, rates, lower);

@@ -1,27 +1,24 @@
 // The bounds of variables and of time, by the domains that the root's unknowns declare.
 ghost use mathlib.Core.Path.{_≡_};
-ghost use mathlib.Core.Bool.{not, _&&_};
 ghost use mathlib.Core.List.{[], _∷_};
 ghost use Prim.Native.Nat.{_+_, _≤_, _<_};
-ghost use lib.Dec.{T, eqb};
-ghost use lib.Ieee.{binary64, isNan, toBits};
-ghost use lib.ListN.{length, getD};
-ghost use Rattle.ast.specs.Words.{wordOf, low, high, bytesOf};
+ghost use lib.ListN.{length};
+ghost use Rattle.ast.specs.Words.{low, high, bytesOf};
 ghost use Rattle.ast.specs.Bytes.{put};
-ghost use Rattle.ast.specs.Opens.{Open, contentsIn, fileIn};
-ghost use Rattle.definitions.specs.Names.{isNonNegative};
-ghost use Rattle.definitions.specs.Variables.{lastBounds};
+ghost use Rattle.ast.specs.Opens.{Open, fileIn};
+ghost use Rattle.definitions.specs.Variables.{fromZero, lastBounds};
 ghost use Rattle.definitions.specs.Flatten.{modelAt};
 ghost use Rattle.definitions.specs.Answer.{boundsWords};
 ghost use Rattle.builder.specs.Tables.{Classes};
-ghost use Rattle.builder.specs.Bounding.{boundsFrom, floats, bitsOf, caseBounds, unknownBounds, declaredBounds, LastDeclared};
+ghost use Rattle.builder.specs.Bounding.{boundsFrom, floats, Floating, caseBounds, NamedBelow, unknownBounds, declaredBounds, LastDeclared, boundBits, boundsBits, NanDeclared};
 ghost use Rattle.builder.specs.VarRecords.{varBounds};
 use super::names::NON_NEGATIVE;
 use super::names::is_time;
+use ast::domains::read_domain;
+use ast::domains::unknown_bits;
 use ast::numbers::Bounds;
 use ast::numbers::Domain;
 use ast::numbers::number_of;
-use ast::numbers::read_domain;
 use ast::records::model;
 use ast::records::unknown;
 use ast::sections::Sections;
@@ -60,135 +57,77 @@ fn bounds_from(floor: bool) -> Bounds
     }
 }
 
-// The bounds of an unknown by its domain.
-pub fn domain_bounds(domain: Domain, time: bool, positive: bool) -> Bounds
-    ensures { λ r. ⌜ r ≡ caseBounds domain time positive ⌝ }
+// The bounds of an unknown by its domain: a range has its own, a name's go by its class, and without a domain a time begins at 0.
+fn domain_bounds(domain: Domain, time: bool, classes: &[u8]) -> Bounds
+    requires { ⌜ NamedBelow (length (now classes)) domain ⌝ }
+    ensures { λ r. ⌜ r ≡ caseBounds domain time (now (classes .entry)) ⌝ }
 {
     match domain {
         Domain::Span(lower, upper) => Bounds {
             lower: lower,
             upper: upper,
         },
-        Domain::Named(_) => bounds_from(positive),
+        Domain::Named(n) => bounds_from(classes[n as usize] == NON_NEGATIVE),
         Domain::None => bounds_from(time),
     }
 }
 
-// Whether unknown u's domain is the name NonNegative.
-fn is_positive(f: &[u8], s: Sections, classes: &[u8], u: usize) -> bool
-    requires { ⌜ Open (now f) s × Classes (fileIn (now f) s .names) (now classes) × (s .counts .names ≤ length (now classes)) × (u < s .counts .unknowns) ⌝ }
-    ensures { λ r. ⌜ r ≡ (eqb (wordOf (getD (contentsIn (now (f .entry)) s .unknowns) u []) 3) 2 && isNonNegative (fileIn (now (f .entry)) s .names) (wordOf (getD (contentsIn (now (f .entry)) s .unknowns) u []) 4)) ⌝ }
-{
-    if unknown(f, s, u, 3) == 2 {
-        return classes[unknown(f, s, u, 4)] == NON_NEGATIVE;
-    }
-    false
-}
-
-// The bounds of unknown u, in floats.
+// The bounds of unknown u.
 fn unknown_bounds(f: &[u8], s: Sections, classes: &[u8], u: usize) -> Bounds
     requires { ⌜ Open (now f) s × Classes (fileIn (now f) s .names) (now classes) × (s .counts .names ≤ length (now classes)) × (u < s .counts .unknowns) ⌝ }
-    ensures { λ r. ⌜ r ≡ floats (unknownBounds (now (f .entry)) s u) ⌝ }
+    ensures { λ r. ⌜ Floating (unknownBounds (now (f .entry)) s u) r ⌝ }
 {
     let time = is_time(classes[unknown(f, s, u, 0)]);
-    let positive = is_positive(f, s, classes, u);
-    let domain = read_domain(f, s.starts.unknowns, s.counts.unknowns, u);
-    domain_bounds(domain, time, positive)
+    let domain = read_domain(f, s, u);
+    domain_bounds(domain, time, classes)
 }
 
-// The bits of a number.
-fn bits_of(x: f64) -> u64
-    requires { ⌜ T (not (isNan x)) ⌝ }
-    ensures { λ r. ⌜ r ≡ toBits binary64 x ⌝ }
+// The bounds of unknown u - 1; those from 0 or the unbounded ones where u is 0.
+fn declared_bounds(f: &[u8], s: Sections, classes: &[u8], u: usize, floor: bool) -> Bounds
+    requires { ⌜ Open (now f) s × Classes (fileIn (now f) s .names) (now classes) × (s .counts .names ≤ length (now classes)) × (u ≤ s .counts .unknowns) ⌝ }
+    ensures { λ r. ⌜ Floating (declaredBounds (now (f .entry)) s u (boundsFrom floor)) r ⌝ }
 {
+    if u == 0 {
+        return bounds_from(floor);
+    }
+    unknown_bounds(f, s, classes, u - 1)
+}
+
+// Time's bounds: those that model m declares last for the name (plus 1) of t, and from 0 where it declares none.
+pub fn time_bounds(f: &[u8], s: Sections, classes: &[u8], m: usize, name: usize) -> Bounds
+    requires { ⌜ Open (now f) s × Classes (fileIn (now f) s .names) (now classes) × (s .counts .names ≤ length (now classes)) × (m < s .counts .models) ⌝ }
+    ensures { λ r. ⌜ Floating (lastBounds (fileIn (now (f .entry)) s .names) name fromZero (modelAt (fileIn (now (f .entry)) s) m .unknowns)) r ⌝ }
+{
+    declared_bounds(f, s, classes, last_declared(f, s, m, name), true)
+}
+
+// The bits of a bound that unknown u - 1 declares. A NaN has none of its own: they are the file's, from word k of the unknown on.
+fn bound_bits(x: f64, f: &[u8], s: Sections, u: usize, k: usize) -> u64
+    requires { ⌜ Open (now f) s × (u ≤ s .counts .unknowns) × (k + 1 < 10) × NanDeclared u x ⌝ }
+    ensures { λ r. ⌜ r ≡ boundBits (now (f .entry)) s u k x ⌝ }
+{
+    if x != x {
+        return unknown_bits(f, s, u - 1, k);
+    }
     f64::to_bits(x)
 }
 
-// Writes the two words of a number.
-fn put_number(x: f64, out: &mut [u8], place: usize)
-    requires { ⌜ T (not (isNan x)) × (place + 8 ≤ length (now out)) ⌝ }
-    ensures { λ _. ⌜ now (out .exit) ≡ put (now (out .entry)) place (bytesOf (low (toBits binary64 x) ∷ high (toBits binary64 x) ∷ [])) ⌝ }
+// Writes the two words of a number's bits.
+fn put_bits(bits: u64, out: &mut [u8], place: usize)
+    requires { ⌜ place + 8 ≤ length (now out) ⌝ }
+    ensures { λ _. ⌜ now (out .exit) ≡ put (now (out .entry)) place (bytesOf (low bits ∷ high bits ∷ [])) ⌝ }
 {
-    let bits = bits_of(x);
     put_word(out, place, (bits % 4294967296) as u32);
     put_word(out, place + 4, (bits / 4294967296) as u32);
 }
 
-// Writes the four words of bounds.
-fn put_bounds(b: Bounds, out: &mut [u8], place: usize)
-    requires { ⌜ T (not (isNan (b .lower))) × T (not (isNan (b .upper))) × (place + 16 ≤ length (now out)) ⌝ }
-    ensures { λ _. ⌜ now (out .exit) ≡ put (now (out .entry)) place (bytesOf (boundsWords (bitsOf b))) ⌝ }
+// Writes the four words of bounds, declared by unknown u - 1, or by none where u is 0.
+pub fn put_bounds(b: Bounds, f: &[u8], s: Sections, u: usize, out: &mut [u8], place: usize)
+    requires { ⌜ Open (now f) s × (u ≤ s .counts .unknowns) × (NanDeclared u (b .lower) × NanDeclared u (b .upper)) × (place + 16 ≤ length (now out)) ⌝ }
+    ensures { λ _. ⌜ now (out .exit) ≡ put (now (out .entry)) place (bytesOf (boundsWords (boundsBits (now (f .entry)) s u b))) ⌝ }
 {
-    put_number(b.lower, out, place);
-    put_number(b.upper, out, place + 8);
-}
-
-// Writes the four words of unknown u's range, as the file has them.
-fn put_range(f: &[u8], s: Sections, u: usize, out: &mut [u8], place: usize)
-    requires { ⌜ Open (now f) s × (u < s .counts .unknowns) × (wordOf (getD (contentsIn (now f) s .unknowns) u []) 3 ≡ 1) × (place + 16 ≤ length (now out)) ⌝ }
-    ensures { λ _. ⌜ now (out .exit) ≡ put (now (out .entry)) place (bytesOf (boundsWords (unknownBounds (now (f .entry)) s u))) ⌝ }
-{
-    put_word(out, place, unknown(f, s, u, 4) as u32);
-    put_word(out, place + 4, unknown(f, s, u, 5) as u32);
-    put_word(out, place + 8, unknown(f, s, u, 6) as u32);
-    put_word(out, place + 12, unknown(f, s, u, 7) as u32);
-}
-
-// Writes the bounds of unknown u: a range's own bits, or those of the bounds that its domain has.
-fn put_unknown_bounds(f: &[u8], s: Sections, classes: &[u8], u: usize, out: &mut [u8], place: usize)
-    requires { ⌜ Open (now f) s × Classes (fileIn (now f) s .names) (now classes) × (s .counts .names ≤ length (now classes)) × (u < s .counts .unknowns) × (place + 16 ≤ length (now out)) ⌝ }
-    ensures { λ _. ⌜ now (out .exit) ≡ put (now (out .entry)) place (bytesOf (boundsWords (unknownBounds (now (f .entry)) s u))) ⌝ }
-{
-    if unknown(f, s, u, 3) == 1 {
-        put_range(f, s, u, out, place);
-        return;
-    }
-    put_bounds(unknown_bounds(f, s, classes, u), out, place);
-}
-
-// Writes the bounds of unknown u - 1; those from 0 or the unbounded ones where u is 0.
-pub fn put_declared_bounds(
-    f: &[u8],
-    s: Sections,
-    classes: &[u8],
-    u: usize,
-    floor: bool,
-    out: &mut [u8],
-    place: usize,
-)
-    requires { ⌜ Open (now f) s × Classes (fileIn (now f) s .names) (now classes) × (s .counts .names ≤ length (now classes)) × (u ≤ s .counts .unknowns) × (place + 16 ≤ length (now out)) ⌝ }
-    ensures { λ _. ⌜ now (out .exit) ≡ put (now (out .entry)) place (bytesOf (boundsWords (declaredBounds (now (f .entry)) s u (boundsFrom floor)))) ⌝ }
-{
-    if u == 0 {
-        put_bounds(bounds_from(floor), out, place);
-        return;
-    }
-    put_unknown_bounds(f, s, classes, u - 1, out, place);
-}
-
-// Writes the bounds that model m declares last for a name (plus 1); those from 0 or the unbounded ones where it declares none.
-pub fn put_last_bounds(
-    f: &[u8],
-    s: Sections,
-    classes: &[u8],
-    m: usize,
-    name: usize,
-    floor: bool,
-    out: &mut [u8],
-    place: usize,
-)
-    requires { ⌜ Open (now f) s × Classes (fileIn (now f) s .names) (now classes) × (s .counts .names ≤ length (now classes)) × (m < s .counts .models) × (place + 16 ≤ length (now out)) ⌝ }
-    ensures { λ _. ⌜ now (out .exit) ≡ put (now (out .entry)) place (bytesOf (boundsWords (lastBounds (fileIn (now (f .entry)) s .names) name (boundsFrom floor) (modelAt (fileIn (now (f .entry)) s) m .unknowns)))) ⌝ }
-{
-    put_declared_bounds(
-        f,
-        s,
-        classes,
-        last_declared(f, s, m, name),
-        floor,
-        out,
-        place,
-    );
+    put_bits(bound_bits(b.lower, f, s, u, 4), out, place);
+    put_bits(bound_bits(b.upper, f, s, u, 6), out, place + 8);
 }
 
 // Writes the bounds of variable v, of a name (plus 1) of model m.
@@ -206,8 +145,32 @@ pub fn put_var_bounds(
     ensures { λ _. ⌜ now (out .exit) ≡ put (now (out .entry)) place (bytesOf (boundsWords (varBounds (fileIn (now (f .entry)) s .names) (modelAt (fileIn (now (f .entry)) s) m .unknowns) v name))) ⌝ }
 {
     if v == 0 {
-        put_bounds(bounds_from(true), out, place);
+        put_bounds(bounds_from(true), f, s, 0, out, place);
         return;
     }
-    put_last_bounds(f, s, classes, m, name, false, out, place);
+    let u = last_declared(f, s, m, name);
+    put_bounds(
+        declared_bounds(f, s, classes, u, false),
+        f,
+        s,
+        u,
+        out,
+        place,
+    );
+}
+
+// Writes time's bounds, those that model m declares last for the name (plus 1) of t.
+pub fn put_time_bounds(
+    time: Bounds,
+    f: &[u8],
+    s: Sections,
+    m: usize,
+    name: usize,
+    out: &mut [u8],
+    place: usize,
+)
+    requires { ⌜ Open (now f) s × (m < s .counts .models) × Floating (lastBounds (fileIn (now f) s .names) name fromZero (modelAt (fileIn (now f) s) m .unknowns)) time × (place + 16 ≤ length (now out)) ⌝ }
+    ensures { λ _. ⌜ now (out .exit) ≡ put (now (out .entry)) place (bytesOf (boundsWords (lastBounds (fileIn (now (f .entry)) s .names) name fromZero (modelAt (fileIn (now (f .entry)) s) m .unknowns)))) ⌝ }
+{
+    put_bounds(time, f, s, last_declared(f, s, m, name), out, place);
 }

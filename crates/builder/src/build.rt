@@ -8,7 +8,7 @@ ghost use Rattle.definitions.specs.Build as definition;
 ghost use Rattle.definitions.specs.Build.{answerOfModel, told, resultArea};
 ghost use Rattle.builder.specs.Tables.{Classes, Callees};
 ghost use Rattle.builder.specs.Descent.{RowsIn};
-ghost use Rattle.builder.specs.Root.{given, usedIn, bytesIn, fittedIn};
+ghost use Rattle.builder.specs.Root.{answeredAs, usedIn, bytesIn, fittedIn};
 use super::filling::Answered;
 use super::filling::fill;
 use super::laying::blank;
@@ -37,7 +37,7 @@ fn answer_with(
     own: &mut [u8],
 ) -> Answered
     requires { ⌜ Open (now f) s × (m < s .counts .models) × (Classes (fileIn (now f) s .names) (now kinds) × (length (now kinds) ≡ 256) × Callees (now f) s (now calls)) × ((256 * s .counts .models ≤ length (now rows)) × RowsIn (now f) s (now rows)) × (length (now own) ≡ 55384) ⌝ }
-    ensures { λ a. ⌜ (given a (now (own .exit)) ≡ bytesIn (answerOfModel (fileIn (now (f .entry)) s) m)) × (usedIn a ≤ 55384) ⌝ }
+    ensures { λ a. ⌜ (answeredAs a (now (own .exit)) ≡ bytesIn (answerOfModel (fileIn (now (f .entry)) s) m)) × (usedIn a ≤ 55384) ⌝ }
 {
     match measure(f, s, kinds, calls, rows, m) {
         Measured::Refused(number) => Answered::Refused(number),
@@ -48,7 +48,7 @@ fn answer_with(
 // The answer of model m.
 fn answer(f: &[u8], s: Sections, m: usize, own: &mut [u8]) -> Answered
     requires { ⌜ Open (now f) s × (m < s .counts .models) × (length (now own) ≡ 55384) ⌝ }
-    ensures { λ a. ⌜ (given a (now (own .exit)) ≡ bytesIn (answerOfModel (fileIn (now (f .entry)) s) m)) × (usedIn a ≤ 55384) ⌝ }
+    ensures { λ a. ⌜ (answeredAs a (now (own .exit)) ≡ bytesIn (answerOfModel (fileIn (now (f .entry)) s) m)) × (usedIn a ≤ 55384) ⌝ }
 {
     let kinds = classes(f, s);
     let calls = callees(f, s);
@@ -63,7 +63,7 @@ fn answer(f: &[u8], s: Sections, m: usize, own: &mut [u8]) -> Answered
 // A refusal, or the answer handed out.
 fn hand_over(a: Answered, own: &[u8], area: &mut [u8]) -> u64
     requires { ⌜ (length (now own) ≡ 55384) × (usedIn a ≤ 55384) ⌝ }
-    ensures { λ r. ⌜ (r ≡ told (fittedIn (length (now (area .entry))) (given a (now (own .entry))))) × (now (area .exit) ≡ resultArea (length (now (area .entry))) (fittedIn (length (now (area .entry))) (given a (now (own .entry))))) ⌝ }
+    ensures { λ r. ⌜ (r ≡ told (fittedIn (length (now (area .entry))) (answeredAs a (now (own .entry))))) × (now (area .exit) ≡ resultArea (length (now (area .entry))) (fittedIn (length (now (area .entry))) (answeredAs a (now (own .entry))))) ⌝ }
 {
     match a {
         Answered::Refused(number) => refuse(area, number),
@@ -74,7 +74,7 @@ fn hand_over(a: Answered, own: &[u8], area: &mut [u8]) -> u64
 // The same where the answer stands at the front of the area.
 fn keep(a: Answered, area: &mut [u8]) -> u64
     requires { ⌜ (usedIn a ≤ 55384) × (55384 ≤ length (now area)) ⌝ }
-    ensures { λ r. ⌜ (r ≡ told (fittedIn (length (now (area .entry))) (given a (now (area .entry))))) × (now (area .exit) ≡ resultArea (length (now (area .entry))) (fittedIn (length (now (area .entry))) (given a (now (area .entry))))) ⌝ }
+    ensures { λ r. ⌜ (r ≡ told (fittedIn (length (now (area .entry))) (answeredAs a (now (area .entry))))) × (now (area .exit) ≡ resultArea (length (now (area .entry))) (fittedIn (length (now (area .entry))) (answeredAs a (now (area .entry))))) ⌝ }
 {
     match a {
         Answered::Refused(number) => refuse(area, number),

@@ -11,7 +11,7 @@ ghost use Rattle.definitions.specs.Check.{Scope};
 ghost use Rattle.definitions.specs.Flatten.{modelAt, orderErrors, stmtErrors, errorsOf};
 ghost use Rattle.builder.specs.Tables.{Classes};
 ghost use Rattle.builder.specs.Listing.{Lists, Room};
-ghost use Rattle.builder.specs.Checking.{scopeIn, argsIn, unknownIn, stmtIn, UnknownIn, ArgsIn, Against, Tabled};
+ghost use Rattle.builder.specs.Checking.{scopeIn, argsIn, unknownIn, stmtIn, UnknownIn, ArgsIn, Against, TablesRead};
 use super::check::check_expr;
 use super::check::error_unless;
 use super::check::has_keyword;
@@ -22,6 +22,8 @@ use super::names::is_reserved;
 use super::names::is_time;
 use super::scope::model_vars;
 use super::scope::no_marks;
+use ast::domains::read_domain;
+use ast::numbers::Domain;
 use ast::records::model;
 use ast::records::node;
 use ast::records::stmt;
@@ -62,13 +64,16 @@ fn domain_errors(
     requires { ⌜ UnknownIn (now f) s (now classes) u × Room (now out) count (domainErrors (fileIn (now f) s .names) (unknownIn (now f) s u .span) (unknownIn (now f) s u .domain)) ⌝ }
     ensures { λ r. ⌜ Lists (now (out .entry)) count (domainErrors (fileIn (now (f .entry)) s .names) (unknownIn (now (f .entry)) s u .span) (unknownIn (now (f .entry)) s u .domain)) r (now (out .exit)) ⌝ }
 {
-    if unknown(f, s, u, 3) <= 1 {
-        return count;
+    match read_domain(f, s, u) {
+        Domain::None => count,
+        Domain::Span(_, _) => count,
+        Domain::Named(n) => {
+            let name = n as usize;
+            let class = classes[name];
+            let known = (class == NON_NEGATIVE) | (class == REAL);
+            unknown_error(f, s, u, known, 1, name + 1, out, count)
+        }
     }
-    let name = unknown(f, s, u, 4);
-    let class = classes[name];
-    let known = (class == NON_NEGATIVE) | (class == REAL);
-    unknown_error(f, s, u, known, 1, name + 1, out, count)
 }
 
 // Errors 1 and 2 of unknown u.
@@ -191,7 +196,7 @@ fn add_submodel(
     out: &mut [u8],
     count: usize,
 ) -> usize
-    requires { ⌜ Tabled (now f) s (now classes) (now rules) (now calls) × (q < s .counts .stmts) × (kindOfStmt (getD (contentsIn (now f) s .stmts) q []) ≡ 3) × (k ≤ 32) × ((c : Scope) → Room (now out) count (stmtErrors (fileIn (now f) s) (λ j. errorsOf (fileIn (now f) s) k j) c (stmtIn (now f) s q))) ⌝ }
+    requires { ⌜ TablesRead (now f) s (now classes) (now rules) (now calls) × (q < s .counts .stmts) × (kindOfStmt (getD (contentsIn (now f) s .stmts) q []) ≡ 3) × (k ≤ 32) × ((c : Scope) → Room (now out) count (stmtErrors (fileIn (now f) s) (λ j. errorsOf (fileIn (now f) s) k j) c (stmtIn (now f) s q))) ⌝ }
     ensures { λ r. ⌜ ((c : Scope) → Lists (now (out .entry)) count (stmtErrors (fileIn (now (f .entry)) s) (λ j. errorsOf (fileIn (now (f .entry)) s) k j) c (stmtIn (now (f .entry)) s q)) r (now (out .exit))) ⌝ }
 {
     let call = stmt(f, s, q, 3);
@@ -219,7 +224,7 @@ fn stmt_errors(
     out: &mut [u8],
     count: usize,
 ) -> usize
-    requires { ⌜ Tabled (now f) s (now classes) (now rules) (now calls) × Against (now f) s m (now classes) (now rules) (now vars) × (q < s .counts .stmts) × (k ≤ 32) × Room (now out) count (stmtErrors (fileIn (now f) s) (λ j. errorsOf (fileIn (now f) s) k j) (scopeIn (now f) s m) (stmtIn (now f) s q)) ⌝ }
+    requires { ⌜ TablesRead (now f) s (now classes) (now rules) (now calls) × Against (now f) s m (now classes) (now rules) (now vars) × (q < s .counts .stmts) × (k ≤ 32) × Room (now out) count (stmtErrors (fileIn (now f) s) (λ j. errorsOf (fileIn (now f) s) k j) (scopeIn (now f) s m) (stmtIn (now f) s q)) ⌝ }
     ensures { λ r. ⌜ Lists (now (out .entry)) count (stmtErrors (fileIn (now (f .entry)) s) (λ j. errorsOf (fileIn (now (f .entry)) s) k j) (scopeIn (now (f .entry)) s m) (stmtIn (now (f .entry)) s q)) r (now (out .exit)) ⌝ }
 {
     if stmt(f, s, q, 0) != 3 {
@@ -240,7 +245,7 @@ pub fn builder(
     out: &mut [u8],
     count: usize,
 ) -> usize
-    requires { ⌜ Tabled (now f) s (now classes) (now rules) (now calls) × (m < s .counts .models) × (k ≤ 32) × Room (now out) count (errorsOf (fileIn (now f) s) k m) ⌝ }
+    requires { ⌜ TablesRead (now f) s (now classes) (now rules) (now calls) × (m < s .counts .models) × (k ≤ 32) × Room (now out) count (errorsOf (fileIn (now f) s) k m) ⌝ }
     ensures { λ r. ⌜ Lists (now (out .entry)) count (errorsOf (fileIn (now (f .entry)) s) k m) r (now (out .exit)) ⌝ }
 {
     if k == 0 {

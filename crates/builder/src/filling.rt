@@ -12,25 +12,27 @@ ghost use Rattle.definitions.specs.Allocate.{leftCount, lacking};
 ghost use Rattle.definitions.specs.Answer.{answerBytes};
 ghost use Rattle.definitions.specs.Build.{refusal, accepted, tooBig, anyShort};
 ghost use Rattle.builder.specs.Places.{Small, errorsAt};
+ghost use Rattle.builder.specs.Bounding.{Floating};
 ghost use Rattle.builder.specs.Descent.{RowsIn};
 ghost use Rattle.builder.specs.Checking as checking;
-ghost use Rattle.builder.specs.Root.{flatsOf, scopeAt, timeAt, rolesAt, answerAt, NoTables, Known, Unfated, Varied, given, usedIn, bytesIn};
+ghost use Rattle.builder.specs.Root.{flatsOf, scopeAt, timeAt, rolesAt, answerAt, NoTables, Known, Unfated, Varied, answeredAs, usedIn, bytesIn};
 use super::all_errors::all_errors;
 use super::allocate::any_short;
 use super::allocation::Left;
 use super::allocation::allocate_stmts;
+use super::bounds::time_bounds;
 use super::laying::lay_deps;
 use super::laying::lay_flats;
 use super::laying::no_flags;
 use super::laying::no_starts;
 use super::laying::no_variables;
-use super::laying::time_lower;
 use super::places::Sizes;
 use super::places::errors_at;
 use super::scope::no_marks;
 use super::variables::roster_of;
 use super::vars::write_header;
 use super::vars::write_vars;
+use ast::numbers::Bounds;
 use ast::sections::Sections;
 
 // What the build of a model answers: a refusal's number, or the bytes used.
@@ -66,10 +68,10 @@ fn finish(
     rates: &[u8],
     z: Sizes,
     i: usize,
-    lower: u64,
+    time: Bounds,
     left: Left,
 ) -> usize
-    requires { ⌜ Known (now f) s m (now classes) (now names) (now numbers) (now starts) (now indexes) (now reach) (now rates) z × checking.Called (now f) s (now classes) (now calls) × Varied (fileIn (now f) s) m z (now own) × ((i ≡ instances (fileIn (now f) s) (length (fileIn (now f) s .models)) m) × (i ≤ 1024) × (lower ≡ timeAt (fileIn (now f) s) m .lower)) × ((left .stmts ≡ leftCount (rolesAt (fileIn (now f) s) m)) × (left .states ≡ length (lacking (scopeAt (fileIn (now f) s) m .vars) (rolesAt (fileIn (now f) s) m)))) ⌝ }
+    requires { ⌜ Known (now f) s m (now classes) (now names) (now numbers) (now starts) (now indexes) (now reach) (now rates) z × checking.Called (now f) s (now classes) (now calls) × Varied (fileIn (now f) s) m z (now own) × ((i ≡ instances (fileIn (now f) s) (length (fileIn (now f) s .models)) m) × (i ≤ 1024) × Floating (timeAt (fileIn (now f) s) m) time) × ((left .stmts ≡ leftCount (rolesAt (fileIn (now f) s) m)) × (left .states ≡ length (lacking (scopeAt (fileIn (now f) s) m .vars) (rolesAt (fileIn (now f) s) m)))) ⌝ }
     ensures { λ u. ⌜ (take u (now (own .exit)) ≡ answerBytes (answerAt (fileIn (now (f .entry)) s) m)) × (u ≤ 55384) ⌝ }
 {
     let errors = all_errors(
@@ -84,10 +86,10 @@ fn finish(
         numbers,
         indexes,
         rates,
-        lower,
+        time.lower,
         left,
     );
-    write_header(f, s, classes, m, own, z, errors, i, names[0] as usize);
+    write_header(f, s, m, own, z, errors, i, names[0] as usize, time);
     bytes_used(z, errors)
 }
 
@@ -107,12 +109,12 @@ fn write_answer(
     rates: &[u8],
     z: Sizes,
     i: usize,
-    lower: u64,
+    time: Bounds,
 ) -> usize
-    requires { ⌜ Known (now f) s m (now classes) (now names) (now numbers) (now starts) (now indexes) (now reach) (now rates) z × checking.Called (now f) s (now classes) (now calls) × Unfated (fileIn (now f) s) m z (now own) × (i ≡ instances (fileIn (now f) s) (length (fileIn (now f) s .models)) m) × (i ≤ 1024) × (lower ≡ timeAt (fileIn (now f) s) m .lower) ⌝ }
+    requires { ⌜ Known (now f) s m (now classes) (now names) (now numbers) (now starts) (now indexes) (now reach) (now rates) z × checking.Called (now f) s (now classes) (now calls) × Unfated (fileIn (now f) s) m z (now own) × (i ≡ instances (fileIn (now f) s) (length (fileIn (now f) s .models)) m) × (i ≤ 1024) × Floating (timeAt (fileIn (now f) s) m) time ⌝ }
     ensures { λ u. ⌜ (take u (now (own .exit)) ≡ answerBytes (answerAt (fileIn (now (f .entry)) s) m)) × (u ≤ 55384) ⌝ }
 {
-    let left = allocate_stmts(own, z, numbers, starts, indexes, rates, lower);
+    let left = allocate_stmts(own, z, numbers, starts, indexes, rates, time.lower);
     write_vars(f, s, classes, m, own, z, names, starts, indexes, reach);
     finish(
         f,
@@ -129,7 +131,7 @@ fn write_answer(
         rates,
         z,
         i,
-        lower,
+        time,
         left,
     )
 }
@@ -152,9 +154,9 @@ fn answer_laid(
     i: usize,
 ) -> Answered
     requires { ⌜ Known (now f) s m (now classes) (now names) (now numbers) (now starts) (now indexes) (now reach) (now rates) z × checking.Called (now f) s (now classes) (now calls) × Unfated (fileIn (now f) s) m z (now own) × (i ≡ instances (fileIn (now f) s) (length (fileIn (now f) s .models)) m) × (i ≤ 1024) ⌝ }
-    ensures { λ a. ⌜ (given a (now (own .exit)) ≡ bytesIn (cond (anyShort (scopeAt (fileIn (now (f .entry)) s) m) (flatsOf (fileIn (now (f .entry)) s) m)) (refusal shortLeftSide) (accepted (answerAt (fileIn (now (f .entry)) s) m)))) × (usedIn a ≤ 55384) ⌝ }
+    ensures { λ a. ⌜ (answeredAs a (now (own .exit)) ≡ bytesIn (cond (anyShort (scopeAt (fileIn (now (f .entry)) s) m) (flatsOf (fileIn (now (f .entry)) s) m)) (refusal shortLeftSide) (accepted (answerAt (fileIn (now (f .entry)) s) m)))) × (usedIn a ≤ 55384) ⌝ }
 {
-    let lower = time_lower(f, s, classes, m, own, names[0] as usize);
+    let time = time_bounds(f, s, classes, m, names[0] as usize);
     if any_short(own, z, numbers, indexes) {
         return Answered::Refused(10);
     }
@@ -173,7 +175,7 @@ fn answer_laid(
         rates,
         z,
         i,
-        lower,
+        time,
     ))
 }
 
@@ -197,7 +199,7 @@ fn fill_by(
     rate: &mut [u8],
 ) -> Answered
     requires { ⌜ checking.Called (now f) s (now classes) (now calls) × (length (now classes) ≡ 256) × (m < s .counts .models) × ((256 * s .counts .models ≤ length (now rows)) × RowsIn (now f) s (now rows)) × (length (now own) ≡ 55384) × ((i ≡ instances (fileIn (now f) s) (length (fileIn (now f) s .models)) m) × (q ≡ length (flatsOf (fileIn (now f) s) m)) × (n ≡ sumOf flatSize (flatsOf (fileIn (now f) s) m)) × (tooBig (fileIn (now f) s) m (flatsOf (fileIn (now f) s) m) ≡ false)) × (length (now names) ≡ 129) × (length (now numbers) ≡ 256) × ((j : ℕ) → getD (now numbers) j 0 ≡ 0) × NoTables (now starts) (now index) (now reach) (now rate) ⌝ }
-    ensures { λ a. ⌜ (given a (now (own .exit)) ≡ bytesIn (cond (anyShort (scopeAt (fileIn (now (f .entry)) s) m) (flatsOf (fileIn (now (f .entry)) s) m)) (refusal shortLeftSide) (accepted (answerAt (fileIn (now (f .entry)) s) m)))) × (usedIn a ≤ 55384) ⌝ }
+    ensures { λ a. ⌜ (answeredAs a (now (own .exit)) ≡ bytesIn (cond (anyShort (scopeAt (fileIn (now (f .entry)) s) m) (flatsOf (fileIn (now (f .entry)) s) m)) (refusal shortLeftSide) (accepted (answerAt (fileIn (now (f .entry)) s) m)))) × (usedIn a ≤ 55384) ⌝ }
 {
     let vars = roster_of(f, s, classes, m, names, numbers);
     lay_flats(f, s, calls, rows, m, own, n);
@@ -254,7 +256,7 @@ pub fn fill(
     n: usize,
 ) -> Answered
     requires { ⌜ checking.Called (now f) s (now classes) (now calls) × (length (now classes) ≡ 256) × (m < s .counts .models) × ((256 * s .counts .models ≤ length (now rows)) × RowsIn (now f) s (now rows)) × (length (now own) ≡ 55384) × ((i ≡ instances (fileIn (now f) s) (length (fileIn (now f) s .models)) m) × (q ≡ length (flatsOf (fileIn (now f) s) m)) × (n ≡ sumOf flatSize (flatsOf (fileIn (now f) s) m)) × (tooBig (fileIn (now f) s) m (flatsOf (fileIn (now f) s) m) ≡ false)) ⌝ }
-    ensures { λ a. ⌜ (given a (now (own .exit)) ≡ bytesIn (cond (anyShort (scopeAt (fileIn (now (f .entry)) s) m) (flatsOf (fileIn (now (f .entry)) s) m)) (refusal shortLeftSide) (accepted (answerAt (fileIn (now (f .entry)) s) m)))) × (usedIn a ≤ 55384) ⌝ }
+    ensures { λ a. ⌜ (answeredAs a (now (own .exit)) ≡ bytesIn (cond (anyShort (scopeAt (fileIn (now (f .entry)) s) m) (flatsOf (fileIn (now (f .entry)) s) m)) (refusal shortLeftSide) (accepted (answerAt (fileIn (now (f .entry)) s) m)))) × (usedIn a ≤ 55384) ⌝ }
 {
     let mut names = no_variables();
     let mut numbers = no_marks();

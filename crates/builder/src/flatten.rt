@@ -17,9 +17,9 @@ ghost use Rattle.builder.specs.Tables.{Callees};
 ghost use Rattle.builder.specs.Descent.{flatAt, broughtAt, RowsIn, RowsKept};
 use super::replacements::find_replacements;
 use ast::records::model;
+use ast::records::node;
 use ast::records::stmt;
 use ast::sections::Sections;
-use ast::sections::record_word;
 use ast::subst::clone_and_subst;
 
 // Writes the tree at node i, read at a level, behind `done` nodes, and gives their new number.
@@ -37,8 +37,8 @@ fn write_tree(
 {
     let at = s.starts.nodes;
     let n = s.counts.nodes;
-    let from = record_word(f, at, 8, n, i, 4);
-    let to = record_word(f, at, 8, n, i, 5);
+    let from = node(f, s, i, 4) as u32;
+    let to = node(f, s, i, 5) as u32;
     let start = 32 * done;
     done + clone_and_subst(f, at, n, rows, level, i, from, to, &mut out[start..])
 }

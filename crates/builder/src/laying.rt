@@ -1,4 +1,4 @@
-// The parts of an answer that come straight from the file: nodes, statements' records without fates, dependents, and time's bounds.
+// The parts of an answer that come straight from the file: nodes, statements' records without fates, and dependents.
 ghost use mathlib.Core.Path.{_≡_};
 ghost use Prim.Native.Nat.{ℕ, _+_, _*_, _≤_, _<_};
 ghost use lib.ListN.{length, getD};
@@ -8,20 +8,15 @@ ghost use Rattle.ast.specs.Words.{bytesOf};
 ghost use Rattle.ast.specs.Bytes.{put};
 ghost use Rattle.ast.specs.Encode.{flatNodes, encode};
 ghost use Rattle.ast.specs.Opens.{Open, fileIn};
-ghost use Rattle.definitions.specs.Variables.{fromZero, lastBounds};
-ghost use Rattle.definitions.specs.Flatten.{modelAt};
-ghost use Rattle.definitions.specs.Answer.{boundsWords};
-ghost use Rattle.builder.specs.Tables.{Classes, Callees};
+ghost use Rattle.builder.specs.Tables.{Callees};
 ghost use Rattle.builder.specs.VariableTables.{rosterIn, rostered, Listing};
 ghost use Rattle.builder.specs.Descent.{RowsIn};
 ghost use Rattle.builder.specs.Unfated.{unfated};
 ghost use Rattle.builder.specs.Root.{flatsOf, scopeAt, NoTables, tabled, TablesOf};
-use super::bounds::put_last_bounds;
 use super::flatten::write_nodes;
 use super::stmts::Done;
 use super::stmts::write_stmts;
 use super::tables::variable_tables;
-use ast::numbers::record_bits;
 use ast::sections::Sections;
 
 // No replacements, for 32 models in one another.
@@ -147,20 +142,4 @@ pub fn lay_deps(
         reach,
         rate,
     );
-}
-
-// Writes time's bounds into the header, those that model m declares last for the name (plus 1) of t, and gives the lower one.
-pub fn time_lower(
-    f: &[u8],
-    s: Sections,
-    classes: &[u8],
-    m: usize,
-    own: &mut [u8],
-    name: usize,
-) -> u64
-    requires { ⌜ Open (now f) s × Classes (fileIn (now f) s .names) (now classes) × (s .counts .names ≤ length (now classes)) × (m < s .counts .models) × (40 ≤ length (now own)) ⌝ }
-    ensures { λ r. ⌜ (r ≡ lastBounds (fileIn (now (f .entry)) s .names) name fromZero (modelAt (fileIn (now (f .entry)) s) m .unknowns) .lower) × (now (own .exit) ≡ put (now (own .entry)) 24 (bytesOf (boundsWords (lastBounds (fileIn (now (f .entry)) s .names) name fromZero (modelAt (fileIn (now (f .entry)) s) m .unknowns))))) ⌝ }
-{
-    put_last_bounds(f, s, classes, m, name, true, own, 24);
-    record_bits(own, 24, 4, 1, 0, 0)
 }

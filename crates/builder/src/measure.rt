@@ -5,7 +5,7 @@ ghost use lib.ListN.{length};
 ghost use Rattle.ast.specs.Opens.{Open, fileIn};
 ghost use Rattle.builder.specs.Tables.{Classes, Callees};
 ghost use Rattle.builder.specs.Descent.{RowsIn};
-ghost use Rattle.builder.specs.Root.{forbiddenOf, sizeOf, measureOf};
+ghost use Rattle.builder.specs.Root.{forbiddenOf, sizeOf, measureOf, measuredAs};
 use super::reached::cyclic;
 use super::reached::overfull;
 use super::reached::reach;
@@ -45,7 +45,7 @@ fn forbidden(f: &[u8], s: Sections, classes: &[u8; 256], calls: &[u8; 256], m: u
 // Refusal 9, or the sizes.
 fn size(f: &[u8], s: Sections, calls: &[u8; 256], rows: &mut [u32], m: usize) -> Measured
     requires { ⌜ Open (now f) s × Callees (now f) s (now calls) × (m < s .counts .models) × (256 * s .counts .models ≤ length (now rows)) × RowsIn (now f) s (now rows) ⌝ }
-    ensures { λ r. ⌜ (r ≡ sizeOf (fileIn (now (f .entry)) s) m) × (256 * s .counts .models ≤ length (now (rows .exit))) × RowsIn (now (f .entry)) s (now (rows .exit)) ⌝ }
+    ensures { λ r. ⌜ (measuredAs r ≡ sizeOf (fileIn (now (f .entry)) s) m) × (256 * s .counts .models ≤ length (now (rows .exit))) × RowsIn (now (f .entry)) s (now (rows .exit)) ⌝ }
 {
     let k = s.counts.models;
     let i = instances(f, s, calls, k, m, MOST_INSTANCES + 1);
@@ -73,7 +73,7 @@ pub fn measure(
     m: usize,
 ) -> Measured
     requires { ⌜ Open (now f) s × Classes (fileIn (now f) s .names) (now classes) × Callees (now f) s (now calls) × (m < s .counts .models) × (256 * s .counts .models ≤ length (now rows)) × RowsIn (now f) s (now rows) ⌝ }
-    ensures { λ r. ⌜ (r ≡ measureOf (fileIn (now (f .entry)) s) m) × (256 * s .counts .models ≤ length (now (rows .exit))) × RowsIn (now (f .entry)) s (now (rows .exit)) ⌝ }
+    ensures { λ r. ⌜ (measuredAs r ≡ measureOf (fileIn (now (f .entry)) s) m) × (256 * s .counts .models ≤ length (now (rows .exit))) × RowsIn (now (f .entry)) s (now (rows .exit)) ⌝ }
 {
     let number = forbidden(f, s, classes, calls, m);
     if number != 0 {

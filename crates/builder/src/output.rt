@@ -6,9 +6,8 @@ ghost use lib.ListN.{length, take, replicate};
 ghost use Rattle.ast.specs.Bytes.{front};
 ghost use Rattle.definitions.specs.Build.{refusal, fitted, told, resultArea};
 
-// Zeros from a place to the end.
+// Zeros from a place to the end; nothing where the place is beyond it.
 pub fn clear(area: &mut [u8], from: usize)
-    requires { ⌜ from ≤ length (now area) ⌝ }
     ensures { λ _. ⌜ now (area .exit) ≡ take from (now (area .entry)) ++ replicate (length (now (area .entry)) - from) 0 ⌝ }
 {
     let mut i = from;

@@ -208,7 +208,7 @@ fn beyond(f: &[u8], s: Sections, call: usize, n: usize) -> bool
     false
 }
 
-// Whether statement q calls a model with a positional argument beyond its unknowns.
+// Whether statement q calls a model with a positional argument whose number is not below the model's count of unknowns.
 fn too_many(f: &[u8], s: Sections, calls: &[u8; 256], q: usize) -> bool
     requires { ⌜ Open (now f) s × Callees (now f) s (now calls) × (q < s .counts .stmts) ⌝ }
     ensures { λ r. ⌜ r ≡ flatten.stmtBeyond (fileIn (now (f .entry)) s) (stmtOf (contentsIn (now (f .entry)) s .nodes) (getD (contentsIn (now (f .entry)) s .stmts) q [])) ⌝ }
@@ -237,7 +237,7 @@ fn model_too_many(f: &[u8], s: Sections, calls: &[u8; 256], m: usize) -> bool
     false
 }
 
-// Refusal 8: a positional argument beyond the model's unknowns.
+// Refusal 8: a positional argument whose number is not below the model's count of unknowns.
 pub fn overfull(f: &[u8], s: Sections, calls: &[u8; 256], table: &[u8; 1024], root: usize) -> bool
     requires { ⌜ Open (now f) s × Callees (now f) s (now calls) × Reaching (fileIn (now f) s) (s .counts .models) (s .counts .models) (now table) × (root < s .counts .models) ⌝ }
     ensures { λ r. ⌜ r ≡ flatten.overfull (fileIn (now (f .entry)) s) root ⌝ }

@@ -8,7 +8,7 @@ ghost use Rattle.definitions.specs.Variables.{error};
 ghost use Rattle.definitions.specs.Flatten.{modelAt};
 ghost use Rattle.definitions.specs.Allocate.{countErrors};
 ghost use Rattle.builder.specs.Places.{Small, errorsAt};
-ghost use Rattle.builder.specs.Allocating.{nodesIn, stmtsIn, ListsAt};
+ghost use Rattle.builder.specs.Allocating.{areaNodes, areaStmts, ListsAt};
 ghost use Rattle.builder.specs.Starting.{Righted, rightSpanIn, heldErrorsIn, startingIn};
 use super::allocate::list_error;
 use super::fated::no_fates;
@@ -64,7 +64,7 @@ pub fn count_errors(
 // Error 17, at the right side of statement i.
 fn condition_error(area: &mut [u8], z: Sizes, i: usize, name: u32, count: usize) -> usize
     requires { ⌜ Righted (now area) z × (i < z .stmts) × (count < 2 ^ 40) ⌝ }
-    ensures { λ r. ⌜ ListsAt (errorsAt z) (now (area .entry)) count (error algebraicInitialCondition (rightSpanIn (nodesIn (now (area .entry)) z) (stmtsIn (now (area .entry)) z) i) name ∷ []) r (now (area .exit)) ⌝ }
+    ensures { λ r. ⌜ ListsAt (errorsAt z) (now (area .entry)) count (error algebraicInitialCondition (rightSpanIn (areaNodes (now (area .entry)) z) (areaStmts (now (area .entry)) z) i) name ∷ []) r (now (area .exit)) ⌝ }
 {
     let right = stmt_of(area, z, i, 3);
     let from = record_word(area, 40, 8, z.nodes, right, 4);
@@ -85,7 +85,7 @@ fn state_errors(
     count: usize,
 ) -> usize
     requires { ⌜ Open (now f) s × (m < s .counts .models) × Righted (now area) z × (held ≤ z .stmts) × (first ≤ z .stmts) × (count < 2 ^ 40) ⌝ }
-    ensures { λ r. ⌜ ListsAt (errorsAt z) (now (area .entry)) count (heldErrorsIn (modelAt (fileIn (now (f .entry)) s) m .span) (nodesIn (now (area .entry)) z) (stmtsIn (now (area .entry)) z) name held first) r (now (area .exit)) ⌝ }
+    ensures { λ r. ⌜ ListsAt (errorsAt z) (now (area .entry)) count (heldErrorsIn (modelAt (fileIn (now (f .entry)) s) m .span) (areaNodes (now (area .entry)) z) (areaStmts (now (area .entry)) z) name held first) r (now (area .exit)) ⌝ }
 {
     if held == 0 {
         return count;
@@ -113,7 +113,7 @@ pub fn starting_errors(
     count: usize,
 ) -> usize
     requires { ⌜ Open (now f) s × (m < s .counts .models) × (z .vars ≤ length (now names)) × Righted (now area) z × (count + z .vars < 2 ^ 40) ⌝ }
-    ensures { λ r. ⌜ ListsAt (errorsAt z) (now (area .entry)) count (startingIn (modelAt (fileIn (now (f .entry)) s) m .span) (nodesIn (now (area .entry)) z) (stmtsIn (now (area .entry)) z) (now (names .entry)) (z .vars)) r (now (area .exit)) ⌝ }
+    ensures { λ r. ⌜ ListsAt (errorsAt z) (now (area .entry)) count (startingIn (modelAt (fileIn (now (f .entry)) s) m .span) (areaNodes (now (area .entry)) z) (areaStmts (now (area .entry)) z) (now (names .entry)) (z .vars)) r (now (area .exit)) ⌝ }
 {
     let mut held = no_fates();
     let mut first = no_fates();

@@ -12,14 +12,16 @@ ghost use Rattle.definitions.specs.Variables.{fromZero, lastBounds};
 ghost use Rattle.definitions.specs.Flatten.{modelAt};
 ghost use Rattle.builder.specs.Tables.{Classes};
 ghost use Rattle.builder.specs.Places.{Small, stmtsAt, varsAt, depsAt};
+ghost use Rattle.builder.specs.Bounding.{Floating};
 ghost use Rattle.builder.specs.Fating.{isFated};
 ghost use Rattle.builder.specs.VarRecords.{VarTables, leadWords, varWords, varRecords, headWords};
-use super::bounds::put_last_bounds;
+use super::bounds::put_time_bounds;
 use super::bounds::put_var_bounds;
 use super::fated::no_fates;
 use super::fated::note_fates;
 use super::places::Sizes;
 use super::places::vars_at;
+use ast::numbers::Bounds;
 use ast::sections::Sections;
 use ast::words::put_record;
 use ast::words::put_word;
@@ -157,17 +159,17 @@ fn put_counts(area: &mut [u8], z: Sizes, errors: usize, instances: usize)
 pub fn write_header(
     f: &[u8],
     s: Sections,
-    classes: &[u8],
     m: usize,
     area: &mut [u8],
     z: Sizes,
     errors: usize,
     instances: usize,
     name: usize,
+    time: Bounds,
 )
-    requires { ⌜ Open (now f) s × Classes (fileIn (now f) s .names) (now classes) × (s .counts .names ≤ length (now classes)) × (m < s .counts .models) × Small z × (40 ≤ length (now area)) × (errors < 2 ^ 32) × (instances < 2 ^ 32) ⌝ }
+    requires { ⌜ Open (now f) s × (m < s .counts .models) × Small z × (40 ≤ length (now area)) × (errors < 2 ^ 32) × (instances < 2 ^ 32) × Floating (lastBounds (fileIn (now f) s .names) name fromZero (modelAt (fileIn (now f) s) m .unknowns)) time ⌝ }
     ensures { λ _. ⌜ now (area .exit) ≡ put (now (area .entry)) 0 (bytesOf (headWords z errors instances (lastBounds (fileIn (now (f .entry)) s .names) name fromZero (modelAt (fileIn (now (f .entry)) s) m .unknowns)))) ⌝ }
 {
     put_counts(area, z, errors, instances);
-    put_last_bounds(f, s, classes, m, name, true, area, 24);
+    put_time_bounds(time, f, s, m, name, area, 24);
 }

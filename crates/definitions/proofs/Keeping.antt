@@ -11,16 +11,16 @@ use lib.ListN.{length, drop, getD, getElem?, length-map}
 use borrow.Author.Tests.{eqb-true, eq-eqb, ltb-true}
 use Rattle.functions.specs.Lists.{any, each, place, plusOne, isEmpty, flag, times}
 use Rattle.ast.specs.Tree.{Span, Expr, Flat, equation, rate}
-use Rattle.definitions.specs.Variables.{Error, Variable, Bounds, at, isState, noVariable}
-use Rattle.definitions.specs.Check.{Scope}
+use Rattle.definitions.specs.Variables.{Error, Variable, Bounds, at, isState, noVariable, timeDependent}
+use Rattle.definitions.specs.Check.{Scope, lookup}
 use Rattle.definitions.specs.Roles.{Role, starts, rates, free, roleOf, roleErrors, takesRate}
 use Rattle.definitions.specs.Allocate.{Fate, initial, held, replaced, leftOver, isRateOf, rateFate, fatesOf, lacking, leftCount, pairedStates, countErrors, isHeldBy, heldBy, conditions, numbersFrom, stateErrors, heldErrors, startingErrors, noFlat}
 use Rattle.definitions.proofs.Lengths.{length-fates}
 use Rattle.definitions.proofs.Fates.{FateOf, fate-of, none-left, held-count, in-queue}
-use Rattle.functions.proofs.Lists.{clash}
+use Rattle.functions.proofs.Lists.{clash, and-both}
 use Rattle.functions.proofs.Places.{each-nil, map-at, map-from, any-later, later-any, times-pos, place-found, place-at, place-exact, unless-nil}
 use Rattle.definitions.specs.Promise.{IsStart, IsReplaced}
-use Rattle.definitions.proofs.Roles.{starts-is, is-starts, rates-is, is-rates}
+use Rattle.definitions.proofs.Roles.{starts-is, is-starts, rates-is, is-rates, rate-named}
 use Rattle.definitions.proofs.ListLaws.{element-below}
 
 -- ---- small facts
@@ -228,16 +228,36 @@ module _ (c : Scope) (time : Bounds) (span : Span) (qs : List Flat) where
   replaced-role later free f v (inl h) e = clash (cc)
   replaced-role later free f v (inr h) e = let g : held (h .0) ≡ replaced v = sym (h .1) ∙ e in clash (cc)
 
+  -- a rate equation that goes to u is held by no other
+  held-role : (later : List Role) (u v : ℕ) → rateFate (any (isRateOf u) later) u ≡ held v → u ≡ v
+  unfolding rateFate
+  held-role later u v e = go (any (isRateOf u) later) e
+    where
+      go : (b : Bool) → rateFate b u ≡ held v → u ≡ v
+      go true e = clash (cc)
+      go false e = cc
+
   module _ (he : each (roleErrors c time) qs ≡ []) where
+    -- a rate equation that is held is held by the state that it names
+    pub rate-held-by-name : (v i n : ℕ) (r : Expr) (s : Span) → getElem? fs i ≡ some (held v) → getElem? qs i ≡ some (rate n r s)
+        → (lookup c n ≡ some v) × (timeDependent (c .vars) v ≡ true)
+    unfolding takesRate
+    rate-held-by-name v i n r s h e =
+        let (u, role, names, takes) = rate-named c time n r s (each-nil _ qs i (rate n r s) he e) in
+        let (f, at-i, fits) = fate-of queue rs i (rates u) (map-at (roleOf c time) qs i (rate n r s) e ∙ ap some role) in
+        let same : u ≡ v = held-role (drop (suc i) rs) u v (sym fits ∙ Option·some-injective _ _ (sym at-i ∙ h)) in
+        (names ∙ ap some same, rw same at (and-both (isState (at (c .vars) u)) _ takes .1))
+
     pub is-replaced : (v i : ℕ) (q : Flat) → getElem? qs i ≡ some q → (getElem? fs i ≡ some (replaced v)) ↔ IsReplaced c v qs i q
-    unfolding rateFate
+    unfolding rateFate takesRate
     is-replaced v i q e =
         let (f, at-i, fits) = fate-of queue rs i (roleOf c time q) (map-at (roleOf c time) qs i q e) in (
           λ h.
               let (role, more) = replaced-role (drop (suc i) rs) (roleOf c time q) f v fits (Option·some-injective _ _ (sym at-i ∙ h)) in
               let (j, r, l, e₁, g) = any-later (isRateOf v) rs (suc i) more in
               let (q₁, e₂, k) = map-from (roleOf c time) qs j r e₁ in
-              record { this = rates-is c time v q role .0; later = j; behind = l; stmt = q₁; there = e₂; that = rates-is c time v q₁ (k ∙ rate-is v r g) .0 },
+              let (this, takes) = rates-is c time v q role in
+              record { this = this; state = and-left _ _ takes; later = j; behind = l; stmt = q₁; there = e₂; that = rates-is c time v q₁ (k ∙ rate-is v r g) .0 },
           λ x.
               let role : roleOf c time q ≡ rates v = is-rates c time v q (x .this) (each-nil _ qs i q he e) in
               let role₁ : roleOf c time (x .stmt) ≡ rates v = is-rates c time v (x .stmt) (x .that) (each-nil _ qs (x .later) (x .stmt) he (x .there)) in

@@ -21,7 +21,7 @@ use Rattle.functions.proofs.Lists.{clash}
 use Rattle.functions.proofs.Places.{left-nil, right-nil}
 use Rattle.definitions.proofs.Accepted.{scope, time, flats, answered, answered-of}
 use Rattle.definitions.proofs.Reading.{flat-reads}
-use Rattle.definitions.proofs.Keeping.{state-holds, holds-one, other-holds-none, held-once, record-says, rate-starts, other-starts-none, is-initial, is-replaced, has-fate, fate-each}
+use Rattle.definitions.proofs.Keeping.{state-holds, holds-one, other-holds-none, held-once, record-says, rate-held-by-name, rate-starts, other-starts-none, is-initial, is-replaced, has-fate, fate-each}
 
 module _ (f : File) (m : ℕ) where
   promised : answered f m .errors ≡ [] → Promise (scope f m) (answered f m)
@@ -41,6 +41,7 @@ module _ (f : File) (m : ℕ) where
         other-holds-none = other-holds-none c (time f m) z (flats f m) hc;
         held-once = held-once c (time f m) z (flats f m);
         record-says = record-says c (time f m) z (flats f m) hc;
+        rate-held-by-name = rate-held-by-name c (time f m) z (flats f m) he;
         rate-starts = rate-starts c (time f m) z (flats f m) hc hs;
         other-starts-none = other-starts-none c (time f m) z (flats f m) hc hs;
         is-initial = is-initial c (time f m) z (flats f m);

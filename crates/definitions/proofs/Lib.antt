@@ -1,6 +1,8 @@
 pub mod Promises
+pub mod AllExamples
 pub mod ListLaws
 pub mod Accepted
+pub mod Refusals
 pub mod Kept
 pub mod Area
 pub mod Keeping
@@ -21,3 +23,10 @@ pub mod SoundErrors
 pub mod SoundVariables
 pub mod SoundAnswer
 pub mod StmtKinds
+pub mod Steps
+pub mod Routes
+pub mod Depth
+pub mod Meant
+pub mod FlatsFit
+pub mod VariablesFit
+pub mod AnswersKeep

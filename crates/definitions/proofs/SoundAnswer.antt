@@ -33,7 +33,7 @@ use Rattle.definitions.proofs.Counts.{some-variable}
 use Rattle.definitions.proofs.Area.{fate-each}
 use Rattle.definitions.proofs.Mosts.{within-mosts}
 use Rattle.definitions.proofs.ErrorCount.{count-sizes}
-use Rattle.definitions.proofs.ListLaws.{place-small}
+use Rattle.definitions.proofs.ListLaws.{place-small, or-either}
 
 -- ---- sound
 
@@ -101,10 +101,6 @@ sound-answer file root a hb h =
     (names, rw (x .is-clean .is-answer) at (sound-of names (x .tree) (x .model) s))
 
 -- ---- words: nodes
-
-or-either : {R : Type 0} (a b : Bool) → a || b ≡ true → (a ≡ true → R) → (b ≡ true → R) → R
-or-either true b h f g = f h
-or-either false b h f g = g h
 
 sign-word : (o : ℕ) → isSign o ≡ true → Word o
 unfolding isSign
@@ -203,7 +199,7 @@ last-small i o [] h = omega arith
 last-small i o (zero ∷ ds) h = omega (arith, last-small (suc i) (some i) ds (omega arith))
 last-small i o (suc d ∷ ds) h = omega (arith, last-small (suc i) o ds (omega arith))
 
-index-small : (v : Variable) → plusOne (timeIndex v) ≤ length (v .deps)
+pub index-small : (v : Variable) → plusOne (timeIndex v) ≤ length (v .deps)
 unfolding timeIndex plusOne
 index-small v = omega (arith, last-small 0 none (v .deps) (omega arith))
 
@@ -277,7 +273,7 @@ module _ (names : ℕ) (a : Answer) (x : SoundAnswer names a) (w : WithinMosts a
 
 -- ---- of every accepted build
 
-true-all : {A : Type 0} (P : A → Type 0) (t : A → Bool) → ((y : A) → P y → t y ≡ true) → (xs : List A) → Each P xs → all t xs ≡ true
+pub true-all : {A : Type 0} (P : A → Type 0) (t : A → Bool) → ((y : A) → P y → t y ≡ true) → (xs : List A) → Each P xs → all t xs ≡ true
 unfolding all
 true-all P t k [] h = refl
 true-all P t k (y ∷ xs) h = rw (k y (h .0)) (true-all P t k xs (h .1))

@@ -34,6 +34,20 @@ pub place-if : {A : Type 0} (p : A → Bool) (xs : List A) → If (λ (i : ℕ).
 unfolding place
 place-if p xs = if-small (length xs) (placeFrom 0 p xs) (omega (arith, place-small p 0 xs))
 
+-- what is found, as a list
+pub list-small : (k : ℕ) (o : Option ℕ) → If (λ (i : ℕ). i < k) o → Each (λ (d : ℕ). d < k) (toList o)
+unfolding toList
+list-small k none h = tt
+list-small k (some i) h = (h, tt)
+
+-- kept dependents are numbers of variables
+pub deps-small : (vs : List ℕ) (us : List Unknown) (v : ℕ) → Each (λ (d : ℕ). d < length vs) (keptDeps vs us v)
+unfolding keptDeps numberOf
+deps-small vs us v =
+    every-each (λ (d : ℕ). d < length vs) (λ (u : Unknown). Unit {0}) _
+    (λ u _. all-cond (λ (d : ℕ). d < length vs) (eqb (suc (u .name)) v) _ [] (every-each (λ (d : ℕ). d < length vs) (λ (d : ℕ). Unit {0}) _ (λ d _. list-small (length vs) _ (place-if (eqb (suc d)) vs)) (u .deps) (all-every _ (λ d. tt) (u .deps))) tt)
+    us (all-every _ (λ u. tt) us)
+
 pub length-keep : {A : Type 0} (p : A → Bool) (xs : List A) → length (keep p xs) ≤ length xs
 unfolding keep
 length-keep p [] = omega arith
@@ -111,18 +125,6 @@ module _ (n : ℕ) (ns : List (List ℕ)) where
   time-named e = omega (arith, place-small (sameText (text "t")) 0 ns)
 
   -- ---- variables
-
-  list-small : (k : ℕ) (o : Option ℕ) → If (λ (i : ℕ). i < k) o → Each (λ (d : ℕ). d < k) (toList o)
-  unfolding toList
-  list-small k none h = tt
-  list-small k (some i) h = (h, tt)
-
-  deps-small : (vs : List ℕ) (us : List Unknown) (v : ℕ) → Each (λ (d : ℕ). d < length vs) (keptDeps vs us v)
-  unfolding keptDeps numberOf
-  deps-small vs us v =
-      every-each (λ (d : ℕ). d < length vs) (λ (u : Unknown). Unit {0}) _
-      (λ u _. all-cond (λ (d : ℕ). d < length vs) (eqb (suc (u .name)) v) _ [] (every-each (λ (d : ℕ). d < length vs) (λ (d : ℕ). Unit {0}) _ (λ d _. list-small (length vs) _ (place-if (eqb (suc d)) vs)) (u .deps) (all-every _ (λ d. tt) (u .deps))) tt)
-      us (all-every _ (λ u. tt) us)
 
   pub variables-sound : (us : List Unknown) → length ns ≡ n → Each (SoundUnknown n) us → Each (SoundVariable n (length (variablesOf ns us))) (variablesOf ns us)
   unfolding variablesOf variableNames variable

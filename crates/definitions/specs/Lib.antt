@@ -7,10 +7,13 @@ pub mod Roles
 pub mod Allocate
 pub mod Answer
 pub mod Area
+pub mod Layout
 pub mod Build
 pub mod Read
 pub mod Promise
+pub mod Meaning
 pub mod Models
 pub mod Computes
 pub mod Examples
 pub mod OwnExamples
+pub mod LayoutExamples

@@ -1,5 +1,13 @@
--- The numbers of document 01: refusals, errors, mosts and the lengths of the area's records.
+-- The numbers of document 01, each once: refusals, errors, fates, mosts, lengths and kinds. Those of the tree file are passed on from `FileNumbers` of ast.
 use Prim.Native.Nat.{ℕ}
+-- refusals 2, 3 and 4, and the form
+pub use Rattle.ast.specs.FileNumbers.{noForm, countOverMost, brokenLayout, fileForm}
+-- mosts of the file; those of nodes, dependents and statements are the area's too
+pub use Rattle.ast.specs.FileNumbers.{mostText, mostNames, mostNodes, mostDeps, mostUnknowns, mostStmts, mostModels}
+-- lengths of the file's records; a node's is the area's too
+pub use Rattle.ast.specs.FileNumbers.{nameLength, nodeLength, depLength, unknownLength, fileStmtLength, modelLength, trailerLength}
+-- kinds of nodes and of statements, domains, the word of a missing span
+pub use Rattle.ast.specs.FileNumbers.{nameKind, numberKind, binaryKind, unaryKind, callKind, argumentKind, equationKind, rateKind, submodelKind, noDomain, rangeDomain, namedDomain, missingWord}
 
 -- ---- refusals. 2, 3 and 4 are those of opening the file
 
@@ -88,23 +96,28 @@ noInitialCondition = 16
 abbrev pub algebraicInitialCondition : ℕ
 algebraicInitialCondition = 17
 
--- ---- mosts
+-- ---- fates
+
+abbrev pub initialFate : ℕ
+initialFate = 1
+
+abbrev pub heldFate : ℕ
+heldFate = 2
+
+abbrev pub replacedFate : ℕ
+replacedFate = 3
+
+abbrev pub leftOverFate : ℕ
+leftOverFate = 4
+
+-- ---- mosts of the area
 
 abbrev pub mostInstances : ℕ
 mostInstances = 1024
 
-abbrev pub mostNodes : ℕ
-mostNodes = 1024
-
-abbrev pub mostStmts : ℕ
-mostStmts = 256
-
 -- t and 128 unknowns.
 abbrev pub mostVariables : ℕ
 mostVariables = 129
-
-abbrev pub mostDeps : ℕ
-mostDeps = 1024
 
 -- All errors are counted, the first 256 are listed.
 abbrev pub mostListed : ℕ
@@ -114,13 +127,10 @@ mostListed = 256
 abbrev pub mostBytes : ℕ
 mostBytes = 55384
 
--- ---- the area's records, in words
+-- ---- the lengths of the area's header and records, in words
 
 abbrev pub headerLength : ℕ
 headerLength = 10
-
-abbrev pub nodeLength : ℕ
-nodeLength = 8
 
 abbrev pub stmtLength : ℕ
 stmtLength = 8

@@ -4,14 +4,14 @@ use Prim.Native.Nat.{ℕ, _≤_, _<_}
 use native.Mathlib.Omega.{arith}
 use Rattle.ast.specs.Nodes.{opAt, argsFit}
 use Rattle.ast.proofs.Fitting.{node-ok, last-arg}
-use Rattle.builder.specs.Allocating.{nodesIn, argNode}
+use Rattle.builder.specs.Allocating.{areaNodes, argNode}
 use Rattle.builder.proofs.LeftSides.{arg-last, arg-before}
 use Rattle.builder.proofs.allocate.arg_at.Statement.{statement}
 use Rattle.builder.proofs.allocate.arg_at.Tie as tie
 
 abbrev Inv-loop : tie.InvT-loop
 Inv-loop area z call i end₀ left₀ end left =
-    (end ≤ z .nodes) × (i < left) × ((total : ℕ) × (argsFit (nodesIn area z) end left total ≡ true)) × (argNode (nodesIn area z) i call (opAt (nodesIn area z) call) ≡ argNode (nodesIn area z) i end left)
+    (end ≤ z .nodes) × (i < left) × ((total : ℕ) × (argsFit (areaNodes area z) end left total ≡ true)) × (argNode (areaNodes area z) i call (opAt (areaNodes area z) call) ≡ argNode (areaNodes area z) i end left)
 
 abbrev μ-loop : tie.MeasureT-loop
 μ-loop area z call i end₀ left₀ end left = left

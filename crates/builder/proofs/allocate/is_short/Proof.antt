@@ -2,7 +2,7 @@ use mathlib.Core.Path.{_≡_, sym, ap, _∙_}
 use native.Mathlib.Omega.{arith}
 use borrow.Author.Needs.{needs}
 use Rattle.ast.specs.Words.{wordOf}
-use Rattle.builder.specs.Allocating.{stmtIn, isShort}
+use Rattle.builder.specs.Allocating.{areaStmt, isShort}
 use Rattle.builder.specs.Places.{stmtsAt, varsAt}
 use Rattle.builder.proofs.Flats.{short-equation, short-rate}
 use Rattle.builder.proofs.allocate.is_short.Statement.{statement}
@@ -33,7 +33,7 @@ start-of-requires c κs =
     let a = c .before .before .before .before .before .before .args in
     let p = c .before .before .before .before .before .before .pre in
     let F = p .0 .1 in
-    let e : wordOf (stmtIn (a .area .now) (a .z) (a .i)) 0 ≡ 1 = sym (c .before .before .stmt-of .ensures .0) ∙ c .before .if1 .left in
+    let e : wordOf (areaStmt (a .area .now) (a .z) (a .i)) 0 ≡ 1 = sym (c .before .before .stmt-of .ensures .0) ∙ c .before .if1 .left in
     (p .0, p .1, rw (c .stmt-of2 .ensures .0) (F .left _ (p .2) e .0))
 
 short-start-requires : tie.Need-short-start-requires
@@ -44,7 +44,7 @@ returns-2 c =
     let a = c .before .before .before .before .before .before .before .before .args in
     let p = c .before .before .before .before .before .before .before .before .pre in
     let F = p .0 .1 in
-    let e : wordOf (stmtIn (a .area .now) (a .z) (a .i)) 0 ≡ 1 = sym (c .before .before .before .before .stmt-of .ensures .0) ∙ c .before .before .before .if1 .left in
+    let e : wordOf (areaStmt (a .area .now) (a .z) (a .i)) 0 ≡ 1 = sym (c .before .before .before .before .stmt-of .ensures .0) ∙ c .before .before .before .if1 .left in
     c .short-start .ensures ∙ ap isShort (c .before .start-of .ensures) ∙ rw (c .before .before .stmt-of2 .ensures .0) (sym (short-equation _ _ _ F _ _ _ (p .2) e))
 
 pub is-short-spec : {M : Type 1} → statement M

@@ -3,8 +3,7 @@ use Prim.Native.Nat.{suc, _+_}
 use native.Mathlib.Omega.{arith}
 use Rattle.ast.specs.Words.{spanFrom}
 use Rattle.ast.specs.Nodes.{nameAt}
-use Rattle.builder.specs.Allocating.{nodesIn}
-use Rattle.builder.proofs.Flats.{same-float}
+use Rattle.builder.specs.Allocating.{areaNodes}
 use Rattle.builder.proofs.ListedAt.{unless-at, passed-at}
 use Rattle.builder.specs.Places.{stmtsAt, varsAt, depsAt, errorsAt}
 use borrow.Author.Needs.{needs}
@@ -27,19 +26,19 @@ same-length : tie.Need-same-length
 same-length c = search needs
 
 returns : tie.Need-returns
-returns c = passed-at _ _ _ _ _ (sym (same-float _ _) ∙ (rw (← c .before .before .record-bits .ensures) (sym (c .before .same-number .ensures) ∙ c .if1 .taken)))
+returns c = passed-at _ _ _ _ _ (rw (← c .before .before .record-bits .ensures) (sym (c .before .same-number .ensures) ∙ c .if1 .taken))
 
 record-word-requires : tie.Need-record-word-requires
 unfolding stmtsAt varsAt depsAt errorsAt
 record-word-requires c κs =
     let p = c .before .before .before .before .before .before .pre in
-    (omega (arith, p .1), p .4, omega arith)
+    (omega (arith, p .1), omega (arith, p .4, p .5), omega arith)
 
 record-word-requires-2 : tie.Need-record-word-requires-2
 unfolding stmtsAt varsAt depsAt errorsAt
 record-word-requires-2 c κs =
     let p = c .before .before .before .before .before .before .before .before .pre in
-    (omega (arith, p .1), p .4, omega arith)
+    (omega (arith, p .1), omega (arith, p .4, p .5), omega arith)
 
 record-word-requires-3 : tie.Need-record-word-requires-3
 unfolding stmtsAt varsAt depsAt errorsAt
@@ -61,8 +60,8 @@ unfolding spanFrom
 returns-2 c =
     let a = c .before .before .before .before .before .before .before .before .before .before .before .before .before .before .before .args in
     let record-word3 = c .before .before .before .before .record-word3 in
-    let s : 1 + record-word3 .result ≡ suc (nameAt (nodesIn (a .area .now) (a .z)) (a .call)) = omega (arith, record-word3 .ensures) in
-    unless-at _ _ _ _ _ _ _ (sym (same-float _ _) ∙ (rw (← c .before .before .before .before .before .before .before .before .before .before .before .before .record-bits .ensures) (sym (c .before .before .before .before .before .before .before .before .before .before .before .same-number .ensures) ∙ c .before .before .before .before .before .before .before .before .before .before .if1 .left))) (rw (s, c .before .before .before .before .before .before .before .before .record-word .ensures, c .before .before .before .before .before .before .record-word2 .ensures) at (c .before .before .list-error .ensures))
+    let s : 1 + record-word3 .result ≡ suc (nameAt (areaNodes (a .area .now) (a .z)) (a .call)) = omega (arith, record-word3 .ensures) in
+    unless-at _ _ _ _ _ _ _ (rw (← c .before .before .before .before .before .before .before .before .before .before .before .before .record-bits .ensures) (sym (c .before .before .before .before .before .before .before .before .before .before .before .same-number .ensures) ∙ c .before .before .before .before .before .before .before .before .before .before .if1 .left)) (rw (s, c .before .before .before .before .before .before .before .before .record-word .ensures, c .before .before .before .before .before .before .record-word2 .ensures) at (c .before .before .list-error .ensures))
 
 pub number-error-spec : {M : Type 1} → statement M
 number-error-spec =

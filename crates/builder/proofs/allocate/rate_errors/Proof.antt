@@ -4,7 +4,7 @@ use native.Mathlib.Omega.{arith}
 use lib.ListN.{length, getD}
 use borrow.Author.Tests.{eq-eqb, ne-eqb}
 use Rattle.ast.specs.Words.{wordOf}
-use Rattle.builder.specs.Allocating.{stmtIn}
+use Rattle.builder.specs.Allocating.{areaStmt}
 use Rattle.builder.proofs.ListedAt.{unless-at, passed-at}
 use Rattle.builder.proofs.RoleErrors.{errors-unknown, errors-known}
 use Rattle.builder.specs.Places.{stmtsAt, varsAt, depsAt, errorsAt}
@@ -31,7 +31,7 @@ shared-slice-read-v : tie.Need-shared-slice-read-v
 shared-slice-read-v c =
     let a = c .before .before .before .before .before .before .before .args in
     let p = c .before .before .before .before .before .before .before .pre in
-    let n : c .before .record-word .result ≡ wordOf (stmtIn (a .area .now) (a .z) (a .i)) 1 = rw (c .before .before .stmts-at .ensures) at (c .before .record-word .ensures) in
+    let n : c .before .record-word .result ≡ wordOf (areaStmt (a .area .now) (a .z) (a .i)) 1 = rw (c .before .before .stmts-at .ensures) at (c .before .record-word .ensures) in
     omega (arith, p .4, p .5)
 
 cast-v-2 : tie.Need-cast-v-2
@@ -41,7 +41,7 @@ add-stmt-error : tie.Need-add-stmt-error
 add-stmt-error c =
     let a = c .before .before .before .before .before .before .before .before .before .args in
     let record-word = c .before .before .before .record-word in
-    let n : record-word .result ≡ wordOf (stmtIn (a .area .now) (a .z) (a .i)) 1 = rw (c .before .before .before .before .stmts-at .ensures) at (record-word .ensures) in
+    let n : record-word .result ≡ wordOf (areaStmt (a .area .now) (a .z) (a .i)) 1 = rw (c .before .before .before .before .stmts-at .ensures) at (record-word .ensures) in
     omega (arith, c .before .before .before .before .before .before .before .before .before .pre .4)
 
 stmt-error-requires : tie.Need-stmt-error-requires
@@ -54,7 +54,7 @@ returns : tie.Need-returns
 returns c =
     let a = c .before .before .before .before .before .before .before .before .before .before .before .before .args in
     let record-word = c .before .before .before .before .before .before .record-word in
-    let n : record-word .result ≡ wordOf (stmtIn (a .area .now) (a .z) (a .i)) 1 = rw (c .before .before .before .before .before .before .before .stmts-at .ensures) at (record-word .ensures) in
+    let n : record-word .result ≡ wordOf (areaStmt (a .area .now) (a .z) (a .i)) 1 = rw (c .before .before .before .before .before .before .before .stmts-at .ensures) at (record-word .ensures) in
     let s : 1 + record-word .result ≡ suc (record-word .result) = omega arith in
     rw (← n, errors-unknown _ _ _ _ (c .before .before .before .before .if1 .taken)) (rw s at (c .before .before .stmt-error .ensures))
 
@@ -65,7 +65,7 @@ shared-slice-read-if2 : tie.Need-shared-slice-read-if2
 shared-slice-read-if2 c =
     let a = c .before .before .before .before .before .before .before .before .before .args in
     let record-word = c .before .before .before .record-word in
-    let n : record-word .result ≡ wordOf (stmtIn (a .area .now) (a .z) (a .i)) 1 = rw (c .before .before .before .before .stmts-at .ensures) at (record-word .ensures) in
+    let n : record-word .result ≡ wordOf (areaStmt (a .area .now) (a .z) (a .i)) 1 = rw (c .before .before .before .before .stmts-at .ensures) at (record-word .ensures) in
     let m : getD (a .numbers .now) (record-word .result) 0 ≤ length (a .rates .now) = rw n (c .before .before .before .before .before .before .before .before .before .pre .6) in
     omega (arith, c .before .if1 .left)
 
@@ -76,14 +76,14 @@ returns-2 : tie.Need-returns-2
 returns-2 c =
     let a = c .before .before .before .before .before .before .before .before .before .before .args in
     let record-word = c .before .before .before .before .record-word in
-    let n : record-word .result ≡ wordOf (stmtIn (a .area .now) (a .z) (a .i)) 1 = rw (c .before .before .before .before .before .stmts-at .ensures) at (record-word .ensures) in
+    let n : record-word .result ≡ wordOf (areaStmt (a .area .now) (a .z) (a .i)) 1 = rw (c .before .before .before .before .before .stmts-at .ensures) at (record-word .ensures) in
     rw (← n, errors-known _ _ _ _ (c .before .before .if1 .left)) (passed-at _ _ _ _ _ (eq-eqb _ _ (c .if2 .taken)))
 
 add-stmt-error-2 : tie.Need-add-stmt-error-2
 add-stmt-error-2 c =
     let a = c .before .before .before .before .before .before .before .before .before .before .before .args in
     let record-word = c .before .before .before .before .before .record-word in
-    let n : record-word .result ≡ wordOf (stmtIn (a .area .now) (a .z) (a .i)) 1 = rw (c .before .before .before .before .before .before .stmts-at .ensures) at (record-word .ensures) in
+    let n : record-word .result ≡ wordOf (areaStmt (a .area .now) (a .z) (a .i)) 1 = rw (c .before .before .before .before .before .before .stmts-at .ensures) at (record-word .ensures) in
     omega (arith, c .before .before .before .before .before .before .before .before .before .before .before .pre .4)
 
 stmt-error-requires-2 : tie.Need-stmt-error-requires-2
@@ -96,7 +96,7 @@ returns-3 : tie.Need-returns-3
 returns-3 c =
     let a = c .before .before .before .before .before .before .before .before .before .before .before .before .before .before .args in
     let record-word = c .before .before .before .before .before .before .before .before .record-word in
-    let n : record-word .result ≡ wordOf (stmtIn (a .area .now) (a .z) (a .i)) 1 = rw (c .before .before .before .before .before .before .before .before .before .stmts-at .ensures) at (record-word .ensures) in
+    let n : record-word .result ≡ wordOf (areaStmt (a .area .now) (a .z) (a .i)) 1 = rw (c .before .before .before .before .before .before .before .before .before .stmts-at .ensures) at (record-word .ensures) in
     let s : 1 + record-word .result ≡ suc (record-word .result) = omega arith in
     rw (← n, errors-known _ _ _ _ (c .before .before .before .before .before .before .if1 .left)) (unless-at _ _ _ _ _ _ _ (ne-eqb _ _ (c .before .before .before .before .if2 .left)) (rw s at (c .before .before .stmt-error2 .ensures)))
 

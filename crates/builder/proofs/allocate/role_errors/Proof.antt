@@ -2,7 +2,7 @@ use mathlib.Core.Path.{_≡_, sym, _∙_}
 use Prim.Native.Nat.{_<_}
 use native.Mathlib.Omega.{arith}
 use Rattle.ast.specs.Words.{wordOf}
-use Rattle.builder.specs.Allocating.{stmtIn}
+use Rattle.builder.specs.Allocating.{areaStmt}
 use Rattle.builder.proofs.LeftSides.{start-fits, start-calls}
 use Rattle.builder.proofs.Flats.{rate-name}
 use Rattle.builder.proofs.RoleErrors.{errors-equation, errors-rate}
@@ -24,7 +24,7 @@ start-of-requires c κs =
     let a = c .before .before .before .before .before .before .before .before .before .before .args in
     let p = c .before .before .before .before .before .before .before .before .before .before .pre in
     let F = p .0 .1 in
-    let e : wordOf (stmtIn (a .area .now) (a .z) (a .i)) 0 ≡ 1 = sym (c .before .before .before .before .stmt-of .ensures .0) ∙ c .before .before .before .if1 .taken in
+    let e : wordOf (areaStmt (a .area .now) (a .z) (a .i)) 0 ≡ 1 = sym (c .before .before .before .before .stmt-of .ensures .0) ∙ c .before .before .before .if1 .taken in
     (p .0, p .1, rw (c .before .stmt-of2 .ensures .0) (F .left _ (p .3) e .0))
 
 start-errors-requires : tie.Need-start-errors-requires
@@ -32,7 +32,7 @@ start-errors-requires c κs =
     let a = c .before .before .before .before .before .before .before .before .before .before .before .before .args in
     let p = c .before .before .before .before .before .before .before .before .before .before .before .before .pre in
     let F = p .0 .1 in
-    let e : wordOf (stmtIn (a .area .now) (a .z) (a .i)) 0 ≡ 1 = sym (c .before .before .before .before .before .before .stmt-of .ensures .0) ∙ c .before .before .before .before .before .if1 .taken in
+    let e : wordOf (areaStmt (a .area .now) (a .z) (a .i)) 0 ≡ 1 = sym (c .before .before .before .before .before .before .stmt-of .ensures .0) ∙ c .before .before .before .before .before .if1 .taken in
     let l = F .left _ (p .3) e .0 in
     rw (c .before .start-of .ensures, c .before .before .before .stmt-of2 .ensures .0) (F .small, p .4, p .5, l, start-fits _ _ _ (F .nodes) (F .few) _ _ (p .1) _ l, start-calls _ _ _ (F .nodes) (F .few) _ _ _ l)
 
@@ -44,7 +44,7 @@ returns c =
     let a = c .before .before .before .before .before .before .before .before .before .before .before .before .before .before .before .args in
     let p = c .before .before .before .before .before .before .before .before .before .before .before .before .before .before .before .pre in
     let F = p .0 .1 in
-    let e : wordOf (stmtIn (a .area .now) (a .z) (a .i)) 0 ≡ 1 = sym (c .before .before .before .before .before .before .before .before .before .stmt-of .ensures .0) ∙ c .before .before .before .before .before .before .before .before .if1 .taken in
+    let e : wordOf (areaStmt (a .area .now) (a .z) (a .i)) 0 ≡ 1 = sym (c .before .before .before .before .before .before .before .before .before .stmt-of .ensures .0) ∙ c .before .before .before .before .before .before .before .before .if1 .taken in
     rw (errors-equation _ _ _ F _ _ _ _ _ (p .3) e) (rw (c .before .before .before .before .start-of .ensures, c .before .before .before .before .before .before .stmt-of2 .ensures .0) at (c .before .before .start-errors .ensures))
 
 rate-errors-requires : tie.Need-rate-errors-requires
@@ -52,10 +52,10 @@ rate-errors-requires c κs =
     let a = c .before .before .before .before .before .before .before .before .args in
     let p = c .before .before .before .before .before .before .before .before .pre in
     let F = p .0 .1 in
-    let n : (wordOf (stmtIn (a .area .now) (a .z) (a .i)) 0 ≡ 1) → ⊥ = λ e. c .before .if1 .left (c .before .before .stmt-of .ensures .0 ∙ e) in
-    let m : wordOf (stmtIn (a .area .now) (a .z) (a .i)) 1 < p .0 .0 = rate-name _ _ _ F (a .numbers .now) (a .indexes .now) (a .i) (p .3) n in
-    let q : wordOf (stmtIn (a .area .now) (a .z) (a .i)) 1 < 256 = omega (arith, F .few) in
-    (F .small, p .4, p .5, p .3, q, p .1 .names, omega (arith, p .1 .entries (wordOf (stmtIn (a .area .now) (a .z) (a .i)) 1) q, F .small .vars, p .2))
+    let n : (wordOf (areaStmt (a .area .now) (a .z) (a .i)) 0 ≡ 1) → ⊥ = λ e. c .before .if1 .left (c .before .before .stmt-of .ensures .0 ∙ e) in
+    let m : wordOf (areaStmt (a .area .now) (a .z) (a .i)) 1 < p .0 .0 = rate-name _ _ _ F (a .numbers .now) (a .indexes .now) (a .i) (p .3) n in
+    let q : wordOf (areaStmt (a .area .now) (a .z) (a .i)) 1 < 256 = omega (arith, F .few) in
+    (F .small, p .4, p .5, p .3, q, p .1 .names, omega (arith, p .1 .entries (wordOf (areaStmt (a .area .now) (a .z) (a .i)) 1) q, F .small .vars, p .2))
 
 same-length-2 : tie.Need-same-length-2
 same-length-2 c = search needs
@@ -65,7 +65,7 @@ returns-2 c =
     let a = c .before .before .before .before .before .before .before .before .before .before .before .args in
     let p = c .before .before .before .before .before .before .before .before .before .before .before .pre in
     let F = p .0 .1 in
-    let n : (wordOf (stmtIn (a .area .now) (a .z) (a .i)) 0 ≡ 1) → ⊥ = λ e. c .before .before .before .before .if1 .left (c .before .before .before .before .before .stmt-of .ensures .0 ∙ e) in
+    let n : (wordOf (areaStmt (a .area .now) (a .z) (a .i)) 0 ≡ 1) → ⊥ = λ e. c .before .before .before .before .if1 .left (c .before .before .before .before .before .stmt-of .ensures .0 ∙ e) in
     rw (errors-rate _ _ _ F _ _ _ _ _ (p .3) n) (c .before .before .rate-errors .ensures)
 
 pub role-errors-spec : {M : Type 1} → statement M

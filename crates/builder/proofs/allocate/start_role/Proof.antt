@@ -1,7 +1,7 @@
 use mathlib.Core.Path.{_≡_, sym, _∙_}
 use Prim.Native.Nat.{_+_, _*_, _%_}
 use native.Mathlib.Omega.{arith}
-use Rattle.builder.proofs.Flats.{same-float, number-fits, role-lower, role-wrong, role-short, role-nothing}
+use Rattle.builder.proofs.Flats.{number-fits, role-lower, role-wrong, role-short, role-nothing}
 use borrow.Author.Needs.{needs}
 use Rattle.builder.proofs.allocate.start_role.Statement.{statement}
 use Rattle.builder.proofs.allocate.start_role.Tie as tie
@@ -50,10 +50,10 @@ returns c =
     let start = c .before .before .before .before .start in
     λ f. let N = number-fits _ _ _ _ (start .given .1) (p .2) in
     let m : (2 * start .given .0 .0 + 1) % 4294967296 ≡ 2 * start .given .0 .0 + 1 = omega (arith, N .0, p .1 .vars) in
-    m ∙ sym (role-lower _ _ _ _ _ _ (start .given .1) (sym (same-float _ _) ∙ (rw (← c .before .before .record-bits .ensures) (sym (c .before .same-number .ensures) ∙ c .if1 .taken))))
+    m ∙ sym (role-lower _ _ _ _ _ _ (start .given .1) (rw (← c .before .before .record-bits .ensures) (sym (c .before .same-number .ensures) ∙ c .if1 .taken)))
 
 returns-2 : tie.Need-returns-2
-returns-2 c = λ f. sym (role-wrong _ _ _ _ _ _ (c .before .before .before .before .start .given .1) (sym (same-float _ _) ∙ (rw (← c .before .before .record-bits .ensures) (sym (c .before .same-number .ensures) ∙ c .if1 .left))))
+returns-2 c = λ f. sym (role-wrong _ _ _ _ _ _ (c .before .before .before .before .start .given .1) (rw (← c .before .before .record-bits .ensures) (sym (c .before .same-number .ensures) ∙ c .if1 .left)))
 
 returns-3 : tie.Need-returns-3
 returns-3 c = λ f. sym (role-short _ _ _ _ (c .enum-told .given .1))

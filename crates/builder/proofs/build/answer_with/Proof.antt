@@ -17,7 +17,7 @@ enum-known-i c = search needs
 fill-requires : tie.Need-fill-requires
 fill-requires c κs =
     let measure = c .before .before .before .before .before .before .before .measure in
-    let z = measured-sized _ _ _ _ _ (sym (c .before .before .before .i .given .1) ∙ measure .ensures .0) in
+    let z = measured-sized _ _ _ _ _ _ (c .before .before .before .i .given .1) (measure .ensures .0) in
     let p = c .before .before .before .before .before .before .before .before .before .before .before .before .pre in
     (record { opened = p .0; classes = p .2 .0; callees = p .2 .2 }, p .2 .1, p .1, (measure .ensures .1, measure .ensures .2), p .4, (z .0, z .1, z .2, z .3))
 
@@ -25,7 +25,7 @@ same-length : tie.Need-same-length
 same-length c = search needs
 
 returns : tie.Need-returns
-returns c = (given-refused _ _ _ (measured-refused _ _ _ (sym (c .before .number .given .1) ∙ c .before .before .before .before .before .measure .ensures .0)), used-refused _)
+returns c = (given-refused _ _ _ (measured-refused _ _ _ _ (c .before .number .given .1) (c .before .before .before .before .before .measure .ensures .0)), used-refused _)
 
 same-length-2 : tie.Need-same-length-2
 same-length-2 c = search needs
@@ -36,7 +36,7 @@ same-length-3 c = search needs
 returns-2 : tie.Need-returns-2
 returns-2 c =
     let fill = c .before .before .before .before .fill in
-    (fill .ensures .0 ∙ sym (ap bytesIn (measured-sized _ _ _ _ _ (sym (c .before .before .before .before .before .before .before .before .i .given .1) ∙ c .before .before .before .before .before .before .before .before .before .before .before .before .measure .ensures .0) .4)), fill .ensures .1)
+    (fill .ensures .0 ∙ sym (ap bytesIn (measured-sized _ _ _ _ _ _ (c .before .before .before .before .before .before .before .before .i .given .1) (c .before .before .before .before .before .before .before .before .before .before .before .before .measure .ensures .0) .4)), fill .ensures .1)
 
 pub answer-with-spec : {M : Type 1} → statement M
 answer-with-spec =

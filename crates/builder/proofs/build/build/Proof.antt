@@ -1,7 +1,7 @@
 use mathlib.Core.Path.{sym, ap, _∙_}
 use lib.ListN.{length}
 use Rattle.definitions.specs.Build.{told, resultArea}
-use Rattle.ast.proofs.Passed.{is-opened}
+use Rattle.ast.proofs.Passed.{opens-refused, opens-file}
 use Rattle.builder.proofs.Answers.{built-refused}
 use borrow.Author.Needs.{needs}
 use Rattle.builder.proofs.build.build.Statement.{statement}
@@ -20,7 +20,7 @@ enum-known-s : tie.Need-enum-known-s
 enum-known-s c = search needs
 
 build-opened-requires : tie.Need-build-opened-requires
-build-opened-requires c κs = is-opened _ _ (sym (c .before .before .before .before .open .ensures) ∙ c .before .before .s .given .1)
+build-opened-requires c κs = opens-file _ _ _ _ (c .before .before .before .before .open .ensures) _ (c .before .before .s .given .1)
 
 same-length : tie.Need-same-length
 same-length c = search needs
@@ -28,7 +28,8 @@ same-length c = search needs
 returns : tie.Need-returns
 returns c =
     let a = c .before .before .before .before .before .before .before .before .before .before .before .args in
-    let e = built-refused _ (a .root .now) (length (a .area .now)) _ (sym (c .before .before .before .before .before .number .given .1) ∙ c .before .before .before .before .before .before .before .open .ensures) in
+    let o = opens-refused _ _ _ _ (c .before .before .before .before .before .before .before .open .ensures) _ (c .before .before .before .before .before .number .given .1) in
+    let e = built-refused _ (a .root .now) (length (a .area .now)) _ o in
     (c .before .before .refuse .ensures .0 ∙ sym (ap told e), c .before .before .refuse .ensures .1 ∙ sym (ap (resultArea (length (a .area .now))) e))
 
 same-length-2 : tie.Need-same-length-2

@@ -7,48 +7,40 @@ use lib.Seq.{take-all}
 use Rattle.builder.proofs.Outputs.{clear-none, clear-step}
 use Rattle.builder.proofs.output.clear.Statement.{statement}
 use Rattle.builder.proofs.output.clear.Tie as tie
-use Rattle.builder.proofs.output.clear.Reads as reads
-use Rattle.builder.proofs.output.clear.Lts as lts
 
 abbrev Inv-loop : tie.InvT-loop
 Inv-loop d₀ from i₀ d i =
-    (from ≤ i) × (i ≤ length d₀) × (length d ≡ length d₀) × (take i d ≡ take from d₀ ++ replicate (i - from) 0)
+    (from ≤ i) × (i - from ≤ length d₀ - from) × (length d ≡ length d₀) × (take i d ≡ take from d₀ ++ replicate (i - from) 0)
 
 abbrev μ-loop : tie.MeasureT-loop
 μ-loop d₀ from i₀ d i = length d - i
 
--- src/lib.rt:14:5
 loop-holds : tie.Need-loop-holds Inv-loop μ-loop
 loop-holds c = (omega arith, omega arith, refl, clear-none (c .args .area .now) (c .args .from))
 
--- src/lib.rt:15:9
 slice-write-area : tie.Need-slice-write-area Inv-loop μ-loop
 slice-write-area c = omega arith
 
--- src/lib.rt:16:9
 add-i : tie.Need-add-i Inv-loop μ-loop
 add-i c = omega arith
 
--- src/lib.rt:14:5
 loop-less : tie.Need-loop-less Inv-loop μ-loop
 loop-less c = simp length-set (omega arith)
 
--- src/lib.rt:14:5
 loop-again : tie.Need-loop-again Inv-loop μ-loop
 loop-again c =
     let inv = c .before .loop .inv in
     let l : c .before .loop .i < length (c .before .loop .area) = omega arith in
     (omega arith, omega arith, simp length-set (inv .2), clear-step _ _ _ _ (inv .0) l (inv .3))
 
--- src/lib.rt:9:1
 same-length : tie.Need-same-length Inv-loop μ-loop
 same-length c = c .before .loop .inv .2
 
--- src/lib.rt:9:1
 returns : tie.Need-returns Inv-loop μ-loop
 returns c =
     let inv = c .before .loop .inv in
-    let e : c .before .loop .i ≡ length (c .before .before .args .area .now) = omega arith in
+    let a = c .before .before .args in
+    let e : c .before .loop .i - a .from ≡ length (a .area .now) - a .from = omega arith in
     sym (take-all (c .before .loop .i) (c .before .loop .area) (omega arith)) ∙ inv .3 ∙ rw e
 
 pub clear-spec : {M : Type 1} → statement M

@@ -2,19 +2,13 @@ use Rattle.builder.proofs.Outputs.{cleared}
 use borrow.Author.Needs.{needs}
 use Rattle.builder.proofs.output.refuse.Statement.{statement}
 use Rattle.builder.proofs.output.refuse.Tie as tie
-use Rattle.builder.proofs.output.refuse.Reads as reads
-use Rattle.builder.proofs.output.refuse.Lts as lts
-use Rattle.builder.proofs.output.clear.Reads as clear-reads
 
--- src/output.rt:37:5
 clear-requires : tie.Need-clear-requires
 clear-requires c κs = search needs
 
--- src/output.rt:34:1
 same-length : tie.Need-same-length
 same-length c = search needs
 
--- src/output.rt:34:1
 returns : tie.Need-returns
 returns c =
     let a = c .before .before .before .before .before .args in

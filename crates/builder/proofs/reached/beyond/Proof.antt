@@ -1,12 +1,12 @@
 use mathlib.Core.Path.{_≡_, sym, _∙_}
 use Prim.Native.Nat.{_-_, _≤_, ℕ}
 use native.Mathlib.Omega.{arith}
-use mathlib.Core.Bool.{true, or-true, or-false}
+use mathlib.Core.Bool.{true}
 use Rattle.ast.specs.Nodes.{opAt, sizeAt, argsFit, argsBefore}
 use Rattle.ast.specs.Opens.{contentsIn}
 use Rattle.definitions.specs.Flatten as flatten
 use Rattle.builder.proofs.OpenRecords.{call-args, arg-here}
-use Rattle.builder.proofs.Refusals.{beyond-here, beyond-done}
+use Rattle.builder.proofs.Refusals.{beyond-yes, beyond-no, beyond-done}
 use Rattle.builder.proofs.reached.beyond.Statement.{statement}
 use Rattle.builder.proofs.reached.beyond.Tie as tie
 
@@ -45,7 +45,9 @@ returns : tie.Need-returns Inv-loop μ-loop
 returns c =
     let a = c .before .before .before .before .before .before .args in
     let loop = c .before .before .before .loop in
-    sym (loop .inv .3 ∙ beyond-here (a .f .now) (a .s) (c .before .before .before .before .before .before .pre .0) (loop .end) (loop .left) (loop .inv .0) (loop .inv .1) (loop .inv .2) (c .before .before .loop-test .taken) (a .n) ∙ rw (← c .before .node2 .ensures .0, c .if1 .taken, or-true))
+    let o = c .before .before .before .before .before .before .pre .0 in
+    let b = beyond-yes (a .f .now) (a .s) o (loop .end) (loop .left) (loop .inv .0) (loop .inv .1) (loop .inv .2) (c .before .before .loop-test .taken) (a .n) in
+    sym (loop .inv .3 ∙ b (rw (← c .before .node2 .ensures .0) (c .if1 .taken)))
 
 sub-node-2 : tie.Need-sub-node-2 Inv-loop μ-loop
 sub-node-2 c =
@@ -79,7 +81,9 @@ loop-again c =
     let loop = c .before .before .before .before .loop in
     let loop-test = c .before .before .before .loop-test in
     let a = arg-here (args .f .now) (args .s) (p .0) (loop .end) (loop .left) (loop .inv .0) (loop .inv .1) (loop .inv .2) (loop-test .taken) in
-    (loop .inv .0 - sizeAt (contentsIn (args .f .now) (args .s) .nodes) (loop .end - 1), omega (arith, loop .inv .1), rw (c .node3 .ensures .0) (a .rest), loop .inv .3 ∙ beyond-here (args .f .now) (args .s) (p .0) (loop .end) (loop .left) (loop .inv .0) (loop .inv .1) (loop .inv .2) (loop-test .taken) (args .n) ∙ rw (← c .before .before .node2 .ensures .0, ← c .node3 .ensures .0, c .before .if1 .left) (or-false _))
+    let b = beyond-no (args .f .now) (args .s) (p .0) (loop .end) (loop .left) (loop .inv .0) (loop .inv .1) (loop .inv .2) (loop-test .taken) (args .n) in
+    let t = b (rw (← c .before .before .node2 .ensures .0) (c .before .if1 .left)) in
+    (loop .inv .0 - sizeAt (contentsIn (args .f .now) (args .s) .nodes) (loop .end - 1), omega (arith, loop .inv .1), rw (c .node3 .ensures .0) (a .rest), loop .inv .3 ∙ rw (c .node3 .ensures .0) t)
 
 returns-2 : tie.Need-returns-2 Inv-loop μ-loop
 returns-2 c = sym (c .before .loop .inv .3 ∙ beyond-done _ _ _ (c .before .loop .left) _ (c .loop-test .left))

@@ -5,7 +5,7 @@ use borrow.Author.Needs.{needs}
 use Rattle.ast.specs.Opens.{fileIn}
 use Rattle.definitions.specs.Flatten.{modelAt}
 use Rattle.builder.specs.Places.{stmtsAt, varsAt, depsAt, errorsAt}
-use Rattle.builder.specs.Allocating.{nodesIn, stmtsIn, ListsAt}
+use Rattle.builder.specs.Allocating.{areaNodes, areaStmts, ListsAt}
 use Rattle.builder.specs.Starting.{startingIn}
 use Rattle.builder.proofs.FateTables.{fates-none, held-few, first-few}
 use Rattle.builder.proofs.ListedAt.{none-at, lists-length}
@@ -14,7 +14,7 @@ use Rattle.builder.proofs.starting.starting_errors.Statement.{statement
 use Rattle.builder.proofs.starting.starting_errors.Tie as tie
 
 abbrev Inv-loop : tie.InvT-loop
-Inv-loop f s m names area₀ z count held first listed₀ v₀ area listed v = (v ≤ z .vars) × (listed ≤ count + v) × ListsAt (errorsAt z) area₀ count (startingIn (modelAt (fileIn f s) m .span) (nodesIn area₀ z) (stmtsIn area₀ z) names v) listed area
+Inv-loop f s m names area₀ z count held first listed₀ v₀ area listed v = (v ≤ z .vars) × (listed ≤ count + v) × ListsAt (errorsAt z) area₀ count (startingIn (modelAt (fileIn f s) m .span) (areaNodes area₀ z) (areaStmts area₀ z) names v) listed area
 
 abbrev μ-loop : tie.MeasureT-loop
 μ-loop f s m names area₀ z count held first listed₀ v₀ area listed v = z .vars - v
@@ -81,7 +81,7 @@ state-errors-requires c κs =
     let a = c .before .before .before .before .before .before .before .before .before .before .before .before .before .before .before .before .before .before .before .args in
     let note-fates = c .before .before .before .before .before .before .before .before .note-fates in
     let loop = c .before .before .before .before .loop in
-    let p : ListsAt (errorsAt (a .z)) (a .area .now) (a .count) (startingIn (modelAt (fileIn (a .f .now) (a .s)) (a .m) .span) (nodesIn (a .area .now) (a .z)) (stmtsIn (a .area .now) (a .z)) (a .names .now) (loop .v)) (loop .listed) (loop .area) = loop .inv .2 in
+    let p : ListsAt (errorsAt (a .z)) (a .area .now) (a .count) (startingIn (modelAt (fileIn (a .f .now) (a .s)) (a .m) .span) (areaNodes (a .area .now) (a .z)) (areaStmts (a .area .now) (a .z)) (a .names .now) (loop .v)) (loop .listed) (loop .area) = loop .inv .2 in
     let few : loop .v < 129 = omega (arith, c .before .before .if1 .taken, pre .3 .small .vars) in
     (pre .0, pre .1, righted-listed _ _ _ _ _ _ (pre .3) p, held-few _ _ _ _ _ _ (note-fates .ensures) (loop .v) few, first-few _ _ _ _ _ _ (note-fates .ensures) (loop .v) few, omega (arith, loop .inv .1, c .before .before .if1 .taken, pre .4))
 
@@ -98,7 +98,7 @@ loop-again c =
     let note-fates = c .before .before .before .before .before .before .before .before .before .before .before .note-fates in
     let loop = c .before .before .before .before .before .before .before .loop in
     let if1 = c .before .before .before .before .before .if1 in
-    let p : ListsAt (errorsAt (a .z)) (a .area .now) (a .count) (startingIn (modelAt (fileIn (a .f .now) (a .s)) (a .m) .span) (nodesIn (a .area .now) (a .z)) (stmtsIn (a .area .now) (a .z)) (a .names .now) (loop .v)) (loop .listed) (loop .area) = loop .inv .2 in
+    let p : ListsAt (errorsAt (a .z)) (a .area .now) (a .count) (startingIn (modelAt (fileIn (a .f .now) (a .s)) (a .m) .span) (areaNodes (a .area .now) (a .z)) (areaStmts (a .area .now) (a .z)) (a .names .now) (loop .v)) (loop .listed) (loop .area) = loop .inv .2 in
     let few : loop .v < 129 = omega (arith, if1 .taken, pre .3 .small .vars) in
     let n = starting-next _ _ _ _ _ _ _ _ _ _ _ _ (pre .3) (note-fates .ensures .held-of (loop .v) few) (note-fates .ensures .first-of (loop .v) few) p (c .before .before .state-errors .ensures) in
     (omega (arith, if1 .taken), omega (arith, n .0, loop .inv .1), n .1)
@@ -107,14 +107,14 @@ same-length : tie.Need-same-length Inv-loop μ-loop
 same-length c =
     let a = c .before .before .before .before .before .before .before .before .before .before .before .before .before .before .before .before .before .args in
     let loop = c .before .before .loop in
-    let p : ListsAt (errorsAt (a .z)) (a .area .now) (a .count) (startingIn (modelAt (fileIn (a .f .now) (a .s)) (a .m) .span) (nodesIn (a .area .now) (a .z)) (stmtsIn (a .area .now) (a .z)) (a .names .now) (loop .v)) (loop .listed) (loop .area) = loop .inv .2 in
+    let p : ListsAt (errorsAt (a .z)) (a .area .now) (a .count) (startingIn (modelAt (fileIn (a .f .now) (a .s)) (a .m) .span) (areaNodes (a .area .now) (a .z)) (areaStmts (a .area .now) (a .z)) (a .names .now) (loop .v)) (loop .listed) (loop .area) = loop .inv .2 in
     lists-length _ _ _ _ _ _ (c .before .before .before .before .before .before .before .before .before .before .before .before .before .before .before .before .before .pre .3 .long) p
 
 returns : tie.Need-returns Inv-loop μ-loop
 returns c =
     let a = c .before .before .before .before .before .before .before .before .before .before .before .before .before .before .before .before .before .args in
     let loop = c .before .before .loop in
-    let p : ListsAt (errorsAt (a .z)) (a .area .now) (a .count) (startingIn (modelAt (fileIn (a .f .now) (a .s)) (a .m) .span) (nodesIn (a .area .now) (a .z)) (stmtsIn (a .area .now) (a .z)) (a .names .now) (loop .v)) (loop .listed) (loop .area) = loop .inv .2 in
+    let p : ListsAt (errorsAt (a .z)) (a .area .now) (a .count) (startingIn (modelAt (fileIn (a .f .now) (a .s)) (a .m) .span) (areaNodes (a .area .now) (a .z)) (areaStmts (a .area .now) (a .z)) (a .names .now) (loop .v)) (loop .listed) (loop .area) = loop .inv .2 in
     let e : loop .v ≡ a .z .vars = omega (arith, loop .inv .0, c .if1 .left) in
     rw e at p
 
