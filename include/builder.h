@@ -43,8 +43,9 @@ uint64_t build(const uint8_t *file, size_t file_length,
 #define BUILDER_BROKEN_LAYOUT 4       /* the length or a record breaks the layout */
 /* By the model's author. */
 #define BUILDER_MODEL_CYCLE 6         /* a model is reached from itself */
-#define BUILDER_SELF_LISTED_UNKNOWN 7 /* an unknown lists itself among its dependents */
-#define BUILDER_ARGUMENT_BEYOND 8     /* more positional arguments than the submodel has unknowns */
+#define BUILDER_SELF_LISTED_UNKNOWN 7 /* an unknown that is t or unreserved lists itself among its dependents */
+#define BUILDER_ARGUMENT_BEYOND 8     /* a submodel statement has a positional argument whose number, keywords counted, is not
+                                       * below its model's count of unknowns */
 #define BUILDER_TOO_BIG 9             /* over 1,024 instances, 1,024 flattened nodes or 256 flattened statements */
 #define BUILDER_SHORT_LEFT_SIDE 10    /* a left side with too few arguments to reach its time index */
 

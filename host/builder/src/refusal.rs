@@ -65,9 +65,12 @@ impl Refusal {
             }
             Refusal::NoRoot => "No model of the file has the root name.",
             Refusal::ModelCycle => "A model is reached from itself through submodel statements.",
-            Refusal::SelfListedUnknown => "An unknown lists itself among its dependents.",
+            Refusal::SelfListedUnknown => {
+                "An unknown that is t or unreserved lists itself among its dependents."
+            }
             Refusal::ArgumentBeyond => {
-                "A submodel statement has more positional arguments than its model has unknowns."
+                "A submodel statement has a positional argument whose number, keywords counted, is not below its \
+                 model's count of unknowns."
             }
             Refusal::TooBig => {
                 "The flattened model is over 1,024 instances, 1,024 nodes or 256 statements."

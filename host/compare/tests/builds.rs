@@ -1,8 +1,10 @@
 //! The proved builder on the examples, then on 3,000 cases against the original; where its source is not there, on the
-//! recorded cases instead.
+//! recorded cases instead, unless ORACLE_REQUIRED asks for the original. What was compared is told in one line, which is
+//! also written to the file that COMPARED names.
 
 use compare::{check, examples, smallest, Series};
 use std::process::ExitCode;
+use std::{env, fs};
 
 /// Hand-made and random cases together.
 const CASES: u64 = 3_000;
@@ -38,7 +40,8 @@ fn against_the_original() -> Result<(), String> {
     let left = CASES - series.tally.cases();
     series.join(Series::random(FIRST, left, |_| ()));
     print!("{}", series.tally);
-    let (cases, calls, failures) = (series.tally.cases(), series.calls, series.failures);
+    let (cases, called) = (series.tally.cases(), series.tally.called());
+    let (calls, failures) = (series.calls, series.failures);
     println!(
         "comparison with the original: {cases} cases, {calls} calls, {} failures",
         failures.len()
@@ -49,13 +52,23 @@ fn against_the_original() -> Result<(), String> {
     {
         Some(failure) => Err(smallest(failure).to_string()),
         None if cases < CASES => Err(format!("fewer than {CASES} cases")),
-        None => Ok(()),
+        None if called == 0 => Err("ModelInfo::build was never called".to_string()),
+        None => tell(&format!(
+            "compared with the original: {called} files, ModelInfo::build called on each in both variants; {} more, on \
+             which it cannot be called, by the rules of document 01",
+            cases - called
+        )),
     }
 }
 
 fn against_the_recorded() -> Result<(), String> {
+    if env::var_os("ORACLE_REQUIRED").is_some() {
+        return Err(
+            "the original's source is not there, and ORACLE_REQUIRED asks for it".to_string(),
+        );
+    }
     println!("SKIPPED: comparison with the original, whose source is not there; the recorded cases are replayed instead");
-    let bytes = std::fs::read(RECORDED).map_err(|error| format!("{RECORDED}: {error}"))?;
+    let bytes = fs::read(RECORDED).map_err(|error| format!("{RECORDED}: {error}"))?;
     let cases = record::read(&bytes);
     let mut calls = 0;
     for (i, case) in cases.iter().enumerate() {
@@ -65,5 +78,19 @@ fn against_the_recorded() -> Result<(), String> {
         "recorded cases: {} replayed, {calls} calls, 0 failures",
         cases.len()
     );
-    Ok(())
+    tell(&format!(
+        "nothing was compared with the original, whose source is not there: {} recorded answers served",
+        cases.len()
+    ))
+}
+
+/// Tells what was compared.
+fn tell(line: &str) -> Result<(), String> {
+    println!("{line}");
+    match env::var_os("COMPARED") {
+        None => Ok(()),
+        Some(file) => {
+            fs::write(&file, format!("{line}\n")).map_err(|error| format!("{file:?}: {error}"))
+        }
+    }
 }

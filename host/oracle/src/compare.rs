@@ -25,11 +25,11 @@ pub fn report_ordered(file: &File, root: &[u8]) -> Result<Run, String> {
     report(file, root, rust_ordered::run)
 }
 
-type Runner = fn(&File, &[u8], &Request) -> Outcome;
+type Runner = fn(&File, &[u8], &Request) -> Result<Outcome, String>;
 
 fn report(file: &File, root: &[u8], run: Runner) -> Result<Run, String> {
     let plan = match prospect(file, root)? {
-        Prospect::NoRoot => return Ok(Run::Ended(run(file, root, &Request::PLAIN))),
+        Prospect::NoRoot => return Ok(Run::Ended(run(file, root, &Request::PLAIN)?)),
         Prospect::Cyclic => return Ok(Run::Endless),
         Prospect::Plan(plan) => plan,
     };
@@ -39,7 +39,7 @@ fn report(file: &File, root: &[u8], run: Runner) -> Result<Run, String> {
     if !plan.decided().is_empty() {
         return Ok(Run::Endless);
     }
-    let outcome = run(file, root, &Request::PLAIN);
+    let outcome = run(file, root, &Request::PLAIN)?;
     check_outcome(&plan, &outcome)?;
     Ok(Run::Ended(outcome))
 }

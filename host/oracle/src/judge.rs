@@ -70,7 +70,7 @@ pub fn judge(bytes: &[u8], root: &[u8], room: usize) -> Result<Judged, String> {
 
 fn judge_opened(file: &File, root: &[u8], room: usize) -> Result<Judged, String> {
     match prospect(file, root)? {
-        Prospect::NoRoot => match rust_ordered::run(file, root, &Request::PLAIN) {
+        Prospect::NoRoot => match rust_ordered::run(file, root, &Request::PLAIN)? {
             Outcome::NotFound => Ok(Judged::refused(5, Some(Outcome::NotFound))),
             _ => Err("the original finds a root".to_string()),
         },
@@ -92,7 +92,7 @@ fn judge_plan(file: &File, root: &[u8], room: usize, plan: &Plan) -> Result<Judg
         decided: plan.decided(),
         walks: &plan.walks(),
     };
-    let outcome = rust_ordered::run(file, root, &request);
+    let outcome = rust_ordered::run(file, root, &request)?;
     check_outcome(plan, &outcome)?;
     let endless = !plan.decided().is_empty();
     let report = match (&outcome, refusal) {
@@ -126,7 +126,7 @@ fn area(file: &File, root: &[u8], plan: &Plan, report: &Report) -> Result<Area, 
         decided: plan.decided(),
         walks: &[],
     };
-    let Outcome::Built(marked) = rust_ordered::run(file, root, &request) else {
+    let Outcome::Built(marked) = rust_ordered::run(file, root, &request)? else {
         return Err("the original ends otherwise with other spans".to_string());
     };
     let errors = origins::errors(file, plan.model, &report.built.errors, &marked.built.errors)?;

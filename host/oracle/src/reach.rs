@@ -71,7 +71,8 @@ pub fn self_listed(file: &File, models: &[usize]) -> bool {
     })
 }
 
-/// Refusal 8: a submodel statement of these models has a positional argument beyond its model's unknowns.
+/// Refusal 8: a submodel statement of these models has a positional argument whose number, keywords counted, is not below
+/// its model's count of unknowns.
 pub fn overfull(file: &File, models: &[usize]) -> bool {
     models.iter().any(|&m| {
         found(file, m).iter().any(|(stmt, below)| {

@@ -12,6 +12,9 @@ use treefile::File;
 /// More than any answer needs.
 const ROOM: usize = 60_000;
 
+/// The calls of `ModelInfo::build` that gave what its steps give, with either map.
+const CALLED: [&str; 2] = ["ModelInfo::build, ordered", "ModelInfo::build, unmodified"];
+
 /// Counts by subject and value.
 #[derive(Clone, Debug, Default)]
 pub struct Tally {
@@ -36,6 +39,12 @@ impl Tally {
         let labels = self.counts.iter();
         let labels = labels.filter(|((subject, _), _)| *subject == "label");
         labels.map(|(_, count)| count).sum()
+    }
+
+    /// How many cases `ModelInfo::build` itself was called on, in both variants, and gave what its steps give.
+    pub fn called(&self) -> u64 {
+        let counts = CALLED.map(|variant| self.count("called", variant));
+        counts[0].min(counts[1])
     }
 
     /// How often a value came up.
@@ -75,6 +84,8 @@ impl Tally {
         }
         if judged.endless {
             self.add("build", "endless in the original");
+        } else if judged.outcome.is_some() {
+            self.add("called", CALLED[0]);
         }
         let Some(area) = &judged.area else {
             return;
@@ -101,6 +112,7 @@ impl Tally {
         match (report_unmodified(file, root)?, &judged.outcome) {
             (Run::Ended(unmodified), Some(ordered)) => {
                 self.add("variants", "compared");
+                self.add("called", CALLED[1]);
                 same_up_to_order(ordered, &unmodified)
             }
             (Run::Ended(_), None) => Err("only the unmodified variant was run".to_string()),

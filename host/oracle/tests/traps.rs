@@ -98,6 +98,16 @@ fn submodels() {
     ]);
 }
 
+/// The number of a positional argument counts the keywords before it.
+#[test]
+#[cfg_attr(no_source, ignore = "SKIPPED: the original source is not there")]
+fn keywords_count_in_the_number_of_an_argument() {
+    let call = |call| format!("model M(s) {{ s = 1 }} model root(x(t)) {{ M({call}) }}");
+    assert_eq!(refusal(&call("s = 1, 0")), 8);
+    assert_eq!(errors(&area(&call("0, s = x(0)"))), [14]);
+    assert_eq!(errors(&area(&call("s = 1, q = 2"))), [0u32; 0]);
+}
+
 #[test]
 #[cfg_attr(no_source, ignore = "SKIPPED: the original source is not there")]
 fn substitution_is_simultaneous_and_leaves_names_of_calls_alone() {

@@ -1,17 +1,12 @@
 //! Stands in where the original source files are not there: nothing can be run.
 
-use report::{Built, Outcome, Request, Step};
+use report::{Outcome, Request, Step};
 use treefile::File;
 
 const ABSENT: &str = "the original source is not available; ask available() first";
 
 /// Cannot be called: see [`crate::available`].
-pub fn run(_: &File, _: &[u8], _: &Request) -> Outcome {
-    panic!("{ABSENT}")
-}
-
-/// Cannot be called: see [`crate::available`].
-pub fn plain(_: &File, _: &[u8]) -> Option<Built> {
+pub fn run(_: &File, _: &[u8], _: &Request) -> Result<Outcome, String> {
     panic!("{ABSENT}")
 }
 

@@ -2,12 +2,19 @@
 
 use super::{Ast, Model, ModelInfo, Rc, RefCell, Variable};
 
-/// The root's model as `build` has it before `allocate_stmts`, and the tree node that `build` hands to that.
-pub fn flattened<'s>(name: &'s str, ast: &'s [Ast<'s>]) -> Option<(ModelInfo<'s>, &'s Ast<'s>)> {
+/// The root's model as `build` has it before `allocate_stmts`, and the tree node that `build` hands to that; or the text
+/// that `build` returns where there is no such model.
+pub fn flattened<'s>(
+    name: &'s str,
+    ast: &'s [Ast<'s>],
+) -> Result<(ModelInfo<'s>, &'s Ast<'s>), String> {
     let models: Vec<&Model> = ast.iter().filter_map(|n| n.kind.as_model()).collect();
-    let i = models.iter().position(|v| v.name == name)?;
+    let i = models
+        .iter()
+        .position(|v| v.name == name)
+        .ok_or_else(|| format!("Model name {name} not found"))?;
     let other_models = [&models[..i], &models[i..]].concat();
-    Some((ModelInfo::builder(models[i], &other_models), &ast[i]))
+    Ok((ModelInfo::builder(models[i], &other_models), &ast[i]))
 }
 
 /// `allocate_stmts`, the second step of `build`.
@@ -23,4 +30,9 @@ pub fn allocate_stmt<'s>(info: &mut ModelInfo<'s>, stmt: Ast<'s>) -> Option<Ast<
 /// The variables in the map's order.
 pub fn variables<'s>(info: &ModelInfo<'s>) -> Vec<Rc<RefCell<Variable<'s>>>> {
     info.variables.values().cloned().collect()
+}
+
+/// The keys in the map's order.
+pub fn keys<'s>(info: &ModelInfo<'s>) -> Vec<&'s str> {
+    info.variables.iter().map(|(key, _)| *key).collect()
 }

@@ -2,7 +2,7 @@
 
 use crate::continuous::builder::ModelInfo;
 use crate::convert::Converter;
-use crate::run::release;
+use crate::steps::release;
 use crate::texts::Texts;
 use report::{Request, Step};
 use std::hint::black_box;

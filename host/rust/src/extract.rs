@@ -48,11 +48,13 @@ fn conditions(variable: &builder::Variable, texts: &Texts) -> Vec<Condition> {
     variable.init_conditions.iter().map(condition).collect()
 }
 
-fn bits(bounds: (f64, f64)) -> [u64; 2] {
+/// The bits of a pair of bounds.
+pub fn bits(bounds: (f64, f64)) -> [u64; 2] {
     [bounds.0.to_bits(), bounds.1.to_bits()]
 }
 
-fn error(output: &Output, texts: &Texts) -> Error {
+/// An error, taken apart.
+pub fn error(output: &Output, texts: &Texts) -> Error {
     let (kind, text) = messages::parse(&output.text);
     let name = text.and_then(|text| texts.number(text));
     let known = text.is_some() == name.is_some();
@@ -64,7 +66,8 @@ fn error(output: &Output, texts: &Texts) -> Error {
     }
 }
 
-fn span(span: Option<StringSpan>) -> Span {
+/// A span, which may be missing.
+pub fn span(span: Option<StringSpan>) -> Span {
     span.map_or(Span::MISSING, |s| Span {
         start: s.pos_start as u32,
         end: s.pos_end as u32,

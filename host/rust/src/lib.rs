@@ -9,15 +9,27 @@ mod convert;
 #[cfg(not(no_source))]
 mod extract;
 #[cfg(not(no_source))]
+mod info;
+#[cfg(not(no_source))]
 mod messages;
 #[cfg(not(no_source))]
 pub mod ordered;
 #[cfg(not(no_source))]
 mod panics;
+#[cfg(test)]
+mod pins;
 #[cfg(not(no_source))]
 mod run;
 #[cfg(not(no_source))]
 pub mod shims;
+#[cfg(test)]
+#[allow(dead_code)]
+#[path = "../source.rs"]
+mod source;
+#[cfg(not(no_source))]
+mod steps;
+#[cfg(all(test, not(no_source)))]
+mod tests;
 #[cfg(not(no_source))]
 mod texts;
 
@@ -33,15 +45,12 @@ extern crate self as pest;
 pub use shims::{dlsym, Span, RTLD_DEFAULT};
 
 #[cfg(not(no_source))]
-pub use {
-    bare::bare,
-    run::{plain, run},
-};
+pub use {bare::bare, run::run};
 
 #[cfg(no_source)]
 mod absent;
 #[cfg(no_source)]
-pub use absent::{bare, plain, run};
+pub use absent::{bare, run};
 
 /// Whether the original source files were there when this was compiled.
 pub fn available() -> bool {

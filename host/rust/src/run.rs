@@ -1,20 +1,26 @@
-//! Runs the original on a tree file and watches its steps.
+//! Runs the original on a tree file: `ModelInfo::build` itself, and its steps beside it.
 
-use crate::ast::Ast;
-use crate::continuous::builder::{access, ModelInfo, Variable};
+use crate::continuous::builder::ModelInfo;
 use crate::convert::Converter;
+use crate::steps::{release, Watch};
 use crate::texts::Texts;
-use crate::{extract, ordered, panics};
-use report::{Built, Outcome, Report, Request, Taken};
-use std::cell::RefCell;
-use std::rc::Rc;
+use crate::{info, panics};
+use report::{agree, Ending, Maps, Outcome, Request};
 use treefile::File;
 
-type Cell<'s> = Rc<RefCell<Variable<'s>>>;
+/// Calls `ModelInfo::build`, runs its steps, and holds all that the call gives to what the steps give: an error says
+/// where they differ. Where states are decided the call would not end, and the steps are run alone.
+pub fn run(file: &File, root: &[u8], request: &Request) -> Result<Outcome, String> {
+    run_beside(file, root, request, call)
+}
 
-/// `ModelInfo::build` in its own steps. The decided states get stand-ins for their dependents while statements are
-/// handed out, so that their time-dependence is as given and the walk ends.
-pub fn run(file: &File, root: &[u8], request: &Request) -> Outcome {
+/// The same with a given way to make the call.
+pub fn run_beside(
+    file: &File,
+    root: &[u8],
+    request: &Request,
+    call: fn(&Watch) -> Ending,
+) -> Result<Outcome, String> {
     let texts = Texts::of(file);
     let root = texts.root(file, root);
     let models = Converter {
@@ -29,158 +35,40 @@ pub fn run(file: &File, root: &[u8], request: &Request) -> Outcome {
         texts: &texts,
         request,
     };
-    match panics::caught(|| watch.report()) {
-        Ok(Some(report)) => Outcome::Built(report),
-        Ok(None) => Outcome::NotFound,
-        Err(panic) => Outcome::Panicked(panic),
-    }
-}
-
-/// A single call of `ModelInfo::build`; `None` where it panics or finds no root.
-pub fn plain(file: &File, root: &[u8]) -> Option<Built> {
-    let texts = Texts::of(file);
-    let root = texts.root(file, root);
-    let models = Converter {
-        file,
-        texts: &texts,
-        spans: Request::PLAIN.spans,
-    }
-    .models();
-    let build = || {
-        let info = ModelInfo::build(&root, &models).ok()?;
-        let built = extract::built(&info, &texts, &[]);
-        release(&info);
-        Some(built)
+    let (outcome, steps, paired) = match panics::caught(|| watch.steps()) {
+        Ok(Ok(w)) => (Outcome::Built(w.report), Ending::Built(w.info), w.paired),
+        Ok(Err(text)) => (Outcome::NotFound, Ending::NotFound(text), Vec::new()),
+        Err(panic) => (
+            Outcome::Panicked(panic.clone()),
+            Ending::Panicked(panic),
+            Vec::new(),
+        ),
     };
-    panics::caught(build).ok().flatten()
+    if request.decided.is_empty() {
+        agree(&call(&watch), &steps, maps(&paired))?;
+    }
+    Ok(outcome)
 }
 
-struct Watch<'s> {
-    root: &'s str,
-    models: &'s [Ast<'s>],
-    texts: &'s Texts<'s>,
-    request: &'s Request<'s>,
-}
-
-impl<'s> Watch<'s> {
-    fn report(&self) -> Option<Report> {
-        ordered::take_made();
-        let (mut info, model) = access::flattened(self.root, self.models)?;
-        let made = ordered::take_made();
-        let statements = info
-            .stmts
-            .iter()
-            .map(|stmt| extract::flat(stmt, self.texts))
-            .collect();
-        let addresses: Vec<_> = info.stmts.iter().map(extract::address).collect();
-        let kept = self.stand_in(&info);
-        access::allocate_stmts(&mut info, model);
-        put_back(kept);
-        let cells = access::variables(&info);
-        let held = cells.iter().map(|cell| {
-            let held = cell.borrow().equation.as_ref().map(extract::address);
-            held.map(|held| {
-                addresses
-                    .iter()
-                    .position(|a| *a == held)
-                    .expect("a flattened statement")
-            })
-        });
-        let names: Vec<_> = cells.iter().map(|cell| cell.borrow().name).collect();
-        let report = Report {
-            built: extract::built(&info, self.texts, self.request.walks),
-            statements,
-            taken: self.taken(&names)?,
-            held: held.collect(),
-            instances: (made > 0).then_some(made),
-        };
-        release(&info);
-        Some(report)
-    }
-
-    /// What becomes of each statement, in a second run that calls `allocate_stmt` on one after the other.
-    fn taken(&self, names: &[&str]) -> Option<Vec<Taken>> {
-        let (mut info, _) = access::flattened(self.root, self.models)?;
-        let kept = self.stand_in(&info);
-        let cells = access::variables(&info);
-        let number = |cell: &Cell| names.iter().position(|name| *name == cell.borrow().name);
-        let mut conditions = vec![0; cells.len()];
-        let mut taken = Vec::new();
-        for stmt in std::mem::take(&mut info.stmts) {
-            let address = extract::address(&stmt);
-            let left = access::allocate_stmt(&mut info, stmt).is_some();
-            let now: Vec<_> = cells
-                .iter()
-                .map(|c| c.borrow().init_conditions.len())
-                .collect();
-            let grown = (0..cells.len()).find(|&c| now[c] > conditions[c]);
-            let holds = |cell: &&Cell| {
-                cell.borrow().equation.as_ref().map(extract::address) == Some(address)
-            };
-            taken.push(match (grown, left) {
-                (Some(c), _) => Taken::Condition(number(&cells[c])?),
-                (None, true) => Taken::Left,
-                (None, false) => Taken::Rate(number(cells.iter().find(holds)?)?),
-            });
-            conditions = now;
-        }
-        put_back(kept);
-        release(&info);
-        Some(taken)
-    }
-
-    /// Exchanges the dependents of the decided states for stand-ins of the same names; gives what was there.
-    fn stand_in(&self, info: &ModelInfo<'s>) -> Vec<(Cell<'s>, Vec<Cell<'s>>)> {
-        let cells = access::variables(info);
-        let kept = self.request.decided.iter().map(|decided| {
-            let name = self.texts.text(decided.name);
-            let cell = cells
-                .iter()
-                .find(|cell| cell.borrow().name == name)
-                .expect("a variable")
-                .clone();
-            let names: Vec<_> = cell
-                .borrow()
-                .dependents
-                .iter()
-                .map(|d| d.borrow().name)
-                .collect();
-            let stand_ins = names
-                .into_iter()
-                .map(|name| stand_in(name, decided.time_dependent))
-                .collect();
-            let own = std::mem::replace(&mut cell.borrow_mut().dependents, stand_ins);
-            (cell, own)
-        });
-        kept.collect()
+/// What this package's maps leave open, where the steps paired these cells.
+pub fn maps(paired: &[usize]) -> Maps<'_> {
+    match env!("CARGO_PKG_NAME") {
+        "rust_ordered" => Maps::Ordered,
+        _ => Maps::Hashed { paired },
     }
 }
 
-/// A variable whose time-dependence is seen at once.
-fn stand_in(name: &str, time_dependent: bool) -> Cell<'_> {
-    let whole = (f64::NEG_INFINITY, f64::INFINITY);
-    Rc::new(RefCell::new(Variable {
-        name,
-        time_gradient_name: String::new(),
-        dim: 1,
-        bounds: whole,
-        equation: None,
-        expression: None,
-        dependents: Vec::new(),
-        time_index: time_dependent.then_some(0),
-        init_conditions: Vec::new(),
-    }))
-}
-
-fn put_back<'s>(kept: Vec<(Cell<'s>, Vec<Cell<'s>>)>) {
-    for (cell, dependents) in kept {
-        cell.borrow_mut().dependents = dependents;
-    }
-}
-
-/// Cuts cycles of dependents, which would never be freed.
-pub fn release(info: &ModelInfo) {
-    for cell in access::variables(info) {
-        cell.borrow_mut().dependents.clear();
+/// What `ModelInfo::build` gives.
+pub fn call(watch: &Watch) -> Ending {
+    let called = panics::caught(|| {
+        let built = ModelInfo::build(watch.root, watch.models)?;
+        let info = info::info(&built, watch.texts);
+        release(&built);
+        Ok(info)
+    });
+    match called {
+        Ok(Ok(info)) => Ending::Built(info),
+        Ok(Err(text)) => Ending::NotFound(text),
+        Err(panic) => Ending::Panicked(panic),
     }
 }

@@ -33,11 +33,11 @@ pub const P7: &str = "model root(x(t)) { dot(x) = log10(x, x); x(0) = 1 }";
 pub const P8: &str = "model M(s, x(t)) { x(s) = 1 }\nmodel root(x(t)) { M(0); dot(x) = -x }";
 /// A model that is reached from itself.
 pub const P9: &str = "model M() { M() }";
-/// An unknown that lists itself.
+/// An unreserved unknown that lists itself.
 pub const P10_UNRESERVED: &str = "model root(x(x)) { }";
 /// A reserved unknown that lists itself.
 pub const P10_RESERVED: &str = "model root(u(u)) { }";
-/// More positional arguments than the submodel has unknowns.
+/// A positional argument numbered 2, from 0, where the submodel has two unknowns.
 pub const P11: &str = "model M(s, x(t)) { x(s) = 1 }\nmodel root(x(t)) { M(0, 0, 0); dot(x) = -x }";
 /// A left side too short to reach its time index.
 pub const P12: &str = "model root(x(t)) { x() = 1 }";

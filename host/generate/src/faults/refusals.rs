@@ -7,7 +7,7 @@ use crate::vocabulary::RESERVED;
 use crate::walk::{has_call_left, is_submodel, stmts_where};
 use treefile::source::{Domain, ExprKind, Model, StmtKind};
 
-/// Refusal 7: an unknown lists itself.
+/// Refusal 7: an unknown that is t or unreserved lists itself.
 pub fn lists_itself(random: &mut Random, models: &mut Vec<Model>, at: usize) {
     let unknowns = &mut models[at].unknowns;
     if unknowns.is_empty() {
@@ -42,7 +42,7 @@ pub fn model_cycle(random: &mut Random, models: &mut Vec<Model>, at: usize) {
         .insert(place, make::submodel(&name, Vec::new()));
 }
 
-/// Refusal 8: more positional arguments than the submodel has unknowns.
+/// Refusal 8: a positional argument whose number is not below any model's count of unknowns.
 pub fn too_many_positional(random: &mut Random, models: &mut Vec<Model>, at: usize) {
     let found = stmts_where(&models[at], is_submodel);
     if found.is_empty() {

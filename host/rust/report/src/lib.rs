@@ -1,5 +1,11 @@
 //! What a run of the original builder is reported as: plain data that both of its variants share.
 
+mod agree;
+mod info;
+
+pub use agree::{agree, Maps};
+pub use info::{Boundary, Cell, Ending, Info, Message};
+
 use treefile::{Node, Span};
 
 /// A record of the file, marked in place of a span to learn where an error comes from.
@@ -133,7 +139,7 @@ pub struct Report {
 pub enum Panic {
     /// In `set_dependents`: an unknown lists itself.
     SelfListed,
-    /// In `find_replacements`: a positional argument beyond the submodel's unknowns.
+    /// In `find_replacements`: a positional argument whose number is not below the submodel's count of unknowns.
     BeyondUnknowns,
     /// In `allocate_stmt`: a left side too short for the time index.
     BeyondArguments,
