@@ -7,6 +7,12 @@ ghost use Rattle.ast.specs.Words.{floatFrom};
 ghost use Rattle.ast.specs.Records.{domainOf};
 ghost use Rattle.ast.specs.Numbers.{DomainRead};
 ghost use Rattle.ast.specs.Opens.{Open, contentsIn};
+use super::layout::NO_DOMAIN;
+use super::layout::RANGE_DOMAIN;
+use super::layout::UNKNOWN_DOMAIN;
+use super::layout::UNKNOWN_DOMAIN_NAME;
+use super::layout::UNKNOWN_LOWER;
+use super::layout::UNKNOWN_UPPER;
 use super::numbers::Domain;
 use super::numbers::join_words;
 use super::numbers::number_of;
@@ -28,14 +34,14 @@ pub fn read_domain(f: &[u8], s: Sections, i: usize) -> Domain
     requires { ⌜ Open (now f) s × (i < s .counts .unknowns) ⌝ }
     ensures { λ r. ⌜ DomainRead (domainOf (getD (contentsIn (now (f .entry)) s .unknowns) i [])) r ⌝ }
 {
-    let kind = unknown(f, s, i, 3);
-    if kind == 0 {
+    let kind = unknown(f, s, i, UNKNOWN_DOMAIN);
+    if kind == NO_DOMAIN {
         return Domain::None;
     }
-    if kind == 1 {
-        let lower = number_of(unknown_bits(f, s, i, 4));
-        return Domain::Span(lower, number_of(unknown_bits(f, s, i, 6)));
+    if kind == RANGE_DOMAIN {
+        let lower = number_of(unknown_bits(f, s, i, UNKNOWN_LOWER));
+        return Domain::Span(lower, number_of(unknown_bits(f, s, i, UNKNOWN_UPPER)));
     }
-    let name = unknown(f, s, i, 4);
+    let name = unknown(f, s, i, UNKNOWN_DOMAIN_NAME);
     Domain::Named(name as u32)
 }
