@@ -19,8 +19,9 @@ use Rattle.definitions.specs.Variables.{Error, Bounds, at, timeIndex}
 use Rattle.definitions.specs.Check.{Scope, lookup}
 use Rattle.definitions.specs.Roles.{Start, starts, rates, free, startOf, takesRate, rateRole, rateErrors, atLower, startRole, startErrors, roleOf, roleErrors, shortFor, shortCall, shortLeft, tooShort}
 use Rattle.builder.specs.Tables.{roleNumber}
-use Rattle.builder.specs.declared.places.Sizes.{Sizes}
-use Rattle.builder.specs.Allocating.{flatAt, areaNodes, areaStmt, flatIn, flatsIn, Flattened, lessOne, entryBy, startBy, fewFor, shortCallBy, shortLeftBy, shortBy, startNumber, startErrorsBy, rateNumber, rateErrorsBy, roleBy, roleErrorsBy, Agree}
+use Rattle.area.specs.declared.sections.Sizes.{Sizes}
+use Rattle.builder.specs.Allocating.{flatAt, flatIn, flatsIn, Flattened, lessOne, entryBy, startBy, fewFor, shortCallBy, shortLeftBy, shortBy, startNumber, startErrorsBy, rateNumber, rateErrorsBy, roleBy, roleErrorsBy, Agree}
+use Rattle.area.specs.Sections.{areaNodes, areaStmt}
 use Rattle.builder.proofs.Flats.{same-float, flats-count, flat-at, flat-equation, flat-rate}
 use Rattle.definitions.proofs.ListLaws.{flag-one, place-below}
 

@@ -35,7 +35,7 @@ use Rattle.builder.proofs.Domains.{domain-formed, coded, says-coded}
 use Rattle.builder.proofs.Classes.{class-non-negative}
 use Rattle.builder.proofs.Open.{modelRecord, unknownRecord, names-long}
 use Rattle.builder.proofs.OpenRecords.{unknown-is, model-is}
-use Rattle.builder.proofs.Puts.{put-more}
+use Rattle.area.proofs.Puts.{put-more}
 
 -- ---- a NaN is what differs from itself
 

@@ -28,7 +28,7 @@ use Rattle.definitions.specs.Check.{Scope, lookup, countFits, keywordErrors, de
 use Rattle.definitions.specs.Flatten.{scopeOf}
 use Rattle.builder.specs.Tables.{classOf, ruleNumber, numbered, entryOf}
 use Rattle.builder.specs.Checking.{nodesOf, scopeIn, treeIn, argsIn, argsOf, keptNames, NodeIn, ExprIn, CallIn, ArgsIn, Scoped, Against}
-use Rattle.builder.proofs.Listings.{Joins}
+use Rattle.area.proofs.Listings.{Joins}
 use Rattle.builder.proofs.Classes.{class-built-in}
 use Rattle.builder.proofs.Checks.{nodes-fit, node-here}
 

@@ -17,7 +17,7 @@ use Rattle.ast.proofs.Fitting.{NodeOk, LastArg, node-ok, last-arg}
 use Rattle.ast.proofs.Trees.{args-more, args-none}
 use Rattle.definitions.specs.Variables.{Error, error}
 use Rattle.definitions.specs.Check.{Scope, hasKeyword, keywordErrors, dependentErrors, exprErrors, argsErrors}
-use Rattle.builder.proofs.Listings.{Joins}
+use Rattle.area.proofs.Listings.{Joins}
 use Rattle.builder.specs.Checking.{nodesOf, treeIn, argsIn, NodeIn, ExprIn, ArgsIn}
 
 -- ---- one argument more, by its keyword

@@ -13,12 +13,12 @@ use Rattle.ast.specs.declared.sections.Sections.{Sections}
 use Rattle.definitions.specs.Variables.{Error}
 use Rattle.definitions.specs.Flatten.{modelAt, errorsOf}
 use Rattle.definitions.specs.Allocate.{countErrors}
-use Rattle.builder.specs.Places.{errorsAt}
-use Rattle.builder.specs.Listing.{Lists, Room}
-use Rattle.builder.specs.Allocating.{areaNodes, areaStmts, flatsIn, Flattened, ListsAt, roleErrorsBy}
+use Rattle.area.specs.Sections.{errorsAt, areaNodes, areaStmts}
+use Rattle.area.specs.Listing.{Lists, Room}
+use Rattle.builder.specs.Allocating.{flatsIn, Flattened, ListsAt, roleErrorsBy}
 use Rattle.builder.specs.Starting.{Righted, startingIn}
 use Rattle.builder.specs.Root.{errorsBy}
-use Rattle.builder.specs.declared.places.Sizes.{Sizes}
+use Rattle.area.specs.declared.sections.Sizes.{Sizes}
 use Rattle.definitions.proofs.ErrorCount.{length-counts}
 use Rattle.builder.proofs.Flats.{flats-count}
 use Rattle.builder.proofs.ListedAt.{Kept, kept-listed, kept-flats, kept-flattened, lists-length, then-at, lent-listed}

@@ -9,7 +9,7 @@ use Rattle.ast.proofs.Fitting.{expr-kind, two-below}
 use Rattle.ast.proofs.Trees.{tree-number, tree-binary, tree-unary, tree-call}
 use Rattle.definitions.specs.Check.{Scope, callErrors, exprErrors, argsErrors}
 use Rattle.builder.specs.Checking.{nodesOf, treeIn, argsIn, argsOf, ExprIn, CallIn}
-use Rattle.builder.proofs.Listings.{Joins}
+use Rattle.area.proofs.Listings.{Joins}
 use Rattle.builder.proofs.Checks.{nodes-fit, node-here}
 
 -- the children of a binary node, the right one of z nodes

@@ -13,7 +13,7 @@ use Rattle.ast.proofs.Fronts.{drop-front, word-behind, put-behind}
 use Rattle.ast.proofs.Encodes.{length-bytes, each-append}
 use Rattle.functions.specs.Lists.{each}
 use Rattle.builder.specs.Fating.{fateIn, queueIn, fatesIn, withFate, fated}
-use Rattle.builder.proofs.Puts.{itself}
+use Rattle.area.proofs.Puts.{itself}
 
 -- ---- words of bytes
 

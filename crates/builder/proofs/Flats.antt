@@ -17,11 +17,11 @@ use Rattle.ast.specs.Nodes.{nameAt, bitsAt, treeAt}
 use Rattle.ast.specs.Numbers.{numberOf}
 use Rattle.ast.proofs.Fields.{length-section}
 use Rattle.definitions.specs.Roles.{sameFloat}
-use Rattle.builder.specs.Places.{stmtsAt}
-use Rattle.builder.specs.declared.places.Sizes.{Sizes}
+use Rattle.area.specs.Sections.{stmtsAt, areaNodes, areaStmts, areaStmt}
+use Rattle.area.specs.declared.sections.Sizes.{Sizes}
 use Rattle.builder.specs.declared.allocate.Start.{Start}
 use Rattle.builder.specs.declared.allocate.Start.the-variants.{Nothing, Short, Number}
-use Rattle.builder.specs.Allocating.{flatAt, areaNodes, areaStmts, areaStmt, flatIn, flatsIn, Flattened, entryBy, shortBy, startNumber, rateNumber, roleBy, foundStart, startAt, isShort, StartFits}
+use Rattle.builder.specs.Allocating.{flatAt, flatIn, flatsIn, Flattened, entryBy, shortBy, startNumber, rateNumber, roleBy, foundStart, startAt, isShort, StartFits}
 use Rattle.builder.proofs.Filled.{Filled}
 use Rattle.builder.proofs.LeftSides.{entry-none, entry-some, found-start, short-start}
 

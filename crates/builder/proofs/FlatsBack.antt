@@ -23,11 +23,11 @@ use Rattle.definitions.specs.Roles.{roleOf}
 use Rattle.definitions.specs.Allocate.{Fate}
 use Rattle.definitions.specs.Answer.{fateNumber, fateVariable, flatWords, flatRecords}
 use Rattle.builder.specs.Unfated.{unfatedWords, unfated}
-use Rattle.builder.specs.Places.{Small, stmtsAt, varsAt, depsAt, errorsAt}
-use Rattle.builder.specs.Allocating.{flatAt, areaNodes, areaStmts, flatsIn, Flattened}
+use Rattle.area.specs.Sections.{Small, stmtsAt, varsAt, depsAt, errorsAt, areaNodes, areaStmts, part}
+use Rattle.builder.specs.Allocating.{flatAt, flatsIn, Flattened}
 use Rattle.builder.specs.Starting.{Righted}
-use Rattle.builder.specs.Root.{flatsOf, scopeAt, timeAt, rolesAt, fatesAt, SizesOf, part, PartsLaid, Unfated, Fated}
-use Rattle.builder.specs.declared.places.Sizes.{Sizes}
+use Rattle.builder.specs.Root.{flatsOf, scopeAt, timeAt, rolesAt, fatesAt, SizesOf, PartsLaid, Unfated, Fated}
+use Rattle.area.specs.declared.sections.Sizes.{Sizes}
 use Rattle.definitions.proofs.Lengths.{length-flat-nodes, nodes-wide, count-nodes, length-fates}
 use Rattle.builder.proofs.Allocations.{FlatFormed}
 use Rattle.builder.proofs.FlatsFormed.{formed}

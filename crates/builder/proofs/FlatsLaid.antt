@@ -21,7 +21,7 @@ use Rattle.builder.proofs.Flattening.{map-none}
 use Rattle.builder.proofs.Open.{models-long}
 use Rattle.builder.proofs.Putting.{length-flats}
 use Rattle.builder.proofs.Recording.{fits-same}
-use Rattle.builder.proofs.Puts.{length-put}
+use Rattle.area.proofs.Puts.{length-put}
 
 -- ---- a lent rest
 

@@ -18,7 +18,7 @@ use Rattle.ast.proofs.Fitting.{expr-kind, node-ok, last-arg}
 use Rattle.ast.proofs.Trees.{by-kind, tree-name, tree-number, tree-binary, tree-unary, tree-call, args-more}
 use Rattle.ast.proofs.Sizes.{count-before}
 use Rattle.definitions.specs.Roles.{argAt, numberIn}
-use Rattle.builder.specs.declared.places.Sizes.{Sizes}
+use Rattle.area.specs.declared.sections.Sizes.{Sizes}
 use Rattle.builder.specs.declared.allocate.Start.{Start}
 use Rattle.builder.specs.declared.allocate.Start.the-variants.{Nothing, Short, Number}
 use Rattle.builder.specs.Allocating.{lessOne, entryBy, TablesLong, startBy, fewFor, shortCallBy, shortLeftBy, argNode, foundStart, atArg, atIndex, atVariable, startAt, isShort, StartFits, CallFits}

@@ -1,5 +1,4 @@
 pub mod Flattening
-pub mod Outputs
 pub mod Classes
 pub mod Open
 pub mod Filled
@@ -11,7 +10,6 @@ pub mod Runs
 pub mod Calling
 pub mod Rounds
 pub mod Refusals
-pub mod Listings
 pub mod Checks
 pub mod Calls
 pub mod Exprs
@@ -40,12 +38,10 @@ pub mod FateCases
 pub mod FateLaws
 pub mod FateTables
 pub mod FateRecords
-pub mod Puts
 pub mod VarAnswers
 pub mod VarLaws
 pub mod StartingLaws
 pub mod StartingTies
-pub mod AreaParts
 pub mod Measures
 pub mod RootTables
 pub mod FlatsLaid

@@ -1,7 +1,7 @@
 -- Errors listed behind an area's other sections: the sections stay as they are, and errors listed one after the other join.
 use mathlib.Core.Path.{_≡_, refl, sym, ap, _∙_}
 use mathlib.Core.Bool.{Bool, true, false}
-use mathlib.Core.List.{List, [], _∷_, _++_, append-nil}
+use mathlib.Core.List.{List, [], _∷_, _++_, append-nil, map}
 use Prim.Native.Nat.{ℕ, zero, suc, _+_, _-_, _*_, _≤_}
 use native.Mathlib.Omega.{arith}
 use native.Mathlib.Nat.{add-zero, suc-mul}
@@ -10,55 +10,15 @@ use lib.Seq.{length-take-le, take-take, take-at, drop-at, take-all, take-nil}
 use Rattle.functions.specs.Lists.{unless}
 use Rattle.ast.specs.Words.{words, records, section}
 use Rattle.definitions.specs.Variables.{Error}
-use Rattle.builder.specs.Listing.{listed}
-use Rattle.builder.specs.Places.{stmtsAt, varsAt, depsAt, errorsAt}
-use Rattle.builder.specs.declared.places.Sizes.{Sizes}
-use Rattle.builder.specs.Allocating.{areaNodes, areaStmts, flatsIn, flatIn, Flattened, listedAt, ListsAt}
-use Rattle.builder.proofs.Listings.{listed-append, length-listed}
-
--- ---- a section is read from its own bytes
-
-drop-take : {A : Type 0} (a k : ℕ) (l : List A) → a ≤ k → drop a (take k l) ≡ take (k - a) (drop a l)
-drop-take zero k l h = let e : k - 0 ≡ k = omega arith in rw e refl
-drop-take (suc a) zero l h = absurd (omega arith)
-drop-take (suc a) (suc k) [] h = sym (take-nil (suc k - suc a))
-drop-take (suc a) (suc k) (x ∷ l) h = let e : suc k - suc a ≡ k - a = omega arith in rw e (drop-take a k l (omega arith))
-
--- m bytes from a place on, of a list cut behind them
-pub part-take : {A : Type 0} (at m k : ℕ) (d : List A) → at + m ≤ k → take m (drop at d) ≡ take m (drop at (take k d))
-part-take at m k d h = sym (ap (take m) (drop-take at k d (omega arith)) ∙ take-take m (k - at) (drop at d) (omega arith))
-
-words-front : (m : ℕ) (xs : List ℕ) → 4 * m ≤ length xs → words (take (4 * m) xs) ≡ take m (words xs)
-unfolding words
-words-front zero xs h = refl
-words-front (suc m) [] h = absurd (omega arith)
-words-front (suc m) (a ∷ []) h = absurd (omega arith)
-words-front (suc m) (a ∷ b ∷ []) h = absurd (omega arith)
-words-front (suc m) (a ∷ b ∷ c ∷ []) h = absurd (omega arith)
-words-front (suc m) (a ∷ b ∷ c ∷ d ∷ r) h =
-    let e : 4 * suc m ≡ suc (suc (suc (suc (4 * m)))) = omega arith in
-    rw e (ap (λ (l : List ℕ). (a + 256 * b + 65536 * c + 16777216 * d) ∷ l) (words-front m r (omega arith)))
-
-records-front : (w n : ℕ) (xs : List ℕ) → records w n xs ≡ records w n (take (n * w) xs)
-unfolding records
-records-front w zero xs = refl
-records-front w (suc n) xs =
-    let s = suc-mul n w in
-    let e : suc n * w - w ≡ n * w = omega arith in
-    let t : take w (take (suc n * w) xs) ≡ take w xs = take-take w (suc n * w) xs (omega arith) in
-    let u : drop w (take (suc n * w) xs) ≡ take (n * w) (drop w xs) = drop-take w (suc n * w) xs (omega arith) ∙ ap (λ (k : ℕ). take k (drop w xs)) e in
-    rw (t, u) (ap (λ (l : List (List ℕ)). take w xs ∷ l) (records-front w n (drop w xs)))
-
-section-bytes : (w n at : ℕ) (d : List ℕ) → at + 4 * (n * w) ≤ length d → section w n at d ≡ records w n (words (take (4 * (n * w)) (drop at d)))
-unfolding section
-section-bytes w n at d h = records-front w n (words (drop at d)) ∙ ap (records w n) (sym (words-front (n * w) (drop at d) (simp length-drop (omega arith))))
-
--- two lists with the same first k bytes have the same sections there
-pub section-kept : (w n at k : ℕ) (d d′ : List ℕ) → at + 4 * (n * w) ≤ k → k ≤ length d → k ≤ length d′ → take k d ≡ take k d′ → section w n at d ≡ section w n at d′
-section-kept w n at k d d′ h l l′ e =
-    let m = 4 * (n * w) in
-    let p : take m (drop at d) ≡ take m (drop at d′) = part-take at m k d h ∙ ap (λ (x : List ℕ). take m (drop at x)) e ∙ sym (part-take at m k d′ h) in
-    section-bytes w n at d (omega arith) ∙ ap (λ (x : List ℕ). records w n (words x)) p ∙ sym (section-bytes w n at d′ (omega arith))
+use Rattle.area.specs.Listing.{listed}
+use Rattle.area.specs.Sections.{stmtsAt, varsAt, depsAt, errorsAt, areaNodes, areaStmts, part}
+use Rattle.area.specs.declared.sections.Sizes.{Sizes}
+use Rattle.builder.specs.Allocating.{flatsIn, flatIn, Flattened, listedAt, ListsAt}
+use Rattle.area.proofs.Listings.{listed-append, length-listed, listed-section}
+use Rattle.area.proofs.SectionsKept.{section-kept, part-take}
+use Rattle.ast.specs.Bytes.{front}
+use Rattle.ast.specs.Encode.{encode}
+use Rattle.definitions.specs.Answer.{errorWords}
 
 -- ---- nodes and statements that stay
 
@@ -170,3 +130,26 @@ unless-at k b e d d′ n r h p = rw h p
 pub passed-at : (k : ℕ) (b : Bool) (e : Error) (d : List ℕ) (n : ℕ) → b ≡ true → ListsAt k d n (unless b e) n d
 unfolding unless
 passed-at k b e d n h = rw h (none-at k d n)
+
+-- ---- parts of an area
+
+-- in front of errors that are listed
+pub part-listed : (at n k : ℕ) (b : List ℕ) (c : ℕ) (es : List Error) → at + n ≤ k → k ≤ length b → part at n (listedAt k b c es) ≡ part at n b
+unfolding part listedAt
+part-listed at n k b c es h l =
+    part-take at n k (take k b ++ listed (drop k b) c es) h
+    ∙ ap (λ (x : List ℕ). take n (drop at x)) (take-at (take k b) (listed (drop k b) c es) k (length-take-le k b l))
+    ∙ sym (part-take at n k b h)
+
+-- the errors themselves
+
+front-part : (d e : List ℕ) (m : ℕ) → length e ≡ m → take m (front d e) ≡ e
+unfolding front
+front-part d e m l = take-at e (drop (length e) d) m l
+
+pub part-errors : (k n : ℕ) (b : List ℕ) (es : List Error) → k ≤ length b → length (encode (map errorWords (take 256 es))) ≡ n → part k n (listedAt k b 0 es) ≡ encode (map errorWords (take 256 es))
+unfolding part listedAt
+part-errors k n b es h l =
+    ap (take n) (drop-at (take k b) (listed (drop k b) 0 es) k (length-take-le k b h))
+    ∙ ap (take n) (listed-section (drop k b) es)
+    ∙ front-part (drop k b) (encode (map errorWords (take 256 es))) n l

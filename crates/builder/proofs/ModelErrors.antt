@@ -29,12 +29,12 @@ use Rattle.definitions.specs.Variables.{Error, error, domainErrors, unknownErro
 use Rattle.definitions.specs.Check.{Scope, hasKeyword, exprErrors, flatErrors}
 use Rattle.definitions.specs.Flatten.{modelNamed, modelAt, scopeOf, orderErrors, subErrors, stmtErrors, errorsOf}
 use Rattle.builder.specs.Tables.{classOf, calleeOf, VarsOf}
-use Rattle.builder.specs.Listing.{Lists, Room}
+use Rattle.area.specs.Listing.{Lists, Room}
 use Rattle.builder.specs.Checking.{nodesOf, scopeIn, treeIn, argsIn, argsOf, unknownIn, stmtIn, UnknownIn, ExprIn, CallIn, ArgsIn, Against, TablesRead}
 use Rattle.builder.proofs.Domains.{domain-formed, coded, says-coded, coded-named}
 use Rattle.builder.proofs.Classes.{class-time, class-reserved, class-non-negative, class-real}
 use Rattle.builder.proofs.OpenRecords.{long, model-is, unknown-is, stmt-is}
-use Rattle.builder.proofs.Listings.{Joins, lists-none, lists-then, room-first, room-then}
+use Rattle.area.proofs.Listings.{Joins, lists-none, lists-then, room-first, room-then}
 use Rattle.builder.proofs.Checks.{args-are}
 use Rattle.definitions.proofs.StmtKinds.{stmt-equation, stmt-rate, stmt-submodel}
 

@@ -12,12 +12,12 @@ use lib.Seq.{length-take-le}
 use Rattle.functions.specs.Lists.{times}
 use Rattle.ast.specs.Bytes.{put}
 use Rattle.ast.specs.Encode.{encode}
-use Rattle.builder.specs.Places.{stmtsAt, varsAt}
+use Rattle.area.specs.Sections.{stmtsAt, varsAt, areaStmts}
 use Rattle.builder.specs.Tables.{lackingIn}
 use Rattle.builder.specs.Fating.{fatesIn, fated}
-use Rattle.builder.specs.Allocating.{areaStmts, flatsIn, roleBy, Flattened}
+use Rattle.builder.specs.Allocating.{flatsIn, roleBy, Flattened}
 use Rattle.builder.specs.Root.{pairedCount, rolesBy, lackingBy, queueBy, fatedBy}
-use Rattle.builder.specs.declared.places.Sizes.{Sizes}
+use Rattle.area.specs.declared.sections.Sizes.{Sizes}
 use Rattle.builder.proofs.Flats.{flats-count}
 
 -- ---- how many are paired

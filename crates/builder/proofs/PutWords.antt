@@ -23,7 +23,7 @@ use Rattle.builder.specs.VariableTables.{Numbers, oneBelow, keptBy, unkn
 use Rattle.definitions.specs.Flatten.{modelAt}
 use Rattle.definitions.proofs.Counts.{length-kept}
 use Rattle.definitions.proofs.Opened.{contents-listed}
-use Rattle.builder.proofs.Puts.{words-none, length-put, put-more}
+use Rattle.area.proofs.Puts.{words-none, length-put, put-more}
 
 -- ---- one run for each element of a list
 

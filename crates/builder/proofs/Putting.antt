@@ -24,7 +24,7 @@ use Rattle.builder.specs.Descent.{flatAt, broughtAt, RowsIn, RowsKept}
 use Rattle.builder.proofs.OpenStmts.{nodes-from}
 use Rattle.builder.proofs.Descents.{levels-kept, rest, rest-step, rest-end, rest-all, own-rate, own-equation}
 use Rattle.definitions.proofs.ListLaws.{sum-append}
-use Rattle.builder.proofs.Puts.{length-put, put-none, put-again}
+use Rattle.area.proofs.Puts.{length-put, put-none, put-again}
 use Rattle.builder.proofs.OpenRecords.{passes, model-is}
 use Rattle.definitions.proofs.StmtKinds.{stmt-equation, stmt-rate}
 use Rattle.definitions.proofs.Sections.{length-wide}

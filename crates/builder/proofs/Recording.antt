@@ -22,7 +22,7 @@ use Rattle.builder.specs.Unfated.{unfatedWords, unfated, RecordsFit, Rec
 use Rattle.builder.proofs.OpenStmts.{nodes-from}
 use Rattle.builder.proofs.Descents.{levels-kept, rest, rest-step, rest-end, rest-all}
 use Rattle.definitions.proofs.ListLaws.{sum-append}
-use Rattle.builder.proofs.Puts.{length-put, put-none, put-again}
+use Rattle.area.proofs.Puts.{length-put, put-none, put-again}
 use Rattle.builder.proofs.OpenRecords.{model-is}
 use Rattle.definitions.proofs.StmtKinds.{stmt-equation, stmt-rate}
 

@@ -27,7 +27,7 @@ use Rattle.ast.proofs.Fronts.{length-front}
 use Rattle.definitions.specs.Flatten.{unknownName, replacedName, replacements, modelAt}
 use Rattle.builder.specs.Descent.{replacedBy, RowsIn, RowsKept}
 use Rattle.builder.specs.Overlay.{over, replacing}
-use Rattle.builder.proofs.Outputs.{take-step, written-whole}
+use Rattle.area.proofs.HandedOut.{take-step, written-whole}
 use Rattle.builder.proofs.OpenRecords.{passes, unknown-is, model-is}
 use Rattle.builder.proofs.OpenStmts.{names-few}
 

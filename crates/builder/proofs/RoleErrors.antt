@@ -18,10 +18,11 @@ use Rattle.definitions.specs.Numbers.{nameNotFound, wrongStart, rateInvalid}
 use Rattle.definitions.specs.Variables.{Error, error}
 use Rattle.definitions.specs.Roles as roles
 use Rattle.ast.specs.Numbers.{numberOf}
-use Rattle.builder.specs.declared.places.Sizes.{Sizes}
+use Rattle.area.specs.declared.sections.Sizes.{Sizes}
 use Rattle.builder.specs.declared.allocate.Start.{Start}
 use Rattle.builder.specs.declared.allocate.Start.the-variants.{Nothing, Short, Number}
-use Rattle.builder.specs.Allocating.{flatAt, areaNodes, areaStmt, flatIn, flatsIn, Flattened, entryBy, startBy, startErrorsBy, rateErrorsBy, roleErrorsBy, foundStart, startAt, CallFits}
+use Rattle.builder.specs.Allocating.{flatAt, flatIn, flatsIn, Flattened, entryBy, startBy, startErrorsBy, rateErrorsBy, roleErrorsBy, foundStart, startAt, CallFits}
+use Rattle.area.specs.Sections.{areaNodes, areaStmt}
 use Rattle.builder.proofs.LeftSides.{entry-none, entry-some, found-start}
 use Rattle.builder.proofs.Flats.{flats-count, flat-at, flat-equation, flat-rate}
 use Rattle.definitions.proofs.ErrorCount.{length-unless}

@@ -21,12 +21,12 @@ use Rattle.definitions.specs.Answer.{answerBytes, nodeCount, depsOf}
 use Rattle.definitions.specs.Build.{answerFrom}
 use Rattle.builder.specs.Tables.{Classes}
 use Rattle.builder.specs.Bounding.{floats, Floating}
-use Rattle.builder.specs.Places.{Small, stmtsAt, varsAt, depsAt, errorsAt}
+use Rattle.area.specs.Sections.{Small, stmtsAt, varsAt, depsAt, errorsAt}
 use Rattle.builder.specs.Checking as checking
 use Rattle.builder.specs.Allocating.{Flattened, TablesLong, ListsAt}
 use Rattle.builder.specs.Starting.{Righted}
 use Rattle.builder.specs.VarRecords.{VarTables, varRecords, headWords}
-use Rattle.builder.specs.declared.places.Sizes.{Sizes}
+use Rattle.area.specs.declared.sections.Sizes.{Sizes}
 use Rattle.builder.specs.Root.{flatsOf, scopeAt, timeAt, rolesAt, fatesAt, answerAt, Known, Unfated, Fated, Varied, rolesBy, lackingBy, fatedBy, errorsBy}
 use Rattle.builder.proofs.ListedAt.{lists-length}
 use Rattle.builder.proofs.VarAnswers.{head-is}

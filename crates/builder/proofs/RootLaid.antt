@@ -19,15 +19,15 @@ use Rattle.definitions.specs.Build.{tooBig}
 use Rattle.builder.specs.Checking as checking
 use Rattle.builder.specs.VariableTables.{rosterIn, Roster, Listing}
 use Rattle.builder.specs.Unfated.{unfated}
-use Rattle.builder.specs.Places.{stmtsAt, varsAt, depsAt}
-use Rattle.builder.specs.Root.{flatsOf, scopeAt, Tables, TablesOf, SizesOf, Known, part, Unfated}
-use Rattle.builder.specs.declared.places.Sizes.{Sizes}
+use Rattle.area.specs.Sections.{stmtsAt, varsAt, depsAt, part}
+use Rattle.builder.specs.Root.{flatsOf, scopeAt, Tables, TablesOf, SizesOf, Known, Unfated}
+use Rattle.area.specs.declared.sections.Sizes.{Sizes}
 use Rattle.builder.proofs.PutWords.{kept-few}
 use Rattle.builder.proofs.Putting.{length-flats}
-use Rattle.builder.proofs.AreaParts.{part-put, part-before}
+use Rattle.area.proofs.Parts.{part-put, part-before}
 use Rattle.builder.proofs.RootTables.{model-written, vars-count}
 use Rattle.definitions.proofs.Mosts.{few-flats}
-use Rattle.builder.proofs.Puts.{length-put}
+use Rattle.area.proofs.Puts.{length-put}
 use Rattle.builder.proofs.Recording.{length-unfated}
 
 -- ---- a model that is not too big

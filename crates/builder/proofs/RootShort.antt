@@ -18,7 +18,7 @@ use Rattle.definitions.specs.Flatten.{modelAt, scopeOf}
 use Rattle.builder.specs.VariableTables.{unknownsIn, rosterIn}
 use Rattle.builder.specs.Allocating.{TablesLong, Agree}
 use Rattle.builder.specs.Root.{scopeAt, timeAt, Known}
-use Rattle.builder.specs.declared.places.Sizes.{Sizes}
+use Rattle.area.specs.declared.sections.Sizes.{Sizes}
 use Rattle.builder.proofs.Open.{names-long}
 use Rattle.builder.proofs.Rosters.{listing-name}
 use Rattle.builder.proofs.VarAnswers.{names-first, time-last}

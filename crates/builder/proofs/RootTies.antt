@@ -23,10 +23,11 @@ use Rattle.builder.specs.Tables.{roleNumber, lackingIn}
 use Rattle.builder.specs.VariableTables.{rosterIn, unknownsIn}
 use Rattle.builder.specs.Unfated.{unfatedWords, unfated}
 use Rattle.builder.specs.Fating as fating
-use Rattle.builder.specs.Allocating.{areaNodes, areaStmts, flatsIn, roleErrorsBy, Flattened}
+use Rattle.builder.specs.Allocating.{flatsIn, roleErrorsBy, Flattened}
+use Rattle.area.specs.Sections.{areaNodes, areaStmts}
 use Rattle.builder.specs.Starting.{startingIn}
 use Rattle.builder.specs.VarRecords.{varRecords}
-use Rattle.builder.specs.declared.places.Sizes.{Sizes}
+use Rattle.area.specs.declared.sections.Sizes.{Sizes}
 use Rattle.builder.specs.Root.{flatsOf, scopeAt, timeAt, rolesAt, fatesAt, answerAt, Known, Unfated, Fated, rolesBy, lackingBy, queueBy, fatedBy, errorsBy}
 use Rattle.builder.proofs.Open.{names-long}
 use Rattle.builder.proofs.PutWords.{each-take}

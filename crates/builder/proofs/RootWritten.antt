@@ -10,14 +10,15 @@ use Rattle.ast.specs.Bytes.{put}
 use Rattle.ast.specs.Encode.{encode}
 use Rattle.definitions.specs.Answer.{flatRecords, variableRecords, errorWords, header, depsOf, areaOf, areaBytes, answerBytes}
 use Rattle.definitions.specs.Build.{answerFrom}
-use Rattle.builder.specs.Places.{stmtsAt, varsAt, depsAt, errorsAt}
+use Rattle.area.specs.Sections.{stmtsAt, varsAt, depsAt, errorsAt, part}
 use Rattle.builder.specs.Allocating.{ListsAt}
-use Rattle.builder.specs.declared.places.Sizes.{Sizes}
-use Rattle.builder.specs.Root.{flatsOf, scopeAt, fatesAt, answerAt, SizesOf, part, Unfated, Fated, Varied}
+use Rattle.area.specs.declared.sections.Sizes.{Sizes}
+use Rattle.builder.specs.Root.{flatsOf, scopeAt, fatesAt, answerAt, SizesOf, Unfated, Fated, Varied}
 use Rattle.definitions.proofs.Lengths.{Bytes, bytes}
-use Rattle.builder.proofs.AreaParts.{part-put, part-before, part-behind, part-listed, part-errors, six-parts}
+use Rattle.area.proofs.Parts.{part-put, part-before, part-behind, six-parts}
 use Rattle.builder.proofs.FlatsBack.{fates-count}
-use Rattle.builder.proofs.Puts.{length-put}
+use Rattle.area.proofs.Puts.{length-put}
+use Rattle.builder.proofs.ListedAt.{part-listed, part-errors}
 
 module _ (f : File) (m : ℕ) (z : Sizes) (k : SizesOf f m z) where
   -- ---- lengths of the sections

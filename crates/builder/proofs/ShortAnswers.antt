@@ -19,7 +19,7 @@ use Rattle.definitions.specs.Build.{Result, refusal, accepted, anyShort}
 use Rattle.builder.specs.Bounding.{Floating}
 use Rattle.builder.specs.Allocating.{flatsIn, Flattened, TablesLong, shortBy}
 use Rattle.builder.specs.Root.{flatsOf, scopeAt, timeAt, answerAt, Known, Unfated, answeredAs, usedIn, bytesIn}
-use Rattle.builder.specs.declared.places.Sizes.{Sizes}
+use Rattle.area.specs.declared.sections.Sizes.{Sizes}
 use Rattle.builder.specs.declared.filling.Answered.the-variants as is
 use Rattle.builder.proofs.Allocations.{shorts-same}
 use Rattle.builder.proofs.FlatsBack.{unfated-flats, unfated-flattened}

@@ -19,11 +19,11 @@ use Rattle.definitions.specs.Numbers.{underdetermined, overdetermined, noInitia
 use Rattle.definitions.specs.Variables.{Error, error}
 use Rattle.definitions.specs.Flatten.{noModel, modelAt}
 use Rattle.definitions.specs.Allocate.{countErrors}
-use Rattle.builder.specs.Places.{errorsAt}
-use Rattle.builder.specs.Allocating.{areaNodes, areaStmts, ListsAt}
+use Rattle.area.specs.Sections.{errorsAt, areaNodes, areaStmts}
+use Rattle.builder.specs.Allocating.{ListsAt}
 use Rattle.builder.specs.Fating.{isFated}
 use Rattle.builder.specs.Starting.{rightSpanIn, heldErrorsIn, stateErrorsIn, startingIn, Righted}
-use Rattle.builder.specs.declared.places.Sizes.{Sizes}
+use Rattle.area.specs.declared.sections.Sizes.{Sizes}
 use Rattle.builder.proofs.OpenRecords.{long}
 use Rattle.builder.proofs.ListedAt.{then-at, lists-length, kept-listed}
 

@@ -12,7 +12,7 @@ use lib.Seq.{getD-drop, drop-drop, getD-at}
 use Rattle.functions.specs.Lists.{plusOne, any, member, isEmpty}
 use Rattle.functions.proofs.Lists.{clash}
 use Rattle.ast.specs.Tree.{Unknown}
-use Rattle.builder.specs.declared.places.Sizes.{Sizes}
+use Rattle.area.specs.declared.sections.Sizes.{Sizes}
 use Rattle.definitions.specs.Names.{isReserved, timeName}
 use Rattle.definitions.specs.Variables.{Bounds, Variable, fromZero, unbounded, lastBounds, timeBounds, boundsOf, declare, variableNames, variable, variablesOf, at, noVariable, isState, timeIndex, timeDependent}
 use Rattle.definitions.specs.Answer.{Answer, variableWords, variableRecords, nodeCount, depsOf, header}

@@ -18,8 +18,8 @@ use Rattle.definitions.specs.Variables.{Bounds, lastBounds}
 use Rattle.definitions.specs.Answer.{boundsWords}
 use Rattle.builder.specs.Bounding.{boundsFrom}
 use Rattle.builder.specs.VarRecords.{leadWords, varBounds, varWords, varRecords}
-use Rattle.builder.proofs.Puts.{put-more, put-again}
-use Rattle.builder.proofs.ListedAt.{section-kept}
+use Rattle.area.proofs.Puts.{put-more, put-again}
+use Rattle.area.proofs.SectionsKept.{section-kept}
 
 -- ---- what stands in front of a place is not changed there
 

@@ -10,16 +10,16 @@ use lib.ListN.{length, take, drop, getD}
 use lib.Ieee.{Float, eq}
 use Rattle.functions.specs.Lists.{unless, plusOne, flag, _>>=_}
 use Rattle.ast.specs.Tree.{Span, Expr, name, number, binary, unary, call, Args, Flat, equation, rate, count}
-use Rattle.ast.specs.Words.{section, wordOf, spanFrom}
+use Rattle.ast.specs.Words.{wordOf, spanFrom}
 use Rattle.ast.specs.Numbers.{numberOf}
 use Rattle.ast.specs.Nodes.{kindAt, nameAt, opAt, sizeAt, spanAt, bitsAt, treeAt, isExpr, nodesFit}
 use Rattle.definitions.specs.Numbers.{nameNotFound, wrongStart, rateInvalid}
 use Rattle.definitions.specs.Variables.{Error, error, Bounds, at, timeIndex}
 use Rattle.definitions.specs.Check.{Scope, lookup}
 use Rattle.definitions.specs.Roles.{Start, argAt, numberIn, takesRate}
-use Rattle.builder.specs.Listing.{listed}
-use Rattle.builder.specs.Places.{Small, stmtsAt}
-use Rattle.builder.specs.declared.places.Sizes.{Sizes}
+use Rattle.area.specs.Listing.{listed}
+use Rattle.area.specs.Sections.{Small, areaNodes, areaStmts, areaStmt}
+use Rattle.area.specs.declared.sections.Sizes.{Sizes}
 use Rattle.builder.specs.declared.allocate.Start as found
 use Rattle.builder.specs.declared.allocate.Start.the-variants.{Nothing, Short, Number}
 
@@ -31,22 +31,12 @@ flatAt ns r =
     (rate (wordOf r 1) (treeAt ns (wordOf r 3)) (spanFrom r 4))
 
 module _ (b : List ℕ) (z : Sizes) where
-  -- the nodes and the statements' records
-  abbrev pub areaNodes : List (List ℕ)
-  areaNodes = section 8 (z .nodes) 40 b
-
-  abbrev pub areaStmts : List (List ℕ)
-  areaStmts = section 8 (z .stmts) (stmtsAt z) b
-
-  abbrev pub areaStmt : ℕ → List ℕ
-  areaStmt i = getD areaStmts i []
-
   -- statement i, and all of them
   unfoldable pub flatIn : ℕ → Flat
-  flatIn i = flatAt areaNodes (areaStmt i)
+  flatIn i = flatAt (areaNodes b z) (areaStmt b z i)
 
   unfoldable pub flatsIn : List Flat
-  flatsIn = map (flatAt areaNodes) areaStmts
+  flatsIn = map (flatAt (areaNodes b z)) (areaStmts b z)
 
 -- An area with the nodes and statements of a flattened model, where there are `names` names.
 pub record Flattened (names : ℕ) (b : List ℕ) (z : Sizes) : Type 0 where

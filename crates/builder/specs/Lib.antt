@@ -2,11 +2,9 @@ pub mod Tables
 pub mod Stored
 pub mod VariableTables
 pub mod Rounds
-pub mod Listing
 pub mod Checking
 pub mod Descent
 pub mod Overlay
-pub mod Places
 pub mod Allocating
 pub mod Unfated
 pub mod Bounding

@@ -23,11 +23,11 @@ use Rattle.definitions.specs.Build.{Result, refusal, accepted, answerFrom, tooB
 use Rattle.builder.specs.Tables.{Classes, lackingIn}
 use Rattle.builder.specs.VariableTables.{rosterIn, rostered, Listing}
 use Rattle.builder.specs.Unfated.{unfated}
-use Rattle.builder.specs.Places.{Small, stmtsAt, varsAt, depsAt}
+use Rattle.area.specs.Sections.{Small, stmtsAt, varsAt, depsAt, areaNodes, areaStmts, part}
 use Rattle.builder.specs.Fating as fating
-use Rattle.builder.specs.Allocating.{areaNodes, areaStmts, flatsIn, roleBy, roleErrorsBy}
+use Rattle.builder.specs.Allocating.{flatsIn, roleBy, roleErrorsBy}
 use Rattle.builder.specs.Starting.{startingIn}
-use Rattle.builder.specs.declared.places.Sizes.{Sizes}
+use Rattle.area.specs.declared.sections.Sizes.{Sizes}
 use Rattle.builder.specs.declared.measure.Measured as measured
 use Rattle.builder.specs.declared.measure.Measured.the-variants.{Refused, Sized}
 use Rattle.builder.specs.declared.filling.Answered as answered
@@ -133,10 +133,6 @@ pub record Known (f : List ℕ) (s : Sections) (m : ℕ) (classes names numbers 
   pub sizes : SizesOf (fileIn f s) m z
 
 -- ---- parts of an area
-
--- n bytes from a place on
-unfoldable pub part : ℕ → ℕ → List ℕ → List ℕ
-part at n b = take n (drop at b)
 
 -- An area with the nodes, the statements' records `rs` and the dependents of the answer.
 pub record PartsLaid (f : File) (m : ℕ) (z : Sizes) (rs : List (List ℕ)) (b : List ℕ) : Type 0 where

@@ -10,10 +10,9 @@ use Rattle.ast.specs.Words.{wordOf}
 use Rattle.ast.specs.Nodes.{spanAt}
 use Rattle.definitions.specs.Numbers.{noInitialCondition, algebraicInitialCondition}
 use Rattle.definitions.specs.Variables.{Error, error}
-use Rattle.builder.specs.Places.{Small, errorsAt}
-use Rattle.builder.specs.Allocating.{areaStmt}
+use Rattle.area.specs.Sections.{Small, errorsAt, areaStmt}
 use Rattle.builder.specs.Fating.{isFated}
-use Rattle.builder.specs.declared.places.Sizes.{Sizes}
+use Rattle.area.specs.declared.sections.Sizes.{Sizes}
 
 -- the span of the right side of statement i
 unfoldable pub rightSpanIn : List (List ℕ) → List (List ℕ) → ℕ → Span

@@ -6,7 +6,7 @@ use lib.Dec.{eqb, ltb}
 use lib.ListN.{length, getD}
 use Rattle.functions.specs.Lists.{flag, plusOne, place, times}
 use Rattle.ast.specs.Tree.{Unknown}
-use Rattle.builder.specs.declared.places.Sizes.{Sizes}
+use Rattle.area.specs.declared.sections.Sizes.{Sizes}
 use Rattle.definitions.specs.Variables.{Bounds, fromZero, unbounded, lastBounds}
 use Rattle.definitions.specs.Answer.{boundsWords}
 use Rattle.builder.specs.Fating.{isFated}

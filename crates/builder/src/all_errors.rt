@@ -3,7 +3,7 @@ ghost use Prim.Native.Nat.{ℕ, _+_, _^_, _≤_, _<_};
 ghost use lib.ListN.{length};
 ghost use Rattle.ast.specs.Opens.{fileIn};
 ghost use Rattle.definitions.specs.Flatten.{errorsOf};
-ghost use Rattle.builder.specs.Places.{Small, errorsAt};
+ghost use Rattle.area.specs.Sections.{Small, errorsAt};
 ghost use Rattle.builder.specs.Checking as checking;
 ghost use Rattle.builder.specs.Allocating.{Flattened, TablesLong, ListsAt};
 ghost use Rattle.builder.specs.Starting.{Righted};
@@ -12,18 +12,20 @@ use super::allocate::roles_errors;
 use super::allocation::Left;
 use super::builder::builder;
 use super::names::rules;
-use super::places::Sizes;
-use super::places::errors_at;
 use super::starting::count_errors;
 use super::starting::starting_errors;
+use area::sections::Sizes;
+use area::sections::errors_at;
+use ast::layout::MOST_NAMES;
+use ast::layout::MOST_STMTS;
 use ast::sections::Sections;
 
 // Those of building model m.
 fn models_errors(
     f: &[u8],
     s: Sections,
-    classes: &[u8; 256],
-    calls: &[u8; 256],
+    classes: &[u8; MOST_NAMES],
+    calls: &[u8; MOST_STMTS],
     m: usize,
     own: &mut [u8],
     z: Sizes,
@@ -40,8 +42,8 @@ fn models_errors(
 pub fn all_errors(
     f: &[u8],
     s: Sections,
-    classes: &[u8; 256],
-    calls: &[u8; 256],
+    classes: &[u8; MOST_NAMES],
+    calls: &[u8; MOST_STMTS],
     m: usize,
     names: &[u32],
     own: &mut [u8],

@@ -8,19 +8,42 @@ ghost use Rattle.ast.specs.Words.{wordOf, spanFrom};
 ghost use lib.Ieee.{eq};
 ghost use Rattle.ast.specs.Numbers.{numberOf};
 ghost use Rattle.ast.specs.Nodes.{nodeAt, kindAt, nameAt, opAt, spanAt, bitsAt};
-ghost use Rattle.builder.specs.Places.{Small, errorsAt};
+ghost use Rattle.area.specs.Sections.{Small, errorsAt, areaNodes, areaStmt};
 ghost use Rattle.definitions.specs.Numbers.{wrongStart};
 ghost use Rattle.definitions.specs.Variables.{error};
-ghost use Rattle.builder.specs.Listing.{spanned};
-ghost use Rattle.builder.specs.Allocating.{areaNodes, areaStmt, flatIn, flatsIn, Flattened, TablesLong, argNode, startAt, shortBy, startNumber, foundStart, StartFits, isShort, roleBy, CallFits, ListsAt, entryBy, startErrorsBy, rateErrorsBy, roleErrorsBy};
-use super::errors::put_error;
-use super::fated::stmt_of;
-use super::places::Sizes;
-use super::places::errors_at;
-use super::places::stmts_at;
+ghost use Rattle.area.specs.Listing.{spanned};
+ghost use Rattle.builder.specs.Allocating.{flatIn, flatsIn, Flattened, TablesLong, argNode, startAt, shortBy, startNumber, foundStart, StartFits, isShort, roleBy, CallFits, ListsAt, entryBy, startErrorsBy, rateErrorsBy, roleErrorsBy};
+use super::numbers::NAME_NOT_FOUND;
+use super::numbers::RATE_INVALID;
+use super::numbers::WRONG_START;
+use area::errors::put_error;
+use area::layout::HEADER_BYTES;
+use area::layout::STMT_WORDS;
+use area::layout::WORD;
+use area::records::node_of;
+use area::records::stmt_of;
+use area::sections::Sizes;
+use area::sections::errors_at;
+use area::sections::stmts_at;
+use ast::layout::CALL_KIND;
+use ast::layout::EQUATION_KIND;
+use ast::layout::MOST_STMTS;
+use ast::layout::NODE_BITS;
+use ast::layout::NODE_FROM;
+use ast::layout::NODE_KIND;
+use ast::layout::NODE_NAME;
+use ast::layout::NODE_OP;
+use ast::layout::NODE_SIZE;
+use ast::layout::NODE_TO;
+use ast::layout::NODE_WORDS;
+use ast::layout::NUMBER_KIND;
+use ast::layout::STMT_FROM;
+use ast::layout::STMT_KIND;
+use ast::layout::STMT_LEFT;
+use ast::layout::STMT_NAME;
+use ast::layout::STMT_TO;
 use ast::numbers::record_bits;
 use ast::numbers::same_number;
-use ast::sections::node_word;
 use ast::sections::record_word;
 
 // A left side that is a call by a variable's name: nothing of the kind, too short to reach the time index, or with a number there:
@@ -31,23 +54,15 @@ pub enum Start {
     Number(usize, usize),
 }
 
-// Word k of node i.
-fn node_of(area: &[u8], z: Sizes, i: usize, k: usize) -> usize
-    requires { ⌜ (40 + 32 * z .nodes ≤ length (now area)) × (i < z .nodes) × (k < 8) ⌝ }
-    ensures { λ r. ⌜ (r ≡ wordOf (nodeAt (areaNodes (now (area .entry)) z) i) k) × (r < 2 ^ 32) ⌝ }
-{
-    node_word(area, 40, z.nodes, i, k)
-}
-
 // The node of argument number i of a call.
 fn arg_at(area: &[u8], z: Sizes, call: usize, i: usize) -> usize
     requires { ⌜ ((names : ℕ) × Flattened names (now area) z) × (call < z .nodes) × (kindAt (areaNodes (now area) z) call ≡ 5) × (i < opAt (areaNodes (now area) z) call) ⌝ }
     ensures { λ r. ⌜ r ≡ argNode (areaNodes (now (area .entry)) z) i call (opAt (areaNodes (now (area .entry)) z) call) ⌝ }
 {
     let mut end = call;
-    let mut left = node_of(area, z, call, 2);
+    let mut left = node_of(area, z, call, NODE_OP);
     while i + 1 < left {
-        end -= node_of(area, z, end - 1, 3);
+        end -= node_of(area, z, end - 1, NODE_SIZE);
         left -= 1;
     }
     end - 1
@@ -58,10 +73,10 @@ fn start_of(area: &[u8], z: Sizes, numbers: &[u32], indexes: &[u32], i: usize) -
     requires { ⌜ ((names : ℕ) × Flattened names (now area) z) × TablesLong z (now numbers) (now indexes) × (i < z .nodes) ⌝ }
     ensures { λ r. ⌜ r ≡ startAt (areaNodes (now (area .entry)) z) (now (numbers .entry)) (now (indexes .entry)) i ⌝ }
 {
-    if node_of(area, z, i, 0) != 5 {
+    if node_of(area, z, i, NODE_KIND) != CALL_KIND {
         return Start::Nothing;
     }
-    let v = numbers[node_of(area, z, i, 1)] as usize;
+    let v = numbers[node_of(area, z, i, NODE_NAME)] as usize;
     if v == 0 {
         return Start::Nothing;
     }
@@ -69,11 +84,11 @@ fn start_of(area: &[u8], z: Sizes, numbers: &[u32], indexes: &[u32], i: usize) -
     if index == 0 {
         return Start::Nothing;
     }
-    if node_of(area, z, i, 2) <= index - 1 {
+    if node_of(area, z, i, NODE_OP) <= index - 1 {
         return Start::Short;
     }
     let arg = arg_at(area, z, i, index - 1);
-    if node_of(area, z, arg - 1, 0) == 2 {
+    if node_of(area, z, arg - 1, NODE_KIND) == NUMBER_KIND {
         return Start::Number(v - 1, arg);
     }
     Start::Nothing
@@ -94,10 +109,10 @@ fn is_short(area: &[u8], z: Sizes, numbers: &[u32], indexes: &[u32], i: usize) -
     requires { ⌜ ((names : ℕ) × Flattened names (now area) z) × TablesLong z (now numbers) (now indexes) × (i < z .stmts) ⌝ }
     ensures { λ r. ⌜ r ≡ shortBy (now (numbers .entry)) (now (indexes .entry)) (flatIn (now (area .entry)) z i) ⌝ }
 {
-    if stmt_of(area, z, i, 0) != 1 {
+    if stmt_of(area, z, i, STMT_KIND) != EQUATION_KIND {
         return false;
     }
-    short_start(start_of(area, z, numbers, indexes, stmt_of(area, z, i, 2)))
+    short_start(start_of(area, z, numbers, indexes, stmt_of(area, z, i, STMT_LEFT)))
 }
 
 // Refusal 10.
@@ -122,8 +137,11 @@ fn start_role(area: &[u8], z: Sizes, start: Start, lower: f64) -> u32
 {
     match start {
         Start::Number(v, arg) => {
-            if same_number(record_bits(area, 40, 8, z.nodes, arg - 1, 6), lower) {
-                ((2 * v + 1) % 4294967296) as u32
+            if same_number(
+                record_bits(area, HEADER_BYTES, NODE_WORDS, z.nodes, arg - 1, NODE_BITS),
+                lower,
+            ) {
+                ((2 * v + 1) % WORD) as u32
             } else {
                 0
             }
@@ -146,16 +164,16 @@ fn allocate_stmt(
     requires { ⌜ ((names : ℕ) × Flattened names (now area) z) × TablesLong z (now numbers) (now indexes) × (129 ≤ length (now rates)) × (i < z .stmts) ⌝ }
     ensures { λ r. ⌜ r ≡ roleBy (now (numbers .entry)) (now (indexes .entry)) (now (rates .entry)) lower (flatIn (now (area .entry)) z i) ⌝ }
 {
-    if stmt_of(area, z, i, 0) == 1 {
-        let start = start_of(area, z, numbers, indexes, stmt_of(area, z, i, 2));
+    if stmt_of(area, z, i, STMT_KIND) == EQUATION_KIND {
+        let start = start_of(area, z, numbers, indexes, stmt_of(area, z, i, STMT_LEFT));
         return start_role(area, z, start, lower);
     }
-    let v = numbers[stmt_of(area, z, i, 1)] as usize;
+    let v = numbers[stmt_of(area, z, i, STMT_NAME)] as usize;
     if v == 0 {
         return 0;
     }
     if rates[v - 1] == 1 {
-        return ((2 * v) % 4294967296) as u32;
+        return ((2 * v) % WORD) as u32;
     }
     0
 }
@@ -168,11 +186,11 @@ pub fn roles(
     indexes: &[u32],
     rates: &[u8],
     lower: f64,
-) -> [u32; 256]
+) -> [u32; MOST_STMTS]
     requires { ⌜ ((names : ℕ) × Flattened names (now area) z) × TablesLong z (now numbers) (now indexes) × (129 ≤ length (now rates)) ⌝ }
     ensures { λ r. ⌜ take (z .stmts) r ≡ map (roleBy (now (numbers .entry)) (now (indexes .entry)) (now (rates .entry)) lower) (flatsIn (now (area .entry)) z) ⌝ }
 {
-    let mut out = [0u32; 256];
+    let mut out = [0u32; MOST_STMTS];
     let mut i = 0;
     while i < z.stmts {
         out[i] = allocate_stmt(area, z, numbers, indexes, rates, lower, i);
@@ -204,8 +222,8 @@ fn stmt_error(area: &mut [u8], z: Sizes, i: usize, kind: u32, name: u32, count: 
     ensures { λ r. ⌜ ListsAt (errorsAt z) (now (area .entry)) count (error kind (spanFrom (areaStmt (now (area .entry)) z i) 4) name ∷ []) r (now (area .exit)) ⌝ }
 {
     let at = stmts_at(z);
-    let from = record_word(area, at, 8, z.stmts, i, 4);
-    let to = record_word(area, at, 8, z.stmts, i, 5);
+    let from = record_word(area, at, STMT_WORDS, z.stmts, i, STMT_FROM);
+    let to = record_word(area, at, STMT_WORDS, z.stmts, i, STMT_TO);
     list_error(area, z, count, kind, from, to, name)
 }
 
@@ -221,13 +239,16 @@ fn number_error(
     requires { ⌜ Small z × (errorsAt z + 4096 ≤ length (now area)) × (count < 2 ^ 40) × (1 ≤ arg) × (arg < z .nodes) × (call < z .nodes) × (nameAt (areaNodes (now area) z) call < 256) ⌝ }
     ensures { λ r. ⌜ ListsAt (errorsAt z) (now (area .entry)) count (unless (eq (numberOf (bitsAt (areaNodes (now (area .entry)) z) (arg - 1))) lower) (error wrongStart (spanAt (areaNodes (now (area .entry)) z) arg) (suc (nameAt (areaNodes (now (area .entry)) z) call)))) r (now (area .exit)) ⌝ }
 {
-    if same_number(record_bits(area, 40, 8, z.nodes, arg - 1, 6), lower) {
+    if same_number(
+        record_bits(area, HEADER_BYTES, NODE_WORDS, z.nodes, arg - 1, NODE_BITS),
+        lower,
+    ) {
         return count;
     }
-    let from = record_word(area, 40, 8, z.nodes, arg, 4);
-    let to = record_word(area, 40, 8, z.nodes, arg, 5);
-    let name = record_word(area, 40, 8, z.nodes, call, 1);
-    list_error(area, z, count, 12, from, to, 1 + name)
+    let from = record_word(area, HEADER_BYTES, NODE_WORDS, z.nodes, arg, NODE_FROM);
+    let to = record_word(area, HEADER_BYTES, NODE_WORDS, z.nodes, arg, NODE_TO);
+    let name = record_word(area, HEADER_BYTES, NODE_WORDS, z.nodes, call, NODE_NAME);
+    list_error(area, z, count, WRONG_START, from, to, 1 + name)
 }
 
 // The errors of an equation by its left side at node `call`.
@@ -261,15 +282,15 @@ fn rate_errors(
     requires { ⌜ Small z × (errorsAt z + 4096 ≤ length (now area)) × (count < 2 ^ 40) × (i < z .stmts) × (wordOf (areaStmt (now area) z i) 1 < 256) × (256 ≤ length (now numbers)) × (getD (now numbers) (wordOf (areaStmt (now area) z i) 1) 0 ≤ length (now rates)) ⌝ }
     ensures { λ r. ⌜ ListsAt (errorsAt z) (now (area .entry)) count (rateErrorsBy (now (rates .entry)) (wordOf (areaStmt (now (area .entry)) z i) 1) (spanFrom (areaStmt (now (area .entry)) z i) 4) (entryBy (now (numbers .entry)) (wordOf (areaStmt (now (area .entry)) z i) 1))) r (now (area .exit)) ⌝ }
 {
-    let name = record_word(area, stmts_at(z), 8, z.stmts, i, 1);
+    let name = record_word(area, stmts_at(z), STMT_WORDS, z.stmts, i, STMT_NAME);
     let v = numbers[name as usize] as usize;
     if v == 0 {
-        return stmt_error(area, z, i, 5, 1 + name, count);
+        return stmt_error(area, z, i, NAME_NOT_FOUND, 1 + name, count);
     }
     if rates[v - 1] == 1 {
         return count;
     }
-    stmt_error(area, z, i, 13, 1 + name, count)
+    stmt_error(area, z, i, RATE_INVALID, 1 + name, count)
 }
 
 // The errors 12, 5 and 13 of statement i.
@@ -286,8 +307,8 @@ fn role_errors(
     requires { ⌜ ((names : ℕ) × Flattened names (now area) z) × TablesLong z (now numbers) (now indexes) × (129 ≤ length (now rates)) × (i < z .stmts) × (errorsAt z + 4096 ≤ length (now area)) × (count < 2 ^ 40) ⌝ }
     ensures { λ r. ⌜ ListsAt (errorsAt z) (now (area .entry)) count (roleErrorsBy (now (numbers .entry)) (now (indexes .entry)) (now (rates .entry)) lower (flatIn (now (area .entry)) z i)) r (now (area .exit)) ⌝ }
 {
-    if stmt_of(area, z, i, 0) == 1 {
-        let left = stmt_of(area, z, i, 2);
+    if stmt_of(area, z, i, STMT_KIND) == EQUATION_KIND {
+        let left = stmt_of(area, z, i, STMT_LEFT);
         let start = start_of(area, z, numbers, indexes, left);
         return start_errors(area, z, start, lower, left, count);
     }

@@ -6,14 +6,14 @@ ghost use lib.ListN.{length};
 ghost use Rattle.functions.specs.Lists.{times};
 ghost use Rattle.ast.specs.Bytes.{put};
 ghost use Rattle.ast.specs.Encode.{encode};
-ghost use Rattle.builder.specs.Places.{stmtsAt};
+ghost use Rattle.area.specs.Sections.{stmtsAt};
 ghost use Rattle.builder.specs.Allocating.{Flattened, TablesLong};
 ghost use Rattle.builder.specs.Root.{pairedCount, rolesBy, lackingBy, fatedBy};
 use super::allocate::roles;
 use super::fated::write_fates;
 use super::pairing::lacking;
 use super::pairing::left_count;
-use super::places::Sizes;
+use area::sections::Sizes;
 
 // How many statements are left, and how many states lack an equation.
 pub struct Left {

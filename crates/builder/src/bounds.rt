@@ -14,8 +14,16 @@ ghost use Rattle.builder.specs.Bounding.{boundsFrom, floats, Floating, c
 ghost use Rattle.builder.specs.VarRecords.{varBounds};
 use super::names::NON_NEGATIVE;
 use super::names::is_time;
+use area::layout::FLOAT_BYTES;
+use area::layout::HIGH;
+use area::layout::WORD_BYTES;
 use ast::domains::read_domain;
 use ast::domains::unknown_bits;
+use ast::layout::MODEL_FIRST_UNKNOWN;
+use ast::layout::MODEL_UNKNOWNS;
+use ast::layout::UNKNOWN_LOWER;
+use ast::layout::UNKNOWN_NAME;
+use ast::layout::UNKNOWN_UPPER;
 use ast::numbers::Bounds;
 use ast::numbers::Domain;
 use ast::numbers::number_of;
@@ -29,10 +37,10 @@ pub fn last_declared(f: &[u8], s: Sections, m: usize, name: usize) -> usize
     requires { ⌜ Open (now f) s × (m < s .counts .models) ⌝ }
     ensures { λ r. ⌜ LastDeclared (now (f .entry)) s m name r ⌝ }
 {
-    let first = model(f, s, m, 1);
-    let mut i = model(f, s, m, 2);
+    let first = model(f, s, m, MODEL_FIRST_UNKNOWN);
+    let mut i = model(f, s, m, MODEL_UNKNOWNS);
     while 0 < i {
-        if unknown(f, s, first + i - 1, 0) + 1 == name {
+        if unknown(f, s, first + i - 1, UNKNOWN_NAME) + 1 == name {
             return first + i;
         }
         i -= 1;
@@ -77,7 +85,7 @@ fn unknown_bounds(f: &[u8], s: Sections, classes: &[u8], u: usize) -> Bounds
     requires { ⌜ Open (now f) s × Classes (fileIn (now f) s .names) (now classes) × (s .counts .names ≤ length (now classes)) × (u < s .counts .unknowns) ⌝ }
     ensures { λ r. ⌜ Floating (unknownBounds (now (f .entry)) s u) r ⌝ }
 {
-    let time = is_time(classes[unknown(f, s, u, 0)]);
+    let time = is_time(classes[unknown(f, s, u, UNKNOWN_NAME)]);
     let domain = read_domain(f, s, u);
     domain_bounds(domain, time, classes)
 }
@@ -117,8 +125,8 @@ fn put_bits(bits: u64, out: &mut [u8], place: usize)
     requires { ⌜ place + 8 ≤ length (now out) ⌝ }
     ensures { λ _. ⌜ now (out .exit) ≡ put (now (out .entry)) place (bytesOf (low bits ∷ high bits ∷ [])) ⌝ }
 {
-    put_word(out, place, (bits % 4294967296) as u32);
-    put_word(out, place + 4, (bits / 4294967296) as u32);
+    put_word(out, place, (bits % HIGH) as u32);
+    put_word(out, place + WORD_BYTES, (bits / HIGH) as u32);
 }
 
 // Writes the four words of bounds, declared by unknown u - 1, or by none where u is 0.
@@ -126,8 +134,12 @@ pub fn put_bounds(b: Bounds, f: &[u8], s: Sections, u: usize, out: &mut [u8], pl
     requires { ⌜ Open (now f) s × (u ≤ s .counts .unknowns) × (NanDeclared u (b .lower) × NanDeclared u (b .upper)) × (place + 16 ≤ length (now out)) ⌝ }
     ensures { λ _. ⌜ now (out .exit) ≡ put (now (out .entry)) place (bytesOf (boundsWords (boundsBits (now (f .entry)) s u b))) ⌝ }
 {
-    put_bits(bound_bits(b.lower, f, s, u, 4), out, place);
-    put_bits(bound_bits(b.upper, f, s, u, 6), out, place + 8);
+    put_bits(bound_bits(b.lower, f, s, u, UNKNOWN_LOWER), out, place);
+    put_bits(
+        bound_bits(b.upper, f, s, u, UNKNOWN_UPPER),
+        out,
+        place + FLOAT_BYTES,
+    );
 }
 
 // Writes the bounds of variable v, of a name (plus 1) of model m.

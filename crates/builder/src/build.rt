@@ -19,9 +19,15 @@ use super::measure::measure;
 use super::models::callees;
 use super::models::find_root;
 use super::names::classes;
-use super::output::clear;
-use super::output::hand_out;
-use super::output::refuse;
+use super::numbers::FEW_MODELS;
+use super::numbers::NO_ROOT;
+use area::layout::HIGH;
+use area::layout::MOST_BYTES;
+use area::lent::clear;
+use area::lent::hand_out;
+use area::lent::refuse;
+use ast::layout::MOST_NAMES;
+use ast::layout::MOST_STMTS;
 use ast::open::Opened;
 use ast::open::open;
 use ast::sections::Sections;
@@ -30,8 +36,8 @@ use ast::sections::Sections;
 fn answer_with(
     f: &[u8],
     s: Sections,
-    kinds: &[u8; 256],
-    calls: &[u8; 256],
+    kinds: &[u8; MOST_NAMES],
+    calls: &[u8; MOST_STMTS],
     rows: &mut [u32],
     m: usize,
     own: &mut [u8],
@@ -52,7 +58,7 @@ fn answer(f: &[u8], s: Sections, m: usize, own: &mut [u8]) -> Answered
 {
     let kinds = classes(f, s);
     let calls = callees(f, s);
-    if s.counts.models <= 2 {
+    if s.counts.models <= FEW_MODELS {
         let mut rows = few_rows();
         return answer_with(f, s, &kinds, &calls, &mut rows, m, own);
     }
@@ -80,7 +86,7 @@ fn keep(a: Answered, area: &mut [u8]) -> u64
         Answered::Refused(number) => refuse(area, number),
         Answered::Used(used) => {
             clear(area, used);
-            4294967296 * (used as u64)
+            HIGH * (used as u64)
         }
     }
 }
@@ -100,7 +106,7 @@ fn build_within(file: &[u8], s: Sections, m: usize, area: &mut [u8]) -> u64
     requires { ⌜ Open (now file) s × (m < s .counts .models) × (55384 ≤ length (now area)) ⌝ }
     ensures { λ r. ⌜ (r ≡ told (fittedIn (length (now (area .entry))) (bytesIn (answerOfModel (fileIn (now (file .entry)) s) m)))) × (now (area .exit) ≡ resultArea (length (now (area .entry))) (fittedIn (length (now (area .entry))) (bytesIn (answerOfModel (fileIn (now (file .entry)) s) m)))) ⌝ }
 {
-    let a = answer(file, s, m, &mut area[..55384]);
+    let a = answer(file, s, m, &mut area[..MOST_BYTES]);
     keep(a, area)
 }
 
@@ -111,9 +117,9 @@ fn build_opened(file: &[u8], s: Sections, root: &[u8], area: &mut [u8]) -> u64
 {
     let m = find_root(file, s, root);
     if m == 0 {
-        return refuse(area, 5);
+        return refuse(area, NO_ROOT);
     }
-    if area.len() < 55384 {
+    if area.len() < MOST_BYTES {
         return build_apart(file, s, m - 1, area);
     }
     build_within(file, s, m - 1, area)

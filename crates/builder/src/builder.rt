@@ -10,19 +10,42 @@ ghost use Rattle.definitions.specs.Variables.{error, domainErrors, unknownError
 ghost use Rattle.definitions.specs.Check.{Scope};
 ghost use Rattle.definitions.specs.Flatten.{modelAt, orderErrors, stmtErrors, errorsOf};
 ghost use Rattle.builder.specs.Tables.{Classes};
-ghost use Rattle.builder.specs.Listing.{Lists, Room};
+ghost use Rattle.area.specs.Listing.{Lists, Room};
 ghost use Rattle.builder.specs.Checking.{scopeIn, argsIn, unknownIn, stmtIn, UnknownIn, ArgsIn, Against, TablesRead};
 use super::check::check_expr;
 use super::check::error_unless;
 use super::check::has_keyword;
-use super::errors::put_error;
 use super::names::NON_NEGATIVE;
 use super::names::REAL;
 use super::names::is_reserved;
 use super::names::is_time;
+use super::numbers::POSITIONAL_AFTER_KEYWORD;
+use super::numbers::RESERVED_NAME;
+use super::numbers::SUBMODEL_MISSING;
+use super::numbers::UNKNOWN_DOMAIN;
 use super::scope::model_vars;
 use super::scope::no_marks;
+use area::errors::put_error;
 use ast::domains::read_domain;
+use ast::layout::MODEL_FIRST_STMT;
+use ast::layout::MODEL_FIRST_UNKNOWN;
+use ast::layout::MODEL_STMTS;
+use ast::layout::MODEL_UNKNOWNS;
+use ast::layout::MOST_NAMES;
+use ast::layout::MOST_STMTS;
+use ast::layout::NODE_NAME;
+use ast::layout::NODE_OP;
+use ast::layout::NODE_SIZE;
+use ast::layout::RATE_KIND;
+use ast::layout::STMT_FROM;
+use ast::layout::STMT_KIND;
+use ast::layout::STMT_LEFT;
+use ast::layout::STMT_RIGHT;
+use ast::layout::STMT_TO;
+use ast::layout::SUBMODEL_KIND;
+use ast::layout::UNKNOWN_FROM;
+use ast::layout::UNKNOWN_NAME;
+use ast::layout::UNKNOWN_TO;
 use ast::numbers::Domain;
 use ast::records::model;
 use ast::records::node;
@@ -47,8 +70,8 @@ fn unknown_error(
     if passed {
         return count;
     }
-    let from = unknown(f, s, u, 8) as u32;
-    let to = unknown(f, s, u, 9) as u32;
+    let from = unknown(f, s, u, UNKNOWN_FROM) as u32;
+    let to = unknown(f, s, u, UNKNOWN_TO) as u32;
     put_error(out, count, kind, from, to, name as u32)
 }
 
@@ -56,7 +79,7 @@ fn unknown_error(
 fn domain_errors(
     f: &[u8],
     s: Sections,
-    classes: &[u8; 256],
+    classes: &[u8; MOST_NAMES],
     u: usize,
     out: &mut [u8],
     count: usize,
@@ -71,7 +94,7 @@ fn domain_errors(
             let name = n as usize;
             let class = classes[name];
             let known = (class == NON_NEGATIVE) | (class == REAL);
-            unknown_error(f, s, u, known, 1, name + 1, out, count)
+            unknown_error(f, s, u, known, UNKNOWN_DOMAIN, name + 1, out, count)
         }
     }
 }
@@ -80,7 +103,7 @@ fn domain_errors(
 fn unknown_errors(
     f: &[u8],
     s: Sections,
-    classes: &[u8; 256],
+    classes: &[u8; MOST_NAMES],
     u: usize,
     out: &mut [u8],
     count: usize,
@@ -89,17 +112,17 @@ fn unknown_errors(
     ensures { λ r. ⌜ Lists (now (out .entry)) count (unknownErrors (fileIn (now (f .entry)) s .names) (unknownIn (now (f .entry)) s u)) r (now (out .exit)) ⌝ }
 {
     let listed = domain_errors(f, s, classes, u, out, count);
-    let name = unknown(f, s, u, 0);
+    let name = unknown(f, s, u, UNKNOWN_NAME);
     let class = classes[name];
     let usable = !is_reserved(class) | is_time(class);
-    unknown_error(f, s, u, usable, 2, name + 1, out, listed)
+    unknown_error(f, s, u, usable, RESERVED_NAME, name + 1, out, listed)
 }
 
 // The same of the unknowns of model m.
 fn unknowns_errors(
     f: &[u8],
     s: Sections,
-    classes: &[u8; 256],
+    classes: &[u8; MOST_NAMES],
     m: usize,
     out: &mut [u8],
     count: usize,
@@ -107,8 +130,8 @@ fn unknowns_errors(
     requires { ⌜ Open (now f) s × Classes (fileIn (now f) s .names) (now classes) × (m < s .counts .models) × Room (now out) count (each (unknownErrors (fileIn (now f) s .names)) (modelAt (fileIn (now f) s) m .unknowns)) ⌝ }
     ensures { λ r. ⌜ Lists (now (out .entry)) count (each (unknownErrors (fileIn (now (f .entry)) s .names)) (modelAt (fileIn (now (f .entry)) s) m .unknowns)) r (now (out .exit)) ⌝ }
 {
-    let first = model(f, s, m, 1);
-    let unknowns = model(f, s, m, 2);
+    let first = model(f, s, m, MODEL_FIRST_UNKNOWN);
+    let unknowns = model(f, s, m, MODEL_UNKNOWNS);
     let mut listed = count;
     let mut i = 0;
     while i < unknowns {
@@ -135,12 +158,21 @@ fn order_errors(
         return count;
     }
     let last = end - 1;
-    let size = node(f, s, last, 3);
+    let size = node(f, s, last, NODE_SIZE);
     let rest = end - size;
     let before = order_errors(f, s, rest, args - 1, total - size, out, count);
-    let keyword = node(f, s, last, 1);
+    let keyword = node(f, s, last, NODE_NAME);
     let named = has_keyword(f, s, rest, args - 1, total - size);
-    error_unless(f, s, last, (keyword != 0) | !named, 4, 0, out, before)
+    error_unless(
+        f,
+        s,
+        last,
+        (keyword != 0) | !named,
+        POSITIONAL_AFTER_KEYWORD,
+        0,
+        out,
+        before,
+    )
 }
 
 // Error 3: a submodel statement whose model is missing.
@@ -155,18 +187,18 @@ fn missing_error(
     requires { ⌜ Open (now f) s × (q < s .counts .stmts) × (name < 2 ^ 31) × (4096 ≤ length (now out)) × (count < 2 ^ 40) ⌝ }
     ensures { λ r. ⌜ Lists (now (out .entry)) count (error 3 (spanOfStmt (getD (contentsIn (now (f .entry)) s .stmts) q [])) (name + 1) ∷ []) r (now (out .exit)) ⌝ }
 {
-    let from = stmt(f, s, q, 4) as u32;
-    let to = stmt(f, s, q, 5) as u32;
-    put_error(out, count, 3, from, to, (name + 1) as u32)
+    let from = stmt(f, s, q, STMT_FROM) as u32;
+    let to = stmt(f, s, q, STMT_TO) as u32;
+    put_error(out, count, SUBMODEL_MISSING, from, to, (name + 1) as u32)
 }
 
 // The errors of an equation or a rate equation, statement q of model m.
 fn own_errors(
     f: &[u8],
     s: Sections,
-    classes: &[u8; 256],
-    rules: &[u8; 256],
-    vars: &[u32; 256],
+    classes: &[u8; MOST_NAMES],
+    rules: &[u8; MOST_NAMES],
+    vars: &[u32; MOST_NAMES],
     m: usize,
     q: usize,
     out: &mut [u8],
@@ -175,12 +207,12 @@ fn own_errors(
     requires { ⌜ Against (now f) s m (now classes) (now rules) (now vars) × (q < s .counts .stmts) × (kindOfStmt (getD (contentsIn (now f) s .stmts) q []) < 3) × Room (now out) count (stmtErrors (fileIn (now f) s) (λ j. []) (scopeIn (now f) s m) (stmtIn (now f) s q)) ⌝ }
     ensures { λ r. ⌜ Lists (now (out .entry)) count (stmtErrors (fileIn (now (f .entry)) s) (λ j. []) (scopeIn (now (f .entry)) s m) (stmtIn (now (f .entry)) s q)) r (now (out .exit)) ⌝ }
 {
-    let right = stmt(f, s, q, 3);
+    let right = stmt(f, s, q, STMT_RIGHT);
     let own = check_expr(f, s, classes, rules, vars, m, right, out, count);
-    if stmt(f, s, q, 0) == 2 {
+    if stmt(f, s, q, STMT_KIND) == RATE_KIND {
         return own;
     }
-    let left = stmt(f, s, q, 2);
+    let left = stmt(f, s, q, STMT_LEFT);
     check_expr(f, s, classes, rules, vars, m, left, out, own)
 }
 
@@ -188,9 +220,9 @@ fn own_errors(
 fn add_submodel(
     f: &[u8],
     s: Sections,
-    classes: &[u8; 256],
-    rules: &[u8; 256],
-    calls: &[u8; 256],
+    classes: &[u8; MOST_NAMES],
+    rules: &[u8; MOST_NAMES],
+    calls: &[u8; MOST_STMTS],
     k: usize,
     q: usize,
     out: &mut [u8],
@@ -199,14 +231,14 @@ fn add_submodel(
     requires { ⌜ TablesRead (now f) s (now classes) (now rules) (now calls) × (q < s .counts .stmts) × (kindOfStmt (getD (contentsIn (now f) s .stmts) q []) ≡ 3) × (k ≤ 32) × ((c : Scope) → Room (now out) count (stmtErrors (fileIn (now f) s) (λ j. errorsOf (fileIn (now f) s) k j) c (stmtIn (now f) s q))) ⌝ }
     ensures { λ r. ⌜ ((c : Scope) → Lists (now (out .entry)) count (stmtErrors (fileIn (now (f .entry)) s) (λ j. errorsOf (fileIn (now (f .entry)) s) k j) c (stmtIn (now (f .entry)) s q)) r (now (out .exit))) ⌝ }
 {
-    let call = stmt(f, s, q, 3);
+    let call = stmt(f, s, q, STMT_RIGHT);
     let c = calls[q] as usize;
     if c == 0 {
-        return missing_error(f, s, q, node(f, s, call, 1), out, count);
+        return missing_error(f, s, q, node(f, s, call, NODE_NAME), out, count);
     }
     let listed = builder(f, s, classes, rules, calls, k, c - 1, out, count);
-    let args = node(f, s, call, 2);
-    let total = node(f, s, call, 3) - 1;
+    let args = node(f, s, call, NODE_OP);
+    let total = node(f, s, call, NODE_SIZE) - 1;
     order_errors(f, s, call, args, total, out, listed)
 }
 
@@ -214,10 +246,10 @@ fn add_submodel(
 fn stmt_errors(
     f: &[u8],
     s: Sections,
-    classes: &[u8; 256],
-    rules: &[u8; 256],
-    calls: &[u8; 256],
-    vars: &[u32; 256],
+    classes: &[u8; MOST_NAMES],
+    rules: &[u8; MOST_NAMES],
+    calls: &[u8; MOST_STMTS],
+    vars: &[u32; MOST_NAMES],
     k: usize,
     m: usize,
     q: usize,
@@ -227,7 +259,7 @@ fn stmt_errors(
     requires { ⌜ TablesRead (now f) s (now classes) (now rules) (now calls) × Against (now f) s m (now classes) (now rules) (now vars) × (q < s .counts .stmts) × (k ≤ 32) × Room (now out) count (stmtErrors (fileIn (now f) s) (λ j. errorsOf (fileIn (now f) s) k j) (scopeIn (now f) s m) (stmtIn (now f) s q)) ⌝ }
     ensures { λ r. ⌜ Lists (now (out .entry)) count (stmtErrors (fileIn (now (f .entry)) s) (λ j. errorsOf (fileIn (now (f .entry)) s) k j) (scopeIn (now (f .entry)) s m) (stmtIn (now (f .entry)) s q)) r (now (out .exit)) ⌝ }
 {
-    if stmt(f, s, q, 0) != 3 {
+    if stmt(f, s, q, STMT_KIND) != SUBMODEL_KIND {
         return own_errors(f, s, classes, rules, vars, m, q, out, count);
     }
     add_submodel(f, s, classes, rules, calls, k, q, out, count)
@@ -237,9 +269,9 @@ fn stmt_errors(
 pub fn builder(
     f: &[u8],
     s: Sections,
-    classes: &[u8; 256],
-    rules: &[u8; 256],
-    calls: &[u8; 256],
+    classes: &[u8; MOST_NAMES],
+    rules: &[u8; MOST_NAMES],
+    calls: &[u8; MOST_STMTS],
     k: usize,
     m: usize,
     out: &mut [u8],
@@ -253,8 +285,8 @@ pub fn builder(
     }
     let mut vars = no_marks();
     model_vars(f, s, classes, m, &mut vars);
-    let first = model(f, s, m, 3);
-    let stmts = model(f, s, m, 4);
+    let first = model(f, s, m, MODEL_FIRST_STMT);
+    let stmts = model(f, s, m, MODEL_STMTS);
     let mut listed = unknowns_errors(f, s, classes, m, out, count);
     let mut i = 0;
     while i < stmts {

@@ -10,12 +10,30 @@ ghost use Rattle.functions.specs.Lists.{unless, isSome};
 ghost use Rattle.ast.specs.Nodes.{kindAt, nameAt, spanAt};
 ghost use Rattle.definitions.specs.Variables.{error};
 ghost use Rattle.definitions.specs.Check.{lookup, hasKeyword, keywordErrors, dependentErrors, variableErrors, callErrors, exprErrors, argsErrors};
-ghost use Rattle.builder.specs.Listing.{Lists, Room};
+ghost use Rattle.area.specs.Listing.{Lists, Room};
 ghost use Rattle.builder.specs.Checking.{nodesOf, scopeIn, treeIn, argsIn, argsOf, keptNames, NodeIn, ExprIn, CallIn, ArgsIn, Scoped, Against};
-use super::errors::put_error;
 use super::names::is_built_in;
 use super::names::numbered_rule;
+use super::numbers::CALL_NOT_FOUND;
+use super::numbers::COUNT_AGAINST_TABLE;
+use super::numbers::COUNT_AGAINST_VARIABLE;
+use super::numbers::KEYWORD_IN_BUILT_IN;
+use super::numbers::NAME_NOT_FOUND;
+use super::numbers::NO_SUCH_DEPENDENT;
+use super::numbers::POSITIONAL_AFTER_NAMED;
 use super::scope::is_dep_of;
+use area::errors::put_error;
+use ast::layout::BINARY_KIND;
+use ast::layout::MOST_NAMES;
+use ast::layout::NAME_KIND;
+use ast::layout::NODE_FROM;
+use ast::layout::NODE_KIND;
+use ast::layout::NODE_NAME;
+use ast::layout::NODE_OP;
+use ast::layout::NODE_SIZE;
+use ast::layout::NODE_TO;
+use ast::layout::NUMBER_KIND;
+use ast::layout::UNARY_KIND;
 use ast::records::node;
 use ast::sections::Sections;
 
@@ -32,8 +50,8 @@ fn node_error(
     requires { ⌜ NodeIn (now f) s i × (name < 2 ^ 32) × (4096 ≤ length (now out)) × (count < 2 ^ 40) ⌝ }
     ensures { λ r. ⌜ Lists (now (out .entry)) count (error kind (spanAt (nodesOf (now (f .entry)) s) i) name ∷ []) r (now (out .exit)) ⌝ }
 {
-    let from = node(f, s, i, 4) as u32;
-    let to = node(f, s, i, 5) as u32;
+    let from = node(f, s, i, NODE_FROM) as u32;
+    let to = node(f, s, i, NODE_TO) as u32;
     put_error(out, count, kind, from, to, name as u32)
 }
 
@@ -65,10 +83,10 @@ pub fn has_keyword(f: &[u8], s: Sections, end: usize, args: usize, total: usize)
     if args == 0 {
         return false;
     }
-    if node(f, s, end - 1, 1) != 0 {
+    if node(f, s, end - 1, NODE_NAME) != 0 {
         return true;
     }
-    let size = node(f, s, end - 1, 3);
+    let size = node(f, s, end - 1, NODE_SIZE);
     has_keyword(f, s, end - size, args - 1, total - size)
 }
 
@@ -89,17 +107,26 @@ fn keyword_errors(
         return count;
     }
     let last = end - 1;
-    let size = node(f, s, last, 3);
+    let size = node(f, s, last, NODE_SIZE);
     let before = keyword_errors(f, s, end - size, args - 1, total - size, out, count);
-    let keyword = node(f, s, last, 1);
-    error_unless(f, s, last, keyword == 0, 7, keyword, out, before)
+    let keyword = node(f, s, last, NODE_NAME);
+    error_unless(
+        f,
+        s,
+        last,
+        keyword == 0,
+        KEYWORD_IN_BUILT_IN,
+        keyword,
+        out,
+        before,
+    )
 }
 
 // Errors 9 and 10 of the arguments of a variable's call, in order.
 fn arg_errors(
     f: &[u8],
     s: Sections,
-    vars: &[u32; 256],
+    vars: &[u32; MOST_NAMES],
     m: usize,
     variable: usize,
     end: usize,
@@ -115,17 +142,17 @@ fn arg_errors(
         return count;
     }
     let last = end - 1;
-    let size = node(f, s, last, 3);
+    let size = node(f, s, last, NODE_SIZE);
     let rest = end - size;
     let left = total - size;
     let before = arg_errors(f, s, vars, m, variable, rest, args - 1, left, out, count);
-    let keyword = node(f, s, last, 1);
+    let keyword = node(f, s, last, NODE_NAME);
     if keyword == 0 {
         let named = has_keyword(f, s, rest, args - 1, left);
-        return error_unless(f, s, last, !named, 10, 0, out, before);
+        return error_unless(f, s, last, !named, POSITIONAL_AFTER_NAMED, 0, out, before);
     }
     let kept = is_dep_of(f, s, vars, m, variable, keyword - 1);
-    error_unless(f, s, last, kept, 9, keyword, out, before)
+    error_unless(f, s, last, kept, NO_SUCH_DEPENDENT, keyword, out, before)
 }
 
 // Whether a variable's entry says that it has `args` kept dependents.
@@ -140,7 +167,7 @@ fn is_count(entry: u32, args: usize) -> bool
 fn variable_errors(
     f: &[u8],
     s: Sections,
-    vars: &[u32; 256],
+    vars: &[u32; MOST_NAMES],
     m: usize,
     i: usize,
     out: &mut [u8],
@@ -149,14 +176,23 @@ fn variable_errors(
     requires { ⌜ Scoped (now f) s m (now vars) × CallIn (now f) s i × Room (now out) count (variableErrors (scopeIn (now f) s m) (nameAt (nodesOf (now f) s) i) (argsOf (now f) s i) (spanAt (nodesOf (now f) s) i) (lookup (scopeIn (now f) s m) (nameAt (nodesOf (now f) s) i))) ⌝ }
     ensures { λ r. ⌜ Lists (now (out .entry)) count (variableErrors (scopeIn (now (f .entry)) s m) (nameAt (nodesOf (now (f .entry)) s) i) (argsOf (now (f .entry)) s i) (spanAt (nodesOf (now (f .entry)) s) i) (lookup (scopeIn (now (f .entry)) s m) (nameAt (nodesOf (now (f .entry)) s) i))) r (now (out .exit)) ⌝ }
 {
-    let name = node(f, s, i, 1);
-    let args = node(f, s, i, 2);
-    let total = node(f, s, i, 3) - 1;
+    let name = node(f, s, i, NODE_NAME);
+    let args = node(f, s, i, NODE_OP);
+    let total = node(f, s, i, NODE_SIZE) - 1;
     let entry = vars[name];
     if entry == 0 {
-        return node_error(f, s, i, 11, name + 1, out, count);
+        return node_error(f, s, i, CALL_NOT_FOUND, name + 1, out, count);
     }
-    let own = error_unless(f, s, i, is_count(entry, args), 8, name + 1, out, count);
+    let own = error_unless(
+        f,
+        s,
+        i,
+        is_count(entry, args),
+        COUNT_AGAINST_VARIABLE,
+        name + 1,
+        out,
+        count,
+    );
     arg_errors(f, s, vars, m, name, i, args, total, out, own)
 }
 
@@ -164,9 +200,9 @@ fn variable_errors(
 fn call_errors(
     f: &[u8],
     s: Sections,
-    classes: &[u8; 256],
-    rules: &[u8; 256],
-    vars: &[u32; 256],
+    classes: &[u8; MOST_NAMES],
+    rules: &[u8; MOST_NAMES],
+    vars: &[u32; MOST_NAMES],
     m: usize,
     i: usize,
     out: &mut [u8],
@@ -175,12 +211,12 @@ fn call_errors(
     requires { ⌜ Against (now f) s m (now classes) (now rules) (now vars) × CallIn (now f) s i × Room (now out) count (callErrors (scopeIn (now f) s m) (nameAt (nodesOf (now f) s) i) (argsOf (now f) s i) (spanAt (nodesOf (now f) s) i)) ⌝ }
     ensures { λ r. ⌜ Lists (now (out .entry)) count (callErrors (scopeIn (now (f .entry)) s m) (nameAt (nodesOf (now (f .entry)) s) i) (argsOf (now (f .entry)) s i) (spanAt (nodesOf (now (f .entry)) s) i)) r (now (out .exit)) ⌝ }
 {
-    let name = node(f, s, i, 1);
-    let args = node(f, s, i, 2);
+    let name = node(f, s, i, NODE_NAME);
+    let args = node(f, s, i, NODE_OP);
     let allowed = functions::rule_allows(numbered_rule(rules[name]), args);
-    let own = error_unless(f, s, i, allowed, 6, name + 1, out, count);
+    let own = error_unless(f, s, i, allowed, COUNT_AGAINST_TABLE, name + 1, out, count);
     if is_built_in(classes[name]) {
-        return keyword_errors(f, s, i, args, node(f, s, i, 3) - 1, out, own);
+        return keyword_errors(f, s, i, args, node(f, s, i, NODE_SIZE) - 1, out, own);
     }
     variable_errors(f, s, vars, m, i, out, own)
 }
@@ -189,7 +225,7 @@ fn call_errors(
 fn name_errors(
     f: &[u8],
     s: Sections,
-    vars: &[u32; 256],
+    vars: &[u32; MOST_NAMES],
     m: usize,
     i: usize,
     out: &mut [u8],
@@ -198,17 +234,26 @@ fn name_errors(
     requires { ⌜ Scoped (now f) s m (now vars) × ExprIn (now f) s i × (kindAt (nodesOf (now f) s) i ≡ 1) × Room (now out) count (exprErrors (scopeIn (now f) s m) (treeIn (now f) s i)) ⌝ }
     ensures { λ r. ⌜ Lists (now (out .entry)) count (exprErrors (scopeIn (now (f .entry)) s m) (treeIn (now (f .entry)) s i)) r (now (out .exit)) ⌝ }
 {
-    let name = node(f, s, i, 1);
-    error_unless(f, s, i, vars[name] != 0, 5, name + 1, out, count)
+    let name = node(f, s, i, NODE_NAME);
+    error_unless(
+        f,
+        s,
+        i,
+        vars[name] != 0,
+        NAME_NOT_FOUND,
+        name + 1,
+        out,
+        count,
+    )
 }
 
 // The errors of the expression at node i.
 pub fn check_expr(
     f: &[u8],
     s: Sections,
-    classes: &[u8; 256],
-    rules: &[u8; 256],
-    vars: &[u32; 256],
+    classes: &[u8; MOST_NAMES],
+    rules: &[u8; MOST_NAMES],
+    vars: &[u32; MOST_NAMES],
     m: usize,
     i: usize,
     out: &mut [u8],
@@ -217,25 +262,25 @@ pub fn check_expr(
     requires { ⌜ Against (now f) s m (now classes) (now rules) (now vars) × ExprIn (now f) s i × Room (now out) count (exprErrors (scopeIn (now f) s m) (treeIn (now f) s i)) ⌝ }
     ensures { λ r. ⌜ Lists (now (out .entry)) count (exprErrors (scopeIn (now (f .entry)) s m) (treeIn (now (f .entry)) s i)) r (now (out .exit)) ⌝ }
 {
-    let kind = node(f, s, i, 0);
-    if kind == 1 {
+    let kind = node(f, s, i, NODE_KIND);
+    if kind == NAME_KIND {
         return name_errors(f, s, vars, m, i, out, count);
     }
-    if kind == 2 {
+    if kind == NUMBER_KIND {
         return count;
     }
-    if kind == 3 {
+    if kind == BINARY_KIND {
         let right = i - 1;
-        let left = right - node(f, s, right, 3);
+        let left = right - node(f, s, right, NODE_SIZE);
         let first = check_expr(f, s, classes, rules, vars, m, left, out, count);
         return check_expr(f, s, classes, rules, vars, m, right, out, first);
     }
-    if kind == 4 {
+    if kind == UNARY_KIND {
         return check_expr(f, s, classes, rules, vars, m, i - 1, out, count);
     }
     let own = call_errors(f, s, classes, rules, vars, m, i, out, count);
-    let args = node(f, s, i, 2);
-    let total = node(f, s, i, 3) - 1;
+    let args = node(f, s, i, NODE_OP);
+    let total = node(f, s, i, NODE_SIZE) - 1;
     check_args(f, s, classes, rules, vars, m, i, args, total, out, own)
 }
 
@@ -243,9 +288,9 @@ pub fn check_expr(
 fn check_args(
     f: &[u8],
     s: Sections,
-    classes: &[u8; 256],
-    rules: &[u8; 256],
-    vars: &[u32; 256],
+    classes: &[u8; MOST_NAMES],
+    rules: &[u8; MOST_NAMES],
+    vars: &[u32; MOST_NAMES],
     m: usize,
     end: usize,
     args: usize,
@@ -260,7 +305,7 @@ fn check_args(
         return count;
     }
     let last = end - 1;
-    let size = node(f, s, last, 3);
+    let size = node(f, s, last, NODE_SIZE);
     let rest = end - size;
     let left = total - size;
     let before = check_args(

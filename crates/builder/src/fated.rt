@@ -6,30 +6,32 @@ ghost use lib.ListN.{length, take, drop, getD};
 ghost use Rattle.ast.specs.Words.{section, wordOf, bytesOf};
 ghost use Rattle.ast.specs.Bytes.{put};
 ghost use Rattle.ast.specs.Encode.{encode};
-ghost use Rattle.builder.specs.Places.{Small, stmtsAt, varsAt};
+ghost use Rattle.area.specs.Sections.{Small, stmtsAt, varsAt};
 ghost use Rattle.builder.specs.Fating.{fateIn, queueIn, fatesIn, withFate, fated, FatesFrom, FatesIn};
 use super::pairing::has_role;
-use super::places::Sizes;
-use super::places::stmts_at;
-use ast::sections::record_word;
+use area::layout::FATE_AT;
+use area::layout::HELD_FATE;
+use area::layout::INITIAL_FATE;
+use area::layout::LEFT_OVER_FATE;
+use area::layout::MOST_VARS;
+use area::layout::REPLACED_FATE;
+use area::layout::STMT_BYTES;
+use area::layout::STMT_FATE;
+use area::layout::STMT_VARIABLE;
+use area::layout::VARIABLE_AT;
+use area::records::stmt_of;
+use area::sections::Sizes;
+use area::sections::stmts_at;
 use ast::words::put_word;
-
-// Word k of statement i.
-pub fn stmt_of(area: &[u8], z: Sizes, i: usize, k: usize) -> usize
-    requires { ⌜ Small z × (varsAt z ≤ length (now area)) × (i < z .stmts) × (k < 8) ⌝ }
-    ensures { λ r. ⌜ (r ≡ wordOf (getD (section 8 (z .stmts) (stmtsAt z) (now (area .entry))) i []) k) × (r < 2 ^ 32) ⌝ }
-{
-    record_word(area, stmts_at(z), 8, z.stmts, i, k) as usize
-}
 
 // Writes the fate of statement i and its variable.
 fn put_fate(area: &mut [u8], z: Sizes, i: usize, fate: u32, v: u32)
     requires { ⌜ Small z × (varsAt z ≤ length (now area)) × (i < z .stmts) ⌝ }
     ensures { λ _. ⌜ now (area .exit) ≡ put (now (area .entry)) (stmtsAt z + 32 * i) (bytesOf (withFate (getD (section 8 (z .stmts) (stmtsAt z) (now (area .entry))) i []) (fate, v))) ⌝ }
 {
-    let at = stmts_at(z) + 32 * i;
-    put_word(area, at + 24, fate);
-    put_word(area, at + 28, v);
+    let at = stmts_at(z) + STMT_BYTES * i;
+    put_word(area, at + FATE_AT, fate);
+    put_word(area, at + VARIABLE_AT, v);
 }
 
 // Writes the fate of statement i, and gives how many of the queued states are paired.
@@ -48,22 +50,22 @@ fn write_fate(
     let role = roles[i];
     if role == 0 {
         if paired < queued {
-            put_fate(area, z, i, 2, states[paired]);
+            put_fate(area, z, i, HELD_FATE, states[paired]);
             return paired + 1;
         }
-        put_fate(area, z, i, 4, 0);
+        put_fate(area, z, i, LEFT_OVER_FATE, 0);
         return paired;
     }
     let v = (role - 1) / 2;
     if role % 2 == 1 {
-        put_fate(area, z, i, 1, v);
+        put_fate(area, z, i, INITIAL_FATE, v);
         return paired;
     }
     if has_role(roles, i + 1, z.stmts, role) {
-        put_fate(area, z, i, 3, v);
+        put_fate(area, z, i, REPLACED_FATE, v);
         return paired;
     }
-    put_fate(area, z, i, 2, v);
+    put_fate(area, z, i, HELD_FATE, v);
     paired
 }
 
@@ -81,10 +83,10 @@ pub fn write_fates(area: &mut [u8], z: Sizes, roles: &[u32], states: &[u32], que
 }
 
 // 0 for each variable.
-pub fn no_fates() -> [u32; 129]
+pub fn no_fates() -> [u32; MOST_VARS]
     ensures { λ r. ⌜ (length r ≡ 129) × ((v : ℕ) → getD r v 0 ≡ 0) ⌝ }
 {
-    [0u32; 129]
+    [0u32; MOST_VARS]
 }
 
 // Adds statement i to the fates of those behind it.
@@ -99,16 +101,16 @@ fn note_fate(
     requires { ⌜ Small z × (varsAt z ≤ length (now area)) × (i < z .stmts) × FatesFrom (i + 1) (section 8 (z .stmts) (stmtsAt z) (now area)) (now held) (now first) (now conditions) ⌝ }
     ensures { λ _. ⌜ FatesFrom i (section 8 (z .stmts) (stmtsAt z) (now (area .entry))) (now (held .exit)) (now (first .exit)) (now (conditions .exit)) ⌝ }
 {
-    let fate = stmt_of(area, z, i, 6);
-    let v = stmt_of(area, z, i, 7);
-    if 129 <= v {
+    let fate = stmt_of(area, z, i, STMT_FATE);
+    let v = stmt_of(area, z, i, STMT_VARIABLE);
+    if MOST_VARS <= v {
         return;
     }
-    if fate == 2 {
+    if fate == HELD_FATE as usize {
         held[v] = (i + 1) as u32;
         return;
     }
-    if fate == 1 {
+    if fate == INITIAL_FATE as usize {
         first[v] = (i + 1) as u32;
         conditions[v] = conditions[v] + 1;
     }

@@ -11,7 +11,7 @@ ghost use Rattle.definitions.specs.Flatten.{instances};
 ghost use Rattle.definitions.specs.Allocate.{leftCount, lacking};
 ghost use Rattle.definitions.specs.Answer.{answerBytes};
 ghost use Rattle.definitions.specs.Build.{refusal, accepted, tooBig, anyShort};
-ghost use Rattle.builder.specs.Places.{Small, errorsAt};
+ghost use Rattle.area.specs.Sections.{Small, errorsAt};
 ghost use Rattle.builder.specs.Bounding.{Floating};
 ghost use Rattle.builder.specs.Descent.{RowsIn};
 ghost use Rattle.builder.specs.Checking as checking;
@@ -26,12 +26,18 @@ use super::laying::lay_flats;
 use super::laying::no_flags;
 use super::laying::no_starts;
 use super::laying::no_variables;
-use super::places::Sizes;
-use super::places::errors_at;
+use super::numbers::SHORT_LEFT_SIDE;
 use super::scope::no_marks;
 use super::variables::roster_of;
 use super::vars::write_header;
 use super::vars::write_vars;
+use area::layout::ERROR_BYTES;
+use area::layout::ERRORS_BYTES;
+use area::layout::MOST_LISTED;
+use area::sections::Sizes;
+use area::sections::errors_at;
+use ast::layout::MOST_NAMES;
+use ast::layout::MOST_STMTS;
 use ast::numbers::Bounds;
 use ast::sections::Sections;
 
@@ -46,18 +52,18 @@ fn bytes_used(z: Sizes, errors: usize) -> usize
     requires { ⌜ Small z ⌝ }
     ensures { λ r. ⌜ r ≡ errorsAt z + 16 * min errors 256 ⌝ }
 {
-    if errors < 256 {
-        return errors_at(z) + 16 * errors;
+    if errors < MOST_LISTED {
+        return errors_at(z) + ERROR_BYTES * errors;
     }
-    errors_at(z) + 4096
+    errors_at(z) + ERRORS_BYTES
 }
 
 // Lists the errors, writes the header, and gives the bytes used. `left` tells the statements left and the states that lack an equation.
 fn finish(
     f: &[u8],
     s: Sections,
-    classes: &[u8; 256],
-    calls: &[u8; 256],
+    classes: &[u8; MOST_NAMES],
+    calls: &[u8; MOST_STMTS],
     m: usize,
     own: &mut [u8],
     names: &[u32],
@@ -97,8 +103,8 @@ fn finish(
 fn write_answer(
     f: &[u8],
     s: Sections,
-    classes: &[u8; 256],
-    calls: &[u8; 256],
+    classes: &[u8; MOST_NAMES],
+    calls: &[u8; MOST_STMTS],
     m: usize,
     own: &mut [u8],
     names: &[u32],
@@ -140,8 +146,8 @@ fn write_answer(
 fn answer_laid(
     f: &[u8],
     s: Sections,
-    classes: &[u8; 256],
-    calls: &[u8; 256],
+    classes: &[u8; MOST_NAMES],
+    calls: &[u8; MOST_STMTS],
     m: usize,
     own: &mut [u8],
     names: &[u32],
@@ -158,7 +164,7 @@ fn answer_laid(
 {
     let time = time_bounds(f, s, classes, m, names[0] as usize);
     if any_short(own, z, numbers, indexes) {
-        return Answered::Refused(10);
+        return Answered::Refused(SHORT_LEFT_SIDE);
     }
     Answered::Used(write_answer(
         f,
@@ -183,8 +189,8 @@ fn answer_laid(
 fn fill_by(
     f: &[u8],
     s: Sections,
-    classes: &[u8; 256],
-    calls: &[u8; 256],
+    classes: &[u8; MOST_NAMES],
+    calls: &[u8; MOST_STMTS],
     rows: &mut [u32],
     m: usize,
     own: &mut [u8],
@@ -246,8 +252,8 @@ fn fill_by(
 pub fn fill(
     f: &[u8],
     s: Sections,
-    classes: &[u8; 256],
-    calls: &[u8; 256],
+    classes: &[u8; MOST_NAMES],
+    calls: &[u8; MOST_STMTS],
     rows: &mut [u32],
     m: usize,
     own: &mut [u8],

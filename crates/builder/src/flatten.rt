@@ -16,6 +16,17 @@ ghost use Rattle.definitions.specs.Flatten.{flatten};
 ghost use Rattle.builder.specs.Tables.{Callees};
 ghost use Rattle.builder.specs.Descent.{flatAt, broughtAt, RowsIn, RowsKept};
 use super::replacements::find_replacements;
+use ast::layout::MODEL_FIRST_STMT;
+use ast::layout::MODEL_STMTS;
+use ast::layout::MOST_STMTS;
+use ast::layout::NODE_BYTES;
+use ast::layout::NODE_FROM;
+use ast::layout::NODE_TO;
+use ast::layout::RATE_KIND;
+use ast::layout::STMT_KIND;
+use ast::layout::STMT_LEFT;
+use ast::layout::STMT_RIGHT;
+use ast::layout::SUBMODEL_KIND;
 use ast::records::model;
 use ast::records::node;
 use ast::records::stmt;
@@ -37,9 +48,9 @@ fn write_tree(
 {
     let at = s.starts.nodes;
     let n = s.counts.nodes;
-    let from = node(f, s, i, 4) as u32;
-    let to = node(f, s, i, 5) as u32;
-    let start = 32 * done;
+    let from = node(f, s, i, NODE_FROM) as u32;
+    let to = node(f, s, i, NODE_TO) as u32;
+    let start = NODE_BYTES * done;
     done + clone_and_subst(f, at, n, rows, level, i, from, to, &mut out[start..])
 }
 
@@ -56,11 +67,11 @@ fn write_own(
     requires { ⌜ Open (now f) s × ((q < s .counts .stmts) × (wordOf (getD (contentsIn (now f) s .stmts) q []) 0 ≡ 3 → ⊥)) × ((level ≤ 32) × (256 * level ≤ length (now rows)) × RowsIn (now f) s (now rows)) × ((sub : ℕ → List Flat) × ((done + sumOf flatSize (broughtAt (now f) s (now rows) level sub q) ≤ 1024) × (32 * (done + sumOf flatSize (broughtAt (now f) s (now rows) level sub q)) ≤ length (now out)))) ⌝ }
     ensures { λ r. ⌜ ((sub : ℕ → List Flat) → (r ≡ done + sumOf flatSize (broughtAt (now (f .entry)) s (now (rows .entry)) level sub q)) × (now (out .exit) ≡ put (now (out .entry)) (32 * done) (encode (each flatNodes (broughtAt (now (f .entry)) s (now (rows .entry)) level sub q))))) ⌝ }
 {
-    let right = stmt(f, s, q, 3);
-    if stmt(f, s, q, 0) == 2 {
+    let right = stmt(f, s, q, STMT_RIGHT);
+    if stmt(f, s, q, STMT_KIND) == RATE_KIND {
         return write_tree(f, s, rows, level, right, out, done);
     }
-    let a = write_tree(f, s, rows, level, stmt(f, s, q, 2), out, done);
+    let a = write_tree(f, s, rows, level, stmt(f, s, q, STMT_LEFT), out, done);
     write_tree(f, s, rows, level, right, out, a)
 }
 
@@ -68,7 +79,7 @@ fn write_own(
 pub fn write_nodes(
     f: &[u8],
     s: Sections,
-    calls: &[u8; 256],
+    calls: &[u8; MOST_STMTS],
     rows: &mut [u32],
     k: usize,
     m: usize,
@@ -82,8 +93,8 @@ pub fn write_nodes(
     if k == 0 {
         return done;
     }
-    let first = model(f, s, m, 3);
-    let count = model(f, s, m, 4);
+    let first = model(f, s, m, MODEL_FIRST_STMT);
+    let count = model(f, s, m, MODEL_STMTS);
     let mut total = done;
     let mut i = 0;
     while i < count {
@@ -97,7 +108,7 @@ pub fn write_nodes(
 fn write_stmt_nodes(
     f: &[u8],
     s: Sections,
-    calls: &[u8; 256],
+    calls: &[u8; MOST_STMTS],
     rows: &mut [u32],
     k: usize,
     q: usize,
@@ -108,13 +119,13 @@ fn write_stmt_nodes(
     requires { ⌜ Open (now f) s × Callees (now f) s (now calls) × (q < s .counts .stmts) × ((level + k < 32) × (256 * (level + k + 1) ≤ length (now rows)) × RowsIn (now f) s (now rows)) × ((done + sumOf flatSize (broughtAt (now f) s (now rows) level (λ j. flatten (fileIn (now f) s) k j) q) ≤ 1024) × (32 * (done + sumOf flatSize (broughtAt (now f) s (now rows) level (λ j. flatten (fileIn (now f) s) k j) q)) ≤ length (now out))) ⌝ }
     ensures { λ r. ⌜ (r ≡ done + sumOf flatSize (broughtAt (now (f .entry)) s (now (rows .entry)) level (λ j. flatten (fileIn (now (f .entry)) s) k j) q)) × (now (out .exit) ≡ put (now (out .entry)) (32 * done) (encode (each flatNodes (broughtAt (now (f .entry)) s (now (rows .entry)) level (λ j. flatten (fileIn (now (f .entry)) s) k j) q)))) × RowsKept (now (f .entry)) s level (now (rows .entry)) (now (rows .exit)) ⌝ }
 {
-    if stmt(f, s, q, 0) != 3 {
+    if stmt(f, s, q, STMT_KIND) != SUBMODEL_KIND {
         return write_own(f, s, rows, level, q, out, done);
     }
     let c = calls[q] as usize;
     if (c == 0) | (k == 0) {
         return done;
     }
-    find_replacements(f, s, c - 1, stmt(f, s, q, 3), rows, level);
+    find_replacements(f, s, c - 1, stmt(f, s, q, STMT_RIGHT), rows, level);
     write_nodes(f, s, calls, rows, k, c - 1, level + 1, out, done)
 }

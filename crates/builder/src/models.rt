@@ -10,6 +10,12 @@ ghost use Rattle.definitions.specs.Flatten.{modelNamed};
 ghost use Rattle.definitions.specs.Build.{rootOf};
 ghost use Rattle.builder.specs.Tables.{calleeOf, Callees};
 use super::names::name_text;
+use ast::layout::MODEL_NAME;
+use ast::layout::MOST_STMTS;
+use ast::layout::NODE_NAME;
+use ast::layout::STMT_KIND;
+use ast::layout::STMT_RIGHT;
+use ast::layout::SUBMODEL_KIND;
 use ast::records::model;
 use ast::records::node;
 use ast::records::stmt;
@@ -23,7 +29,7 @@ pub fn find_root(f: &[u8], s: Sections, root: &[u8]) -> usize
 {
     let mut m = 0;
     while m < s.counts.models {
-        if same_bytes(root, name_text(f, s, model(f, s, m, 0))) {
+        if same_bytes(root, name_text(f, s, model(f, s, m, MODEL_NAME))) {
             return m + 1;
         }
         m += 1;
@@ -38,7 +44,7 @@ fn find_model(f: &[u8], s: Sections, name: usize) -> usize
 {
     let mut m = 0;
     while m < s.counts.models {
-        if name == model(f, s, m, 0) {
+        if name == model(f, s, m, MODEL_NAME) {
             return m + 1;
         }
         m += 1;
@@ -51,19 +57,19 @@ fn callee(f: &[u8], s: Sections, q: usize) -> u8
     requires { ⌜ Open (now f) s × (q < s .counts .stmts) ⌝ }
     ensures { λ r. ⌜ r ≡ calleeOf (fileIn (now (f .entry)) s) (stmtOf (contentsIn (now (f .entry)) s .nodes) (getD (contentsIn (now (f .entry)) s .stmts) q [])) ⌝ }
 {
-    if stmt(f, s, q, 0) != 3 {
+    if stmt(f, s, q, STMT_KIND) != SUBMODEL_KIND {
         return 0;
     }
-    let call = stmt(f, s, q, 3);
-    find_model(f, s, node(f, s, call, 1)) as u8
+    let call = stmt(f, s, q, STMT_RIGHT);
+    find_model(f, s, node(f, s, call, NODE_NAME)) as u8
 }
 
 // The same of each statement.
-pub fn callees(f: &[u8], s: Sections) -> [u8; 256]
+pub fn callees(f: &[u8], s: Sections) -> [u8; MOST_STMTS]
     requires { ⌜ Open (now f) s ⌝ }
     ensures { λ r. ⌜ Callees (now (f .entry)) s r ⌝ }
 {
-    let mut out = [0u8; 256];
+    let mut out = [0u8; MOST_STMTS];
     let mut q = 0;
     while q < s.counts.stmts {
         out[q] = callee(f, s, q);

@@ -10,6 +10,9 @@ ghost use Rattle.ast.specs.Opens.{Open, fileIn};
 ghost use Rattle.definitions.specs.Names.{textOf};
 ghost use Rattle.builder.specs.Tables.{deciding, classOf, Classes, ruleNumber, numbered, RuleNumbers};
 ghost use Rattle.builder.specs.Stored.{storedTexts, storedPlaces};
+use ast::layout::MOST_NAMES;
+use ast::layout::NAME_LENGTH;
+use ast::layout::NAME_START;
 use ast::records::name;
 use ast::sections::Sections;
 use functions::Rule;
@@ -29,7 +32,10 @@ const FIRST_BUILT_IN: u8 = 8;
 
 pub const OTHER: u8 = 18;
 
-// The texts that decide something, one after the other, and the places where they begin and end.
+// How many texts decide something.
+const DECIDING: usize = 18;
+
+// Those texts, one after the other, and the places where they begin and end.
 const TEXTS: [u8; 67] = *b"tududtFGinputNonNegativeRsincostanpowexplogsqrtabsinterp1dpiecewise";
 
 const PLACES: [usize; 19] = [
@@ -90,7 +96,7 @@ pub fn class_of(name: &[u8]) -> u8
     let texts = stored_texts();
     let places = stored_places();
     let mut i = 0;
-    while i < 18 {
+    while i < DECIDING {
         if is_text(name, &texts, &places, i) {
             return i as u8;
         }
@@ -122,17 +128,17 @@ pub fn name_text(f: &[u8], s: Sections, n: usize) -> &[u8]
     requires { ⌜ Open (now f) s × (n < s .counts .names) ⌝ }
     ensures { λ r. ⌜ now r ≡ textOf (fileIn (now (f .entry)) s .names) n ⌝ }
 {
-    let from = name(f, s, n, 0);
-    let to = from + name(f, s, n, 1);
+    let from = name(f, s, n, NAME_START);
+    let to = from + name(f, s, n, NAME_LENGTH);
     &f[from..to]
 }
 
 // The class of each name.
-pub fn classes(f: &[u8], s: Sections) -> [u8; 256]
+pub fn classes(f: &[u8], s: Sections) -> [u8; MOST_NAMES]
     requires { ⌜ Open (now f) s ⌝ }
     ensures { λ r. ⌜ Classes (fileIn (now (f .entry)) s .names) r ⌝ }
 {
-    let mut out = [OTHER; 256];
+    let mut out = [OTHER; MOST_NAMES];
     let mut n = 0;
     while n < s.counts.names {
         out[n] = class_of(name_text(f, s, n));
@@ -174,11 +180,11 @@ pub fn numbered_rule(number: u8) -> Rule
 }
 
 // The argument rule of each name, by its number.
-pub fn rules(f: &[u8], s: Sections) -> [u8; 256]
+pub fn rules(f: &[u8], s: Sections) -> [u8; MOST_NAMES]
     requires { ⌜ Open (now f) s ⌝ }
     ensures { λ r. ⌜ RuleNumbers (fileIn (now (f .entry)) s .names) r ⌝ }
 {
-    let mut out = [0u8; 256];
+    let mut out = [0u8; MOST_NAMES];
     let mut n = 0;
     while n < s.counts.names {
         out[n] = rule_number(function_rule(name_text(f, s, n)));

@@ -5,6 +5,8 @@ ghost use lib.ListN.{length, take, drop};
 ghost use lib.Dec.{eqb};
 ghost use Rattle.functions.specs.Lists.{member, times, flag};
 ghost use Rattle.builder.specs.Tables.{lacksIn, lackingIn};
+use area::layout::MOST_VARS;
+use area::layout::WORD;
 
 // Whether a statement from i on, of n ones, has a role.
 pub fn has_role(roles: &[u32], i: usize, n: usize, role: u32) -> bool
@@ -45,7 +47,7 @@ pub fn left_count(roles: &[u32], n: usize) -> usize
 // States, in order.
 pub struct Queue {
     pub count: usize,
-    pub states: [u32; 129],
+    pub states: [u32; MOST_VARS],
 }
 
 fn no_states() -> Queue
@@ -53,7 +55,7 @@ fn no_states() -> Queue
 {
     Queue {
         count: 0,
-        states: [0u32; 129],
+        states: [0u32; MOST_VARS],
     }
 }
 
@@ -62,7 +64,7 @@ fn lacks(roles: &[u32], n: usize, starts: &[u32], v: usize) -> bool
     requires { ⌜ (n ≤ length (now roles)) × (v < 129) × (v + 1 < length (now starts)) ⌝ }
     ensures { λ r. ⌜ r ≡ lacksIn (take n (now (roles .entry))) (now (starts .entry)) v ⌝ }
 {
-    let role = ((2 * v + 2) % 4294967296) as u32;
+    let role = ((2 * v + 2) % WORD) as u32;
     (starts[v] < starts[v + 1]) & !has_role(roles, 0, n, role)
 }
 
@@ -76,7 +78,7 @@ pub fn lacking(roles: &[u32], n: usize, starts: &[u32], vars: usize) -> Queue
     while v < vars {
         if lacks(roles, n, starts, v) {
             let at = q.count;
-            q.states[at] = (v % 4294967296) as u32;
+            q.states[at] = (v % WORD) as u32;
             q.count = at + 1;
         }
         v += 1;

@@ -12,14 +12,30 @@ ghost use Rattle.ast.specs.Opens.{Open, contentsIn, fileIn};
 ghost use Rattle.definitions.specs.Flatten as flatten;
 ghost use Rattle.builder.specs.Tables.{Classes, Callees, Reaching};
 ghost use Rattle.builder.specs.Rounds.{onward, Added, Stepped};
-use super::names::is_reserved;
-use super::names::is_time;
+use ast::layout::MODEL_FIRST_STMT;
+use ast::layout::MODEL_FIRST_UNKNOWN;
+use ast::layout::MODEL_STMTS;
+use ast::layout::MODEL_UNKNOWNS;
+use ast::layout::MOST_MODELS;
+use ast::layout::MOST_NAMES;
+use ast::layout::MOST_STMTS;
+use ast::layout::NODE_NAME;
+use ast::layout::NODE_OP;
+use ast::layout::NODE_SIZE;
+use ast::layout::STMT_RIGHT;
+use ast::layout::UNKNOWN_DEPS;
+use ast::layout::UNKNOWN_FIRST_DEP;
+use ast::layout::UNKNOWN_NAME;
 use ast::records::dep;
 use ast::records::model;
 use ast::records::node;
 use ast::records::stmt;
 use ast::records::unknown;
 use ast::sections::Sections;
+use super::names::is_reserved;
+use super::names::is_time;
+use super::numbers::MODEL_PAIRS;
+use super::numbers::NEXT_DIAGONAL;
 
 // 1 where y is 1, else x.
 fn either(x: u8, y: u8) -> u8
@@ -35,17 +51,17 @@ fn add_reached(old: &[u8], models: usize, c: usize, new: &mut [u8], a: usize)
 {
     let mut b = 0;
     while b < models {
-        new[32 * a + b] = either(new[32 * a + b], old[32 * c + b]);
+        new[MOST_MODELS * a + b] = either(new[MOST_MODELS * a + b], old[MOST_MODELS * c + b]);
         b += 1;
     }
-    new[32 * a + c] = 1;
+    new[MOST_MODELS * a + c] = 1;
 }
 
 // The same for the model that statement q calls, if it calls one.
 fn add_called(
     f: &[u8],
     s: Sections,
-    calls: &[u8; 256],
+    calls: &[u8; MOST_STMTS],
     old: &[u8],
     q: usize,
     new: &mut [u8],
@@ -62,12 +78,12 @@ fn add_called(
 }
 
 // Row a of the next table: what model a's statements add.
-fn reach_row(f: &[u8], s: Sections, calls: &[u8; 256], old: &[u8], a: usize, new: &mut [u8])
+fn reach_row(f: &[u8], s: Sections, calls: &[u8; MOST_STMTS], old: &[u8], a: usize, new: &mut [u8])
     requires { ⌜ Open (now f) s × Callees (now f) s (now calls) × (length (now old) ≡ 1024) × (a < s .counts .models) × Stepped (fileIn (now f) s) (s .counts .models) (now old) a (now new) ⌝ }
     ensures { λ _. ⌜ Stepped (fileIn (now (f .entry)) s) (s .counts .models) (now (old .entry)) (a + 1) (now (new .exit)) ⌝ }
 {
-    let first = model(f, s, a, 3);
-    let count = model(f, s, a, 4);
+    let first = model(f, s, a, MODEL_FIRST_STMT);
+    let count = model(f, s, a, MODEL_STMTS);
     let mut i = 0;
     while i < count {
         add_called(f, s, calls, old, first + i, new, a);
@@ -76,11 +92,11 @@ fn reach_row(f: &[u8], s: Sections, calls: &[u8; 256], old: &[u8], a: usize, new
 }
 
 // The next table: one step more.
-fn reach_round(f: &[u8], s: Sections, calls: &[u8; 256], old: &[u8]) -> [u8; 1024]
+fn reach_round(f: &[u8], s: Sections, calls: &[u8; MOST_STMTS], old: &[u8]) -> [u8; MODEL_PAIRS]
     requires { ⌜ Open (now f) s × Callees (now f) s (now calls) × (length (now old) ≡ 1024) ⌝ }
     ensures { λ r. ⌜ Stepped (fileIn (now (f .entry)) s) (s .counts .models) (now (old .entry)) (s .counts .models) r ⌝ }
 {
-    let mut new = [0u8; 1024];
+    let mut new = [0u8; MODEL_PAIRS];
     let mut a = 0;
     while a < s.counts.models {
         reach_row(f, s, calls, old, a, &mut new);
@@ -90,11 +106,11 @@ fn reach_round(f: &[u8], s: Sections, calls: &[u8; 256], old: &[u8]) -> [u8; 102
 }
 
 // Whether model b is reached from model a, at 32 a + b.
-pub fn reach(f: &[u8], s: Sections, calls: &[u8; 256]) -> [u8; 1024]
+pub fn reach(f: &[u8], s: Sections, calls: &[u8; MOST_STMTS]) -> [u8; MODEL_PAIRS]
     requires { ⌜ Open (now f) s × Callees (now f) s (now calls) ⌝ }
     ensures { λ r. ⌜ Reaching (fileIn (now (f .entry)) s) (s .counts .models) (s .counts .models) r ⌝ }
 {
-    let mut table = [0u8; 1024];
+    let mut table = [0u8; MODEL_PAIRS];
     let mut k = 0;
     while k < s.counts.models {
         let next = reach_round(f, s, calls, &table);
@@ -105,21 +121,21 @@ pub fn reach(f: &[u8], s: Sections, calls: &[u8; 256]) -> [u8; 1024]
 }
 
 // Whether model m is the root or reached from it.
-fn is_reached(f: &[u8], s: Sections, table: &[u8; 1024], root: usize, m: usize) -> bool
+fn is_reached(f: &[u8], s: Sections, table: &[u8; MODEL_PAIRS], root: usize, m: usize) -> bool
     requires { ⌜ Open (now f) s × Reaching (fileIn (now f) s) (s .counts .models) (s .counts .models) (now table) × (root < s .counts .models) × (m < s .counts .models) ⌝ }
     ensures { λ r. ⌜ r ≡ (eqb m root || flatten.reached (fileIn (now (f .entry)) s) root m) ⌝ }
 {
-    (m == root) | (table[32 * root + m] == 1)
+    (m == root) | (table[MOST_MODELS * root + m] == 1)
 }
 
 // Refusal 6: a model is reached from itself.
-pub fn cyclic(f: &[u8], s: Sections, table: &[u8; 1024], root: usize) -> bool
+pub fn cyclic(f: &[u8], s: Sections, table: &[u8; MODEL_PAIRS], root: usize) -> bool
     requires { ⌜ Open (now f) s × Reaching (fileIn (now f) s) (s .counts .models) (s .counts .models) (now table) × (root < s .counts .models) ⌝ }
     ensures { λ r. ⌜ r ≡ flatten.cyclic (fileIn (now (f .entry)) s) root ⌝ }
 {
     let mut m = s.counts.models;
     while 0 < m {
-        if is_reached(f, s, table, root, m - 1) & (table[33 * (m - 1)] == 1) {
+        if is_reached(f, s, table, root, m - 1) & (table[NEXT_DIAGONAL * (m - 1)] == 1) {
             return true;
         }
         m -= 1;
@@ -143,23 +159,29 @@ fn lists(f: &[u8], s: Sections, first: usize, count: usize, name: usize) -> bool
 }
 
 // Whether unknown u, t or unreserved, lists itself.
-fn lists_itself(f: &[u8], s: Sections, classes: &[u8; 256], u: usize) -> bool
+fn lists_itself(f: &[u8], s: Sections, classes: &[u8; MOST_NAMES], u: usize) -> bool
     requires { ⌜ Open (now f) s × Classes (fileIn (now f) s .names) (now classes) × (u < s .counts .unknowns) ⌝ }
     ensures { λ r. ⌜ r ≡ flatten.listsItself (fileIn (now (f .entry)) s) (unknownOf (contentsIn (now (f .entry)) s .deps) (getD (contentsIn (now (f .entry)) s .unknowns) u [])) ⌝ }
 {
-    let name = unknown(f, s, u, 0);
+    let name = unknown(f, s, u, UNKNOWN_NAME);
     let class = classes[name];
     (is_time(class) | !is_reserved(class))
-        & lists(f, s, unknown(f, s, u, 1), unknown(f, s, u, 2), name)
+        & lists(
+            f,
+            s,
+            unknown(f, s, u, UNKNOWN_FIRST_DEP),
+            unknown(f, s, u, UNKNOWN_DEPS),
+            name,
+        )
 }
 
 // Whether an unknown of model m does.
-fn model_lists_itself(f: &[u8], s: Sections, classes: &[u8; 256], m: usize) -> bool
+fn model_lists_itself(f: &[u8], s: Sections, classes: &[u8; MOST_NAMES], m: usize) -> bool
     requires { ⌜ Open (now f) s × Classes (fileIn (now f) s .names) (now classes) × (m < s .counts .models) ⌝ }
     ensures { λ r. ⌜ r ≡ any (flatten.listsItself (fileIn (now (f .entry)) s)) (flatten.modelAt (fileIn (now (f .entry)) s) m .unknowns) ⌝ }
 {
-    let first = model(f, s, m, 1);
-    let count = model(f, s, m, 2);
+    let first = model(f, s, m, MODEL_FIRST_UNKNOWN);
+    let count = model(f, s, m, MODEL_UNKNOWNS);
     let mut i = 0;
     while i < count {
         if lists_itself(f, s, classes, first + i) {
@@ -174,8 +196,8 @@ fn model_lists_itself(f: &[u8], s: Sections, classes: &[u8; 256], m: usize) -> b
 pub fn self_listed(
     f: &[u8],
     s: Sections,
-    classes: &[u8; 256],
-    table: &[u8; 1024],
+    classes: &[u8; MOST_NAMES],
+    table: &[u8; MODEL_PAIRS],
     root: usize,
 ) -> bool
     requires { ⌜ Open (now f) s × Classes (fileIn (now f) s .names) (now classes) × Reaching (fileIn (now f) s) (s .counts .models) (s .counts .models) (now table) × (root < s .counts .models) ⌝ }
@@ -197,19 +219,19 @@ fn beyond(f: &[u8], s: Sections, call: usize, n: usize) -> bool
     ensures { λ r. ⌜ r ≡ flatten.argsBeyond n (argsBefore (contentsIn (now (f .entry)) s .nodes) call (opAt (contentsIn (now (f .entry)) s .nodes) call) (sizeAt (contentsIn (now (f .entry)) s .nodes) call - 1)) ⌝ }
 {
     let mut end = call;
-    let mut left = node(f, s, call, 2);
+    let mut left = node(f, s, call, NODE_OP);
     while 0 < left {
         left -= 1;
-        if (node(f, s, end - 1, 1) == 0) & (n <= left) {
+        if (node(f, s, end - 1, NODE_NAME) == 0) & (n <= left) {
             return true;
         }
-        end -= node(f, s, end - 1, 3);
+        end -= node(f, s, end - 1, NODE_SIZE);
     }
     false
 }
 
 // Whether statement q calls a model with a positional argument whose number is not below the model's count of unknowns.
-fn too_many(f: &[u8], s: Sections, calls: &[u8; 256], q: usize) -> bool
+fn too_many(f: &[u8], s: Sections, calls: &[u8; MOST_STMTS], q: usize) -> bool
     requires { ⌜ Open (now f) s × Callees (now f) s (now calls) × (q < s .counts .stmts) ⌝ }
     ensures { λ r. ⌜ r ≡ flatten.stmtBeyond (fileIn (now (f .entry)) s) (stmtOf (contentsIn (now (f .entry)) s .nodes) (getD (contentsIn (now (f .entry)) s .stmts) q [])) ⌝ }
 {
@@ -217,16 +239,21 @@ fn too_many(f: &[u8], s: Sections, calls: &[u8; 256], q: usize) -> bool
     if c == 0 {
         return false;
     }
-    beyond(f, s, stmt(f, s, q, 3), model(f, s, c - 1, 2))
+    beyond(
+        f,
+        s,
+        stmt(f, s, q, STMT_RIGHT),
+        model(f, s, c - 1, MODEL_UNKNOWNS),
+    )
 }
 
 // Whether a statement of model m does.
-fn model_too_many(f: &[u8], s: Sections, calls: &[u8; 256], m: usize) -> bool
+fn model_too_many(f: &[u8], s: Sections, calls: &[u8; MOST_STMTS], m: usize) -> bool
     requires { ⌜ Open (now f) s × Callees (now f) s (now calls) × (m < s .counts .models) ⌝ }
     ensures { λ r. ⌜ r ≡ any (flatten.stmtBeyond (fileIn (now (f .entry)) s)) (flatten.modelAt (fileIn (now (f .entry)) s) m .stmts) ⌝ }
 {
-    let first = model(f, s, m, 3);
-    let count = model(f, s, m, 4);
+    let first = model(f, s, m, MODEL_FIRST_STMT);
+    let count = model(f, s, m, MODEL_STMTS);
     let mut i = 0;
     while i < count {
         if too_many(f, s, calls, first + i) {
@@ -238,7 +265,13 @@ fn model_too_many(f: &[u8], s: Sections, calls: &[u8; 256], m: usize) -> bool
 }
 
 // Refusal 8: a positional argument whose number is not below the model's count of unknowns.
-pub fn overfull(f: &[u8], s: Sections, calls: &[u8; 256], table: &[u8; 1024], root: usize) -> bool
+pub fn overfull(
+    f: &[u8],
+    s: Sections,
+    calls: &[u8; MOST_STMTS],
+    table: &[u8; MODEL_PAIRS],
+    root: usize,
+) -> bool
     requires { ⌜ Open (now f) s × Callees (now f) s (now calls) × Reaching (fileIn (now f) s) (s .counts .models) (s .counts .models) (now table) × (root < s .counts .models) ⌝ }
     ensures { λ r. ⌜ r ≡ flatten.overfull (fileIn (now (f .entry)) s) root ⌝ }
 {

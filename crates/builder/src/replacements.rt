@@ -12,6 +12,13 @@ ghost use Rattle.ast.specs.Opens.{Open, contentsIn, fileIn};
 ghost use Rattle.definitions.specs.Flatten.{replacedName, modelAt};
 ghost use Rattle.builder.specs.Descent.{replacedBy, RowsIn, RowsKept};
 ghost use Rattle.builder.specs.Overlay.{over, replacing};
+use ast::layout::MODEL_FIRST_UNKNOWN;
+use ast::layout::MODEL_UNKNOWNS;
+use ast::layout::MOST_NAMES;
+use ast::layout::NODE_NAME;
+use ast::layout::NODE_OP;
+use ast::layout::NODE_SIZE;
+use ast::layout::UNKNOWN_NAME;
 use ast::records::model;
 use ast::records::node;
 use ast::records::unknown;
@@ -25,8 +32,8 @@ fn target(f: &[u8], s: Sections, m: usize, i: usize, keyword: usize) -> usize
     if keyword != 0 {
         return keyword;
     }
-    if i < model(f, s, m, 2) {
-        return unknown(f, s, model(f, s, m, 1) + i, 0) + 1;
+    if i < model(f, s, m, MODEL_UNKNOWNS) {
+        return unknown(f, s, model(f, s, m, MODEL_FIRST_UNKNOWN) + i, UNKNOWN_NAME) + 1;
     }
     0
 }
@@ -58,7 +65,7 @@ fn note_argument(f: &[u8], s: Sections, m: usize, i: usize, end: usize, row: &mu
     requires { ⌜ Open (now f) s × (m < s .counts .models) × ((1 ≤ end) × (end ≤ s .counts .nodes) × (kindAt (contentsIn (now f) s .nodes) (end - 1) ≡ 6)) × ((length (now row) ≡ 256) × RowsIn (now f) s (now row)) ⌝ }
     ensures { λ _. ⌜ (length (now (row .exit)) ≡ 256) × RowsIn (now (f .entry)) s (now (row .exit)) × ((by : Replacements) (n : ℕ) → over (contentsIn (now (f .entry)) s .nodes) (now (row .exit)) by n ≡ over (contentsIn (now (f .entry)) s .nodes) (now (row .entry)) (replacing (replacedName (modelAt (fileIn (now (f .entry)) s) m .unknowns) i (nameAt (contentsIn (now (f .entry)) s .nodes) (end - 1))) (treeAt (contentsIn (now (f .entry)) s .nodes) (end - 1 - 1)) by) n) ⌝ }
 {
-    let name = target(f, s, m, i, node(f, s, end - 1, 1));
+    let name = target(f, s, m, i, node(f, s, end - 1, NODE_NAME));
     if name != 0 {
         set_free(row, name - 1, (end - 1) as u32);
     }
@@ -70,11 +77,11 @@ fn fill_row(f: &[u8], s: Sections, m: usize, call: usize, row: &mut [u32])
     ensures { λ _. ⌜ (length (now (row .exit)) ≡ 256) × RowsIn (now (f .entry)) s (now (row .exit)) × ((n : ℕ) → byTable (contentsIn (now (f .entry)) s .nodes) (now (row .exit)) n ≡ replacedBy (now (f .entry)) s m call n) ⌝ }
 {
     let mut end = call;
-    let mut left = node(f, s, call, 2);
+    let mut left = node(f, s, call, NODE_OP);
     while 0 < left {
         left -= 1;
         note_argument(f, s, m, left, end, row);
-        end -= node(f, s, end - 1, 3);
+        end -= node(f, s, end - 1, NODE_SIZE);
     }
 }
 
@@ -99,7 +106,7 @@ pub fn find_replacements(
     requires { ⌜ Open (now f) s × (m < s .counts .models) × ((call < s .counts .nodes) × (kindAt (contentsIn (now f) s .nodes) call ≡ 5)) × ((level < 32) × (256 * (level + 1) ≤ length (now rows)) × RowsIn (now f) s (now rows)) ⌝ }
     ensures { λ _. ⌜ RowsKept (now (f .entry)) s level (now (rows .entry)) (now (rows .exit)) × ((n : ℕ) → byTable (contentsIn (now (f .entry)) s .nodes) (take 256 (drop (256 * level) (now (rows .exit)))) n ≡ replacedBy (now (f .entry)) s m call n) ⌝ }
 {
-    let from = 256 * level;
-    let to = from + 256;
+    let from = MOST_NAMES * level;
+    let to = from + MOST_NAMES;
     new_row(f, s, m, call, &mut rows[from..to]);
 }

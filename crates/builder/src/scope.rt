@@ -16,6 +16,12 @@ ghost use Rattle.builder.specs.Tables.{Classes, VarsOf, Marks, keptIn};
 ghost use Rattle.builder.specs.Checking.{scopeIn, keptNames, unknownIn, Scoped};
 use super::names::is_reserved;
 use super::names::is_time;
+use ast::layout::MODEL_FIRST_UNKNOWN;
+use ast::layout::MODEL_UNKNOWNS;
+use ast::layout::MOST_NAMES;
+use ast::layout::UNKNOWN_DEPS;
+use ast::layout::UNKNOWN_FIRST_DEP;
+use ast::layout::UNKNOWN_NAME;
 use ast::records::dep;
 use ast::records::model;
 use ast::records::unknown;
@@ -26,8 +32,8 @@ fn names_dep(f: &[u8], s: Sections, u: usize, name: usize) -> bool
     requires { ⌜ Open (now f) s × (u < s .counts .unknowns) ⌝ }
     ensures { λ r. ⌜ r ≡ member name (unknownOf (contentsIn (now (f .entry)) s .deps) (getD (contentsIn (now (f .entry)) s .unknowns) u []) .deps) ⌝ }
 {
-    let first = unknown(f, s, u, 1);
-    let count = unknown(f, s, u, 2);
+    let first = unknown(f, s, u, UNKNOWN_FIRST_DEP);
+    let count = unknown(f, s, u, UNKNOWN_DEPS);
     let mut i = 0;
     while i < count {
         if dep(f, s, first + i) == name {
@@ -42,7 +48,7 @@ fn names_dep(f: &[u8], s: Sections, u: usize, name: usize) -> bool
 pub fn is_dep_of(
     f: &[u8],
     s: Sections,
-    vars: &[u32; 256],
+    vars: &[u32; MOST_NAMES],
     m: usize,
     variable: usize,
     name: usize,
@@ -53,11 +59,11 @@ pub fn is_dep_of(
     if vars[name] == 0 {
         return false;
     }
-    let first = model(f, s, m, 1);
-    let count = model(f, s, m, 2);
+    let first = model(f, s, m, MODEL_FIRST_UNKNOWN);
+    let count = model(f, s, m, MODEL_UNKNOWNS);
     let mut i = 0;
     while i < count {
-        if (unknown(f, s, first + i, 0) == variable) & names_dep(f, s, first + i, name) {
+        if (unknown(f, s, first + i, UNKNOWN_NAME) == variable) & names_dep(f, s, first + i, name) {
             return true;
         }
         i += 1;
@@ -66,7 +72,7 @@ pub fn is_dep_of(
 }
 
 // The number, plus 1, of the first name that is t, or 0.
-fn time_name(f: &[u8], s: Sections, classes: &[u8; 256]) -> usize
+fn time_name(f: &[u8], s: Sections, classes: &[u8; MOST_NAMES]) -> usize
     requires { ⌜ Open (now f) s × Classes (fileIn (now f) s .names) (now classes) ⌝ }
     ensures { λ r. ⌜ r ≡ timeName (fileIn (now (f .entry)) s .names) ⌝ }
 {
@@ -81,14 +87,14 @@ fn time_name(f: &[u8], s: Sections, classes: &[u8; 256]) -> usize
 }
 
 // A table without marks.
-pub fn no_marks() -> [u32; 256]
+pub fn no_marks() -> [u32; MOST_NAMES]
     ensures { λ r. ⌜ (length r ≡ 256) × ((n : ℕ) → getD r n 0 ≡ 0) ⌝ }
 {
-    [0u32; 256]
+    [0u32; MOST_NAMES]
 }
 
 // Marks t's name, in a table without marks.
-fn time_declared(f: &[u8], s: Sections, classes: &[u8; 256], out: &mut [u32])
+fn time_declared(f: &[u8], s: Sections, classes: &[u8; MOST_NAMES], out: &mut [u32])
     requires { ⌜ Open (now f) s × Classes (fileIn (now f) s .names) (now classes) × ((length (now out) ≡ 256) × ((n : ℕ) → getD (now out) n 0 ≡ 0)) ⌝ }
     ensures { λ _. ⌜ Marks (s .counts .names) (timeName (fileIn (now (f .entry)) s .names) ∷ []) (now (out .exit)) ⌝ }
 {
@@ -106,16 +112,16 @@ fn marked(old: u32, reserved: bool) -> u32
 }
 
 // Marks the variables of model m, in a table without marks: t, and each unreserved unknown's name.
-fn declared(f: &[u8], s: Sections, classes: &[u8; 256], m: usize, out: &mut [u32])
+fn declared(f: &[u8], s: Sections, classes: &[u8; MOST_NAMES], m: usize, out: &mut [u32])
     requires { ⌜ Open (now f) s × Classes (fileIn (now f) s .names) (now classes) × (m < s .counts .models) × ((length (now out) ≡ 256) × ((n : ℕ) → getD (now out) n 0 ≡ 0)) ⌝ }
     ensures { λ _. ⌜ Marks (s .counts .names) (variableNames (fileIn (now (f .entry)) s .names) (modelAt (fileIn (now (f .entry)) s) m .unknowns)) (now (out .exit)) ⌝ }
 {
     time_declared(f, s, classes, out);
-    let first = model(f, s, m, 1);
-    let count = model(f, s, m, 2);
+    let first = model(f, s, m, MODEL_FIRST_UNKNOWN);
+    let count = model(f, s, m, MODEL_UNKNOWNS);
     let mut i = 0;
     while i < count {
-        let name = unknown(f, s, first + i, 0);
+        let name = unknown(f, s, first + i, UNKNOWN_NAME);
         out[name] = marked(out[name], is_reserved(classes[name]));
         i += 1;
     }
@@ -133,8 +139,8 @@ fn kept_count(f: &[u8], s: Sections, vars: &[u32], u: usize) -> u32
     requires { ⌜ Open (now f) s × (u < s .counts .unknowns) × (length (now vars) ≡ 256) ⌝ }
     ensures { λ r. ⌜ (r ≡ keptIn (now (vars .entry)) (unknownIn (now (f .entry)) s u .deps)) × (r ≤ 1024) ⌝ }
 {
-    let first = unknown(f, s, u, 1);
-    let count = unknown(f, s, u, 2);
+    let first = unknown(f, s, u, UNKNOWN_FIRST_DEP);
+    let count = unknown(f, s, u, UNKNOWN_DEPS);
     let mut total: u32 = 0;
     let mut i = 0;
     while i < count {
@@ -156,16 +162,16 @@ fn raised(entry: u32, kept: u32) -> u32
 }
 
 // Notes the variables of model m by name, in a table without marks: 0 where a name is none, else 1 plus the count of its kept dependents.
-pub fn model_vars(f: &[u8], s: Sections, classes: &[u8; 256], m: usize, out: &mut [u32])
+pub fn model_vars(f: &[u8], s: Sections, classes: &[u8; MOST_NAMES], m: usize, out: &mut [u32])
     requires { ⌜ Open (now f) s × (m < s .counts .models) × Classes (fileIn (now f) s .names) (now classes) × (length (now out) ≡ 256) × ((n : ℕ) → getD (now out) n 0 ≡ 0) ⌝ }
     ensures { λ _. ⌜ VarsOf (scopeIn (now (f .entry)) s m) (now (out .exit)) × (length (now (out .exit)) ≡ 256) ⌝ }
 {
     declared(f, s, classes, m, out);
-    let first = model(f, s, m, 1);
-    let count = model(f, s, m, 2);
+    let first = model(f, s, m, MODEL_FIRST_UNKNOWN);
+    let count = model(f, s, m, MODEL_UNKNOWNS);
     let mut i = 0;
     while i < count {
-        let name = unknown(f, s, first + i, 0);
+        let name = unknown(f, s, first + i, UNKNOWN_NAME);
         let kept = kept_count(f, s, out, first + i);
         out[name] = raised(out[name], kept);
         i += 1;

@@ -13,19 +13,28 @@ ghost use Rattle.definitions.specs.Flatten as Flatten;
 ghost use Rattle.builder.specs.Tables.{Callees};
 ghost use Rattle.builder.specs.Descent.{flatAt, broughtAt, RowsIn, RowsKept};
 use super::replacements::find_replacements;
+use ast::layout::MODEL_FIRST_STMT;
+use ast::layout::MODEL_STMTS;
+use ast::layout::MOST_STMTS;
+use ast::layout::RATE_KIND;
+use ast::layout::STMT_KIND;
+use ast::layout::STMT_LEFT;
+use ast::layout::STMT_RIGHT;
+use ast::layout::SUBMODEL_KIND;
 use ast::records::model;
 use ast::records::stmt;
 use ast::sections::Sections;
 use ast::subst::measure_expr;
 
-pub const MOST_INSTANCES: usize = 1024;
-
-pub const MOST_STMTS: usize = 256;
-
-pub const MOST_NODES: usize = 1024;
-
 // The instances of model m, to a depth of k models, at most `most`: 1 for itself plus those of each submodel statement.
-pub fn instances(f: &[u8], s: Sections, calls: &[u8; 256], k: usize, m: usize, most: usize) -> usize
+pub fn instances(
+    f: &[u8],
+    s: Sections,
+    calls: &[u8; MOST_STMTS],
+    k: usize,
+    m: usize,
+    most: usize,
+) -> usize
     requires { ⌜ Open (now f) s × Callees (now f) s (now calls) × (m < s .counts .models) × (k ≤ 32) × (most ≤ 4096) ⌝ }
     ensures { λ r. ⌜ r ≡ atMost most (Flatten.instances (fileIn (now (f .entry)) s) k m) ⌝ }
 {
@@ -35,8 +44,8 @@ pub fn instances(f: &[u8], s: Sections, calls: &[u8; 256], k: usize, m: usize, m
     if most == 0 {
         return 0;
     }
-    let first = model(f, s, m, 3);
-    let count = model(f, s, m, 4);
+    let first = model(f, s, m, MODEL_FIRST_STMT);
+    let count = model(f, s, m, MODEL_STMTS);
     let mut total = 1;
     let mut i = 0;
     while i < count {
@@ -50,7 +59,7 @@ pub fn instances(f: &[u8], s: Sections, calls: &[u8; 256], k: usize, m: usize, m
 fn stmt_instances(
     f: &[u8],
     s: Sections,
-    calls: &[u8; 256],
+    calls: &[u8; MOST_STMTS],
     k: usize,
     q: usize,
     most: usize,
@@ -69,7 +78,7 @@ fn stmt_instances(
 pub fn flat_stmts(
     f: &[u8],
     s: Sections,
-    calls: &[u8; 256],
+    calls: &[u8; MOST_STMTS],
     k: usize,
     m: usize,
     most: usize,
@@ -80,8 +89,8 @@ pub fn flat_stmts(
     if k == 0 {
         return 0;
     }
-    let first = model(f, s, m, 3);
-    let count = model(f, s, m, 4);
+    let first = model(f, s, m, MODEL_FIRST_STMT);
+    let count = model(f, s, m, MODEL_STMTS);
     let mut total = 0;
     let mut i = 0;
     while i < count {
@@ -92,14 +101,21 @@ pub fn flat_stmts(
 }
 
 // Those that statement q brings in: itself, or those of the model that it calls. It stops as soon as `most` is used up.
-fn stmt_stmts(f: &[u8], s: Sections, calls: &[u8; 256], k: usize, q: usize, most: usize) -> usize
+fn stmt_stmts(
+    f: &[u8],
+    s: Sections,
+    calls: &[u8; MOST_STMTS],
+    k: usize,
+    q: usize,
+    most: usize,
+) -> usize
     requires { ⌜ Open (now f) s × Callees (now f) s (now calls) × (q < s .counts .stmts) × (k ≤ 32) × (most ≤ 4096) ⌝ }
     ensures { λ r. ⌜ r ≡ atMost most (length (Flatten.stmtFlats (fileIn (now (f .entry)) s) (λ j. Flatten.flatten (fileIn (now (f .entry)) s) k j) (stmtOf (contentsIn (now (f .entry)) s .nodes) (getD (contentsIn (now (f .entry)) s .stmts) q [])))) ⌝ }
 {
     if most == 0 {
         return 0;
     }
-    if stmt(f, s, q, 0) != 3 {
+    if stmt(f, s, q, STMT_KIND) != SUBMODEL_KIND {
         return 1;
     }
     let c = calls[q] as usize;
@@ -116,11 +132,11 @@ fn own_nodes(f: &[u8], s: Sections, rows: &[u32], level: usize, q: usize, most: 
 {
     let at = s.starts.nodes;
     let n = s.counts.nodes;
-    let right = stmt(f, s, q, 3);
-    if stmt(f, s, q, 0) == 2 {
+    let right = stmt(f, s, q, STMT_RIGHT);
+    if stmt(f, s, q, STMT_KIND) == RATE_KIND {
         return measure_expr(f, at, n, rows, level, right, most);
     }
-    let a = measure_expr(f, at, n, rows, level, stmt(f, s, q, 2), most);
+    let a = measure_expr(f, at, n, rows, level, stmt(f, s, q, STMT_LEFT), most);
     a + measure_expr(f, at, n, rows, level, right, most - a)
 }
 
@@ -128,7 +144,7 @@ fn own_nodes(f: &[u8], s: Sections, rows: &[u32], level: usize, q: usize, most: 
 pub fn flat_nodes(
     f: &[u8],
     s: Sections,
-    calls: &[u8; 256],
+    calls: &[u8; MOST_STMTS],
     rows: &mut [u32],
     k: usize,
     m: usize,
@@ -141,8 +157,8 @@ pub fn flat_nodes(
     if k == 0 {
         return 0;
     }
-    let first = model(f, s, m, 3);
-    let count = model(f, s, m, 4);
+    let first = model(f, s, m, MODEL_FIRST_STMT);
+    let count = model(f, s, m, MODEL_STMTS);
     let mut total = 0;
     let mut i = 0;
     while i < count {
@@ -156,7 +172,7 @@ pub fn flat_nodes(
 fn stmt_nodes(
     f: &[u8],
     s: Sections,
-    calls: &[u8; 256],
+    calls: &[u8; MOST_STMTS],
     rows: &mut [u32],
     k: usize,
     q: usize,
@@ -166,13 +182,13 @@ fn stmt_nodes(
     requires { ⌜ Open (now f) s × Callees (now f) s (now calls) × (q < s .counts .stmts) × ((level + k < 32) × (256 * (level + k + 1) ≤ length (now rows)) × RowsIn (now f) s (now rows)) ⌝ }
     ensures { λ r. ⌜ (r ≡ atMost most (sumOf flatSize (broughtAt (now (f .entry)) s (now (rows .entry)) level (λ j. Flatten.flatten (fileIn (now (f .entry)) s) k j) q))) × RowsKept (now (f .entry)) s level (now (rows .entry)) (now (rows .exit)) ⌝ }
 {
-    if stmt(f, s, q, 0) != 3 {
+    if stmt(f, s, q, STMT_KIND) != SUBMODEL_KIND {
         return own_nodes(f, s, rows, level, q, most);
     }
     let c = calls[q] as usize;
     if (c == 0) | (k == 0) {
         return 0;
     }
-    find_replacements(f, s, c - 1, stmt(f, s, q, 3), rows, level);
+    find_replacements(f, s, c - 1, stmt(f, s, q, STMT_RIGHT), rows, level);
     flat_nodes(f, s, calls, rows, k, c - 1, level + 1, most)
 }

@@ -7,14 +7,27 @@ ghost use Rattle.definitions.specs.Numbers.{algebraicInitialCondition};
 ghost use Rattle.definitions.specs.Variables.{error};
 ghost use Rattle.definitions.specs.Flatten.{modelAt};
 ghost use Rattle.definitions.specs.Allocate.{countErrors};
-ghost use Rattle.builder.specs.Places.{Small, errorsAt};
-ghost use Rattle.builder.specs.Allocating.{areaNodes, areaStmts, ListsAt};
+ghost use Rattle.area.specs.Sections.{Small, errorsAt, areaNodes, areaStmts};
+ghost use Rattle.builder.specs.Allocating.{ListsAt};
 ghost use Rattle.builder.specs.Starting.{Righted, rightSpanIn, heldErrorsIn, startingIn};
 use super::allocate::list_error;
 use super::fated::no_fates;
 use super::fated::note_fates;
-use super::fated::stmt_of;
-use super::places::Sizes;
+use super::numbers::ALGEBRAIC_INITIAL_CONDITION;
+use super::numbers::NO_INITIAL_CONDITION;
+use super::numbers::OVERDETERMINED;
+use super::numbers::UNDERDETERMINED;
+use area::layout::HEADER_BYTES;
+use area::records::stmt_of;
+use area::sections::Sizes;
+use ast::layout::MODEL_FROM;
+use ast::layout::MODEL_TO;
+use ast::layout::NODE_FROM;
+use ast::layout::NODE_TO;
+use ast::layout::NODE_WORDS;
+use ast::layout::RATE_KIND;
+use ast::layout::STMT_KIND;
+use ast::layout::STMT_RIGHT;
 use ast::records::model;
 use ast::sections::Sections;
 use ast::sections::record_word;
@@ -33,8 +46,8 @@ fn model_error(
     requires { ⌜ Open (now f) s × (m < s .counts .models) × Small z × (errorsAt z + 4096 ≤ length (now area)) × (count < 2 ^ 40) ⌝ }
     ensures { λ r. ⌜ ListsAt (errorsAt z) (now (area .entry)) count (error kind (modelAt (fileIn (now (f .entry)) s) m .span) name ∷ []) r (now (area .exit)) ⌝ }
 {
-    let from = model(f, s, m, 5) as u32;
-    let to = model(f, s, m, 6) as u32;
+    let from = model(f, s, m, MODEL_FROM) as u32;
+    let to = model(f, s, m, MODEL_TO) as u32;
     list_error(area, z, count, kind, from, to, name)
 }
 
@@ -56,9 +69,9 @@ pub fn count_errors(
         return count;
     }
     if left < states {
-        return model_error(f, s, m, area, z, 14, 0, count);
+        return model_error(f, s, m, area, z, UNDERDETERMINED, 0, count);
     }
-    model_error(f, s, m, area, z, 15, 0, count)
+    model_error(f, s, m, area, z, OVERDETERMINED, 0, count)
 }
 
 // Error 17, at the right side of statement i.
@@ -66,10 +79,10 @@ fn condition_error(area: &mut [u8], z: Sizes, i: usize, name: u32, count: usize)
     requires { ⌜ Righted (now area) z × (i < z .stmts) × (count < 2 ^ 40) ⌝ }
     ensures { λ r. ⌜ ListsAt (errorsAt z) (now (area .entry)) count (error algebraicInitialCondition (rightSpanIn (areaNodes (now (area .entry)) z) (areaStmts (now (area .entry)) z) i) name ∷ []) r (now (area .exit)) ⌝ }
 {
-    let right = stmt_of(area, z, i, 3);
-    let from = record_word(area, 40, 8, z.nodes, right, 4);
-    let to = record_word(area, 40, 8, z.nodes, right, 5);
-    list_error(area, z, count, 17, from, to, name)
+    let right = stmt_of(area, z, i, STMT_RIGHT);
+    let from = record_word(area, HEADER_BYTES, NODE_WORDS, z.nodes, right, NODE_FROM);
+    let to = record_word(area, HEADER_BYTES, NODE_WORDS, z.nodes, right, NODE_TO);
+    list_error(area, z, count, ALGEBRAIC_INITIAL_CONDITION, from, to, name)
 }
 
 // Errors 16 and 17 of a variable: `held` is the statement that it holds plus 1 or 0, `first` its first initial condition plus 1 or 0.
@@ -90,9 +103,9 @@ fn state_errors(
     if held == 0 {
         return count;
     }
-    if stmt_of(area, z, held - 1, 0) == 2 {
+    if stmt_of(area, z, held - 1, STMT_KIND) == RATE_KIND {
         if first == 0 {
-            return model_error(f, s, m, area, z, 16, name, count);
+            return model_error(f, s, m, area, z, NO_INITIAL_CONDITION, name, count);
         }
         return count;
     }

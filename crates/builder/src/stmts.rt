@@ -12,6 +12,20 @@ ghost use Rattle.builder.specs.Tables.{Callees};
 ghost use Rattle.builder.specs.Descent.{flatAt, broughtAt, RowsIn, RowsKept};
 ghost use Rattle.builder.specs.Unfated.{RecordsFit, Recorded};
 use super::replacements::find_replacements;
+use area::layout::STMT_BYTES;
+use ast::layout::EQUATION_KIND;
+use ast::layout::MODEL_FIRST_STMT;
+use ast::layout::MODEL_STMTS;
+use ast::layout::MOST_NODES;
+use ast::layout::MOST_STMTS;
+use ast::layout::RATE_KIND;
+use ast::layout::STMT_FROM;
+use ast::layout::STMT_KIND;
+use ast::layout::STMT_LEFT;
+use ast::layout::STMT_NAME;
+use ast::layout::STMT_RIGHT;
+use ast::layout::STMT_TO;
+use ast::layout::SUBMODEL_KIND;
 use ast::records::model;
 use ast::records::stmt;
 use ast::sections::Sections;
@@ -38,7 +52,7 @@ fn record_behind(
     requires { ⌜ (count < 256) × (32 * count + 32 ≤ length (now out)) ⌝ }
     ensures { λ _. ⌜ now (out .exit) ≡ put (now (out .entry)) (32 * count) (bytesOf (kind ∷ name ∷ left ∷ right ∷ from ∷ to ∷ 0 ∷ 0 ∷ [])) ⌝ }
 {
-    let start = 32 * count;
+    let start = STMT_BYTES * count;
     put_record(&mut out[start..], kind, name, left, right, from, to, 0, 0);
 }
 
@@ -59,24 +73,33 @@ fn write_record(
     let n = s.counts.nodes;
     let stmts = done.stmts;
     let nodes = done.nodes;
-    let from = stmt(f, s, q, 4) as u32;
-    let to = stmt(f, s, q, 5) as u32;
-    let i = stmt(f, s, q, 3);
-    if stmt(f, s, q, 0) == 2 {
-        let name = stmt(f, s, q, 1) as u32;
-        let right = nodes + measure_expr(f, at, n, rows, level, i, 1024);
-        record_behind(out, stmts, 2, name, 0, (right - 1) as u32, from, to);
+    let from = stmt(f, s, q, STMT_FROM) as u32;
+    let to = stmt(f, s, q, STMT_TO) as u32;
+    let i = stmt(f, s, q, STMT_RIGHT);
+    if stmt(f, s, q, STMT_KIND) == RATE_KIND {
+        let name = stmt(f, s, q, STMT_NAME) as u32;
+        let right = nodes + measure_expr(f, at, n, rows, level, i, MOST_NODES);
+        record_behind(
+            out,
+            stmts,
+            RATE_KIND as u32,
+            name,
+            0,
+            (right - 1) as u32,
+            from,
+            to,
+        );
         return Done {
             stmts: stmts + 1,
             nodes: right,
         };
     }
-    let j = stmt(f, s, q, 2);
-    let left = nodes + measure_expr(f, at, n, rows, level, j, 1024);
-    let right = left + measure_expr(f, at, n, rows, level, i, 1024);
+    let j = stmt(f, s, q, STMT_LEFT);
+    let left = nodes + measure_expr(f, at, n, rows, level, j, MOST_NODES);
+    let right = left + measure_expr(f, at, n, rows, level, i, MOST_NODES);
     let l = (left - 1) as u32;
     let r = (right - 1) as u32;
-    record_behind(out, stmts, 1, 0, l, r, from, to);
+    record_behind(out, stmts, EQUATION_KIND as u32, 0, l, r, from, to);
     Done {
         stmts: stmts + 1,
         nodes: right,
@@ -87,7 +110,7 @@ fn write_record(
 pub fn write_stmts(
     f: &[u8],
     s: Sections,
-    calls: &[u8; 256],
+    calls: &[u8; MOST_STMTS],
     rows: &mut [u32],
     k: usize,
     m: usize,
@@ -101,8 +124,8 @@ pub fn write_stmts(
     if k == 0 {
         return done;
     }
-    let first = model(f, s, m, 3);
-    let count = model(f, s, m, 4);
+    let first = model(f, s, m, MODEL_FIRST_STMT);
+    let count = model(f, s, m, MODEL_STMTS);
     let mut total = done;
     let mut i = 0;
     while i < count {
@@ -116,7 +139,7 @@ pub fn write_stmts(
 fn write_stmt(
     f: &[u8],
     s: Sections,
-    calls: &[u8; 256],
+    calls: &[u8; MOST_STMTS],
     rows: &mut [u32],
     k: usize,
     q: usize,
@@ -127,13 +150,13 @@ fn write_stmt(
     requires { ⌜ Open (now f) s × Callees (now f) s (now calls) × (q < s .counts .stmts) × ((level + k < 32) × (256 * (level + k + 1) ≤ length (now rows)) × RowsIn (now f) s (now rows)) × RecordsFit (done .stmts) (done .nodes) (length (now out)) (broughtAt (now f) s (now rows) level (λ j. flatten (fileIn (now f) s) k j) q) ⌝ }
     ensures { λ r. ⌜ Recorded (done .stmts) (done .nodes) (now (out .entry)) (r .stmts) (r .nodes) (now (out .exit)) (broughtAt (now (f .entry)) s (now (rows .entry)) level (λ j. flatten (fileIn (now (f .entry)) s) k j) q) × RowsKept (now (f .entry)) s level (now (rows .entry)) (now (rows .exit)) ⌝ }
 {
-    if stmt(f, s, q, 0) != 3 {
+    if stmt(f, s, q, STMT_KIND) != SUBMODEL_KIND {
         return write_record(f, s, rows, level, q, out, done);
     }
     let c = calls[q] as usize;
     if (c == 0) | (k == 0) {
         return done;
     }
-    find_replacements(f, s, c - 1, stmt(f, s, q, 3), rows, level);
+    find_replacements(f, s, c - 1, stmt(f, s, q, STMT_RIGHT), rows, level);
     write_stmts(f, s, calls, rows, k, c - 1, level + 1, out, done)
 }

@@ -16,6 +16,7 @@ ghost use Rattle.builder.specs.Root.{scopeAt, NoTables, tabled, TablesOf
 use super::variables::reach_time;
 use super::variables::time_index;
 use super::variables::write_deps;
+use area::layout::WORD;
 use ast::sections::Sections;
 
 // Notes each variable's time index plus 1, or 0.
@@ -26,7 +27,7 @@ fn indexes(deps: &[u8], starts: &[u32], vars: usize, out: &mut [u32])
     let mut v = 0;
     while v < vars {
         let index = time_index(deps, starts[v] as usize, starts[v + 1] as usize);
-        out[v] = (index % 4294967296) as u32;
+        out[v] = (index % WORD) as u32;
         v += 1;
     }
 }

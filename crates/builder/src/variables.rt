@@ -15,6 +15,14 @@ ghost use Rattle.builder.specs.Tables.{Classes};
 ghost use Rattle.builder.specs.VariableTables.{wordsFrom, DepsIn, leads, Round, TimeReached, firstZero, rostered, listed, declareOne, Numbers, Listing, unknownsIn, rosterIn, unknownIn, oneBelow, keptBy, StartsOf};
 use super::names::is_reserved;
 use super::names::is_time;
+use area::layout::MOST_VARS;
+use ast::layout::DEP_BYTES;
+use ast::layout::MODEL_FIRST_UNKNOWN;
+use ast::layout::MODEL_UNKNOWNS;
+use ast::layout::MOST_NAMES;
+use ast::layout::UNKNOWN_DEPS;
+use ast::layout::UNKNOWN_FIRST_DEP;
+use ast::layout::UNKNOWN_NAME;
 use ast::records::dep;
 use ast::records::model;
 use ast::records::unknown;
@@ -23,7 +31,7 @@ use ast::words::put_word;
 use ast::words::read_word;
 
 // The name, plus 1, that is t, or 0.
-fn time_name(count: usize, classes: &[u8; 256]) -> usize
+fn time_name(count: usize, classes: &[u8; MOST_NAMES]) -> usize
     requires { ⌜ count ≤ 256 ⌝ }
     ensures { λ r. ⌜ (r ≡ firstZero (now (classes .entry)) 0 count) × (r ≤ count) ⌝ }
 {
@@ -66,7 +74,7 @@ fn declare(names: &mut [u32], numbers: &mut [u32], count: usize, name: usize) ->
 pub fn roster_of(
     f: &[u8],
     s: Sections,
-    classes: &[u8; 256],
+    classes: &[u8; MOST_NAMES],
     m: usize,
     names: &mut [u32],
     numbers: &mut [u32],
@@ -74,13 +82,13 @@ pub fn roster_of(
     requires { ⌜ Open (now f) s × (m < s .counts .models) × Classes (fileIn (now f) s .names) (now classes) × (length (now names) ≡ 129) × (length (now numbers) ≡ 256) × ((n : ℕ) → getD (now numbers) n 0 ≡ 0) ⌝ }
     ensures { λ r. ⌜ Listing (rosterIn (now (f .entry)) s m) (rostered r (now (names .exit)) (now (numbers .exit))) ⌝ }
 {
-    let first = model(f, s, m, 1);
-    let count = model(f, s, m, 2);
+    let first = model(f, s, m, MODEL_FIRST_UNKNOWN);
+    let count = model(f, s, m, MODEL_UNKNOWNS);
     time_alone(time_name(s.counts.names, classes), names, numbers);
     let mut vars = 1;
     let mut i = 0;
     while i < count {
-        let name = unknown(f, s, first + i, 0);
+        let name = unknown(f, s, first + i, UNKNOWN_NAME);
         if !is_reserved(classes[name]) {
             vars = declare(names, numbers, vars, name);
         }
@@ -97,7 +105,7 @@ fn put_dep(v: u32, out: &mut [u8], done: usize) -> usize
     if v == 0 {
         return done;
     }
-    put_word(out, 4 * done, v - 1);
+    put_word(out, DEP_BYTES * done, v - 1);
     done + 1
 }
 
@@ -113,8 +121,8 @@ fn put_unknown_deps(
     requires { ⌜ Open (now f) s × (u < s .counts .unknowns) × (length (now numbers) ≡ 256) × (4 * (done + length (keptBy (now numbers) (unknownIn (now f) s u .deps))) ≤ length (now out)) ⌝ }
     ensures { λ r. ⌜ (r ≡ done + length (keptBy (now (numbers .entry)) (unknownIn (now (f .entry)) s u .deps))) × (now (out .exit) ≡ put (now (out .entry)) (4 * done) (bytesOf (keptBy (now (numbers .entry)) (unknownIn (now (f .entry)) s u .deps)))) ⌝ }
 {
-    let first = unknown(f, s, u, 1);
-    let count = unknown(f, s, u, 2);
+    let first = unknown(f, s, u, UNKNOWN_FIRST_DEP);
+    let count = unknown(f, s, u, UNKNOWN_DEPS);
     let mut total = done;
     let mut i = 0;
     while i < count {
@@ -137,7 +145,7 @@ fn put_named_deps(
     requires { ⌜ Open (now f) s × (u < s .counts .unknowns) × (length (now numbers) ≡ 256) × (4 * (done + length (cond (eqb (suc (unknownIn (now f) s u .name)) name) (keptBy (now numbers) (unknownIn (now f) s u .deps)) [])) ≤ length (now out)) ⌝ }
     ensures { λ r. ⌜ (r ≡ done + length (cond (eqb (suc (unknownIn (now (f .entry)) s u .name)) name) (keptBy (now (numbers .entry)) (unknownIn (now (f .entry)) s u .deps)) [])) × (now (out .exit) ≡ put (now (out .entry)) (4 * done) (bytesOf (cond (eqb (suc (unknownIn (now (f .entry)) s u .name)) name) (keptBy (now (numbers .entry)) (unknownIn (now (f .entry)) s u .deps)) []))) ⌝ }
 {
-    if unknown(f, s, u, 0) + 1 == name {
+    if unknown(f, s, u, UNKNOWN_NAME) + 1 == name {
         return put_unknown_deps(f, s, numbers, u, out, done);
     }
     done
@@ -156,8 +164,8 @@ pub fn set_dependents(
     requires { ⌜ Open (now f) s × (m < s .counts .models) × Numbers (rosterIn (now f) s m) (now numbers) × (length (now numbers) ≡ 256) × (4 * (done + length (keptDeps (rosterIn (now f) s m) (unknownsIn (now f) s m) name)) ≤ length (now out)) ⌝ }
     ensures { λ r. ⌜ (r ≡ done + length (keptDeps (rosterIn (now (f .entry)) s m) (unknownsIn (now (f .entry)) s m) name)) × (now (out .exit) ≡ put (now (out .entry)) (4 * done) (bytesOf (keptDeps (rosterIn (now (f .entry)) s m) (unknownsIn (now (f .entry)) s m) name))) ⌝ }
 {
-    let first = model(f, s, m, 1);
-    let count = model(f, s, m, 2);
+    let first = model(f, s, m, MODEL_FIRST_UNKNOWN);
+    let count = model(f, s, m, MODEL_UNKNOWNS);
     let mut total = done;
     let mut i = 0;
     while i < count {
@@ -197,7 +205,7 @@ pub fn time_index(deps: &[u8], first: usize, end: usize) -> usize
 {
     let mut i = end;
     while first < i {
-        if read_word(deps, 4 * (i - 1)) == 0 {
+        if read_word(deps, DEP_BYTES * (i - 1)) == 0 {
             return i - first;
         }
         i -= 1;
@@ -212,7 +220,7 @@ fn reaches_time(deps: &[u8], first: usize, end: usize, old: &[u8]) -> bool
 {
     let mut i = first;
     while i < end {
-        let d = read_word(deps, 4 * i) as usize;
+        let d = read_word(deps, DEP_BYTES * i) as usize;
         if (d == 0) | (old[d] == 1) {
             return true;
         }
@@ -227,11 +235,11 @@ fn mark(yes: bool) -> u8
     if yes { 1 } else { 0 }
 }
 
-fn time_round(deps: &[u8], starts: &[u32], vars: usize, old: &[u8]) -> [u8; 129]
+fn time_round(deps: &[u8], starts: &[u32], vars: usize, old: &[u8]) -> [u8; MOST_VARS]
     requires { ⌜ DepsIn (now starts) (now deps) vars × (length (now starts) ≡ 130) × (length (now old) ≡ 129) ⌝ }
     ensures { λ r. ⌜ Round (now (starts .entry)) (now (deps .entry)) vars (now (old .entry)) r ⌝ }
 {
-    let mut new = [0u8; 129];
+    let mut new = [0u8; MOST_VARS];
     let mut v = 0;
     while v < vars {
         new[v] = mark(reaches_time(deps, starts[v] as usize, starts[v + 1] as usize, old));

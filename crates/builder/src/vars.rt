@@ -11,7 +11,7 @@ ghost use Rattle.ast.specs.Opens.{Open, fileIn};
 ghost use Rattle.definitions.specs.Variables.{fromZero, lastBounds};
 ghost use Rattle.definitions.specs.Flatten.{modelAt};
 ghost use Rattle.builder.specs.Tables.{Classes};
-ghost use Rattle.builder.specs.Places.{Small, stmtsAt, varsAt, depsAt};
+ghost use Rattle.area.specs.Sections.{Small, stmtsAt, varsAt, depsAt};
 ghost use Rattle.builder.specs.Bounding.{Floating};
 ghost use Rattle.builder.specs.Fating.{isFated};
 ghost use Rattle.builder.specs.VarRecords.{VarTables, leadWords, varWords, varRecords, headWords};
@@ -19,8 +19,10 @@ use super::bounds::put_time_bounds;
 use super::bounds::put_var_bounds;
 use super::fated::no_fates;
 use super::fated::note_fates;
-use super::places::Sizes;
-use super::places::vars_at;
+use area::layout::BOUNDS_AT;
+use area::layout::VAR_BYTES;
+use area::sections::Sizes;
+use area::sections::vars_at;
 use ast::numbers::Bounds;
 use ast::sections::Sections;
 use ast::words::put_record;
@@ -83,7 +85,7 @@ fn write_var(
     requires { ⌜ Open (now f) s × Classes (fileIn (now f) s .names) (now classes) × (s .counts .names ≤ length (now classes)) × (m < s .counts .models) × Small z × (depsAt z ≤ length (now area)) × VarTables (z .vars) (now names) (now starts) (now indexes) (now reach) × (v < z .vars) × (held ≡ plusOne (place (isFated 2 v) (section 8 (z .stmts) (stmtsAt z) (now area)))) × (initial ≡ times (isFated 1 v) (section 8 (z .stmts) (stmtsAt z) (now area))) ⌝ }
     ensures { λ _. ⌜ now (area .exit) ≡ put (now (area .entry)) (varsAt z + 48 * v) (bytesOf (varWords (fileIn (now (f .entry)) s .names) (modelAt (fileIn (now (f .entry)) s) m .unknowns) (section 8 (z .stmts) (stmtsAt z) (now (area .entry))) (now (names .entry)) (now (starts .entry)) (now (indexes .entry)) (now (reach .entry)) v)) ⌝ }
 {
-    let at = vars_at(z) + 48 * v;
+    let at = vars_at(z) + VAR_BYTES * v;
     let time = (v == 0) | (reach[v] == 1);
     put_lead(
         area,
@@ -96,7 +98,7 @@ fn write_var(
         initial,
         time,
     );
-    put_var_bounds(f, s, classes, m, v, names[v] as usize, area, at + 32);
+    put_var_bounds(f, s, classes, m, v, names[v] as usize, area, at + BOUNDS_AT);
 }
 
 // Writes the records of all variables.

@@ -5,8 +5,7 @@ use native.Mathlib.Omega.{arith}
 use borrow.Author.Needs.{needs}
 use lib.ListN.{getD}
 use Rattle.ast.specs.Words.{wordOf}
-use Rattle.builder.specs.Allocating.{areaNodes, areaStmt}
-use Rattle.builder.specs.Places.{stmtsAt, varsAt}
+use Rattle.area.specs.Sections.{areaNodes, areaStmt, stmtsAt, varsAt}
 use Rattle.builder.proofs.LeftSides.{start-fits}
 use Rattle.builder.proofs.Flats.{rate-name, role-equation, rate-unknown, rate-goes, rate-stays}
 use Rattle.builder.proofs.allocate.allocate_stmt.Statement.{statement}

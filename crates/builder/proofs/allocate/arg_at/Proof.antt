@@ -4,7 +4,8 @@ use Prim.Native.Nat.{ℕ, _≤_, _<_}
 use native.Mathlib.Omega.{arith}
 use Rattle.ast.specs.Nodes.{opAt, argsFit}
 use Rattle.ast.proofs.Fitting.{node-ok, last-arg}
-use Rattle.builder.specs.Allocating.{areaNodes, argNode}
+use Rattle.builder.specs.Allocating.{argNode}
+use Rattle.area.specs.Sections.{areaNodes}
 use Rattle.builder.proofs.LeftSides.{arg-last, arg-before}
 use Rattle.builder.proofs.allocate.arg_at.Statement.{statement}
 use Rattle.builder.proofs.allocate.arg_at.Tie as tie

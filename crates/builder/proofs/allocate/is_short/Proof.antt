@@ -2,8 +2,8 @@ use mathlib.Core.Path.{_≡_, sym, ap, _∙_}
 use native.Mathlib.Omega.{arith}
 use borrow.Author.Needs.{needs}
 use Rattle.ast.specs.Words.{wordOf}
-use Rattle.builder.specs.Allocating.{areaStmt, isShort}
-use Rattle.builder.specs.Places.{stmtsAt, varsAt}
+use Rattle.builder.specs.Allocating.{isShort}
+use Rattle.area.specs.Sections.{areaStmt, stmtsAt, varsAt}
 use Rattle.builder.proofs.Flats.{short-equation, short-rate}
 use Rattle.builder.proofs.allocate.is_short.Statement.{statement}
 use Rattle.builder.proofs.allocate.is_short.Tie as tie

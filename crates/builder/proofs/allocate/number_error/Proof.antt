@@ -3,9 +3,8 @@ use Prim.Native.Nat.{suc, _+_}
 use native.Mathlib.Omega.{arith}
 use Rattle.ast.specs.Words.{spanFrom}
 use Rattle.ast.specs.Nodes.{nameAt}
-use Rattle.builder.specs.Allocating.{areaNodes}
+use Rattle.area.specs.Sections.{areaNodes, stmtsAt, varsAt, depsAt, errorsAt}
 use Rattle.builder.proofs.ListedAt.{unless-at, passed-at}
-use Rattle.builder.specs.Places.{stmtsAt, varsAt, depsAt, errorsAt}
 use borrow.Author.Needs.{needs}
 use Rattle.builder.proofs.allocate.number_error.Statement.{statement}
 use Rattle.builder.proofs.allocate.number_error.Tie as tie

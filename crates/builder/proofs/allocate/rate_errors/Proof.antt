@@ -4,10 +4,9 @@ use native.Mathlib.Omega.{arith}
 use lib.ListN.{length, getD}
 use borrow.Author.Tests.{eq-eqb, ne-eqb}
 use Rattle.ast.specs.Words.{wordOf}
-use Rattle.builder.specs.Allocating.{areaStmt}
+use Rattle.area.specs.Sections.{areaStmt, stmtsAt, varsAt, depsAt, errorsAt}
 use Rattle.builder.proofs.ListedAt.{unless-at, passed-at}
 use Rattle.builder.proofs.RoleErrors.{errors-unknown, errors-known}
-use Rattle.builder.specs.Places.{stmtsAt, varsAt, depsAt, errorsAt}
 use borrow.Author.Needs.{needs}
 use Rattle.builder.proofs.allocate.rate_errors.Statement.{statement}
 use Rattle.builder.proofs.allocate.rate_errors.Tie as tie

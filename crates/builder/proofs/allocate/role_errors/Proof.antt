@@ -2,12 +2,11 @@ use mathlib.Core.Path.{_≡_, sym, _∙_}
 use Prim.Native.Nat.{_<_}
 use native.Mathlib.Omega.{arith}
 use Rattle.ast.specs.Words.{wordOf}
-use Rattle.builder.specs.Allocating.{areaStmt}
+use Rattle.area.specs.Sections.{areaStmt, stmtsAt, varsAt}
 use Rattle.builder.proofs.LeftSides.{start-fits, start-calls}
 use Rattle.builder.proofs.Flats.{rate-name}
 use Rattle.builder.proofs.RoleErrors.{errors-equation, errors-rate}
 use borrow.Author.Needs.{needs}
-use Rattle.builder.specs.Places.{stmtsAt, varsAt}
 use Rattle.builder.proofs.allocate.role_errors.Statement.{statement}
 use Rattle.builder.proofs.allocate.role_errors.Tie as tie
 

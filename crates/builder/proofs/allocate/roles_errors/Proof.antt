@@ -2,7 +2,7 @@ use Prim.Native.Nat.{_+_, _-_, _≤_}
 use native.Mathlib.Omega.{arith}
 use lib.ListN.{take}
 use Rattle.functions.specs.Lists.{each}
-use Rattle.builder.specs.Places.{errorsAt}
+use Rattle.area.specs.Sections.{errorsAt}
 use Rattle.builder.specs.Allocating.{flatIn, flatsIn, roleErrorsBy, ListsAt}
 use Rattle.builder.proofs.ListedAt.{none-at, then-at, lists-length, kept-listed, kept-flat, kept-flattened}
 use Rattle.builder.proofs.RoleErrors.{errors-few, errors-turn, errors-all}

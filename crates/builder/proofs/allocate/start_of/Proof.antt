@@ -5,7 +5,7 @@ use borrow.Author.Tests.{ltb-true}
 use lib.ListN.{getD}
 use Rattle.ast.specs.Nodes.{kindAt, nameAt, opAt}
 use Rattle.ast.proofs.Fitting.{node-ok}
-use Rattle.builder.specs.Allocating.{areaNodes}
+use Rattle.area.specs.Sections.{areaNodes}
 use Rattle.builder.proofs.LeftSides.{arg-node, start-other, start-unknown, start-untimed, start-short, start-arg, arg-number, arg-other}
 use borrow.Author.Needs.{needs}
 use Rattle.builder.proofs.allocate.start_of.Statement.{statement}

@@ -1,6 +1,6 @@
 use native.Mathlib.Omega.{arith}
 use Rattle.ast.specs.Words.{spanFrom}
-use Rattle.builder.specs.Places.{stmtsAt, varsAt, depsAt, errorsAt}
+use Rattle.area.specs.Sections.{stmtsAt, varsAt, depsAt, errorsAt}
 use borrow.Author.Needs.{needs}
 use Rattle.builder.proofs.allocate.stmt_error.Statement.{statement}
 use Rattle.builder.proofs.allocate.stmt_error.Tie as tie

@@ -2,7 +2,7 @@ use native.Mathlib.Omega.{arith}
 use mathlib.Core.Path.{refl, _∙_}
 use mathlib.Core.List.{[], _∷_}
 use Rattle.ast.specs.Words.{low, high}
-use Rattle.builder.proofs.Puts.{put-first, put-next}
+use Rattle.area.proofs.Puts.{put-first, put-next}
 use borrow.Author.Needs.{needs}
 use Rattle.builder.proofs.bounds.put_bits.Statement.{statement}
 use Rattle.builder.proofs.bounds.put_bits.Tie as tie

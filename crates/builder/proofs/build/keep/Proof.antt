@@ -2,7 +2,7 @@ use mathlib.Core.Path.{sym, ap, _∙_}
 use native.Mathlib.Omega.{arith}
 use lib.ListN.{length}
 use Rattle.definitions.specs.Build.{told, resultArea}
-use Rattle.builder.proofs.Outputs.{kept}
+use Rattle.area.proofs.HandedOut.{kept}
 use Rattle.builder.proofs.Answers.{hands-refused, hands-used, used-is}
 use borrow.Author.Needs.{needs}
 use Rattle.builder.proofs.build.keep.Statement.{statement}

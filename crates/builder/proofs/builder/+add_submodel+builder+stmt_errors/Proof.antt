@@ -6,9 +6,9 @@ use lib.ListN.{length, take}
 use Rattle.functions.specs.Lists.{each}
 use Rattle.ast.specs.Opens.{fileIn}
 use Rattle.definitions.specs.Flatten.{modelAt, stmtErrors, errorsOf}
-use Rattle.builder.specs.Listing.{Lists}
+use Rattle.area.specs.Listing.{Lists}
 use Rattle.builder.specs.Checking.{scopeIn, stmtIn}
-use Rattle.builder.proofs.Listings.{lists-none, lists-then, room-first, room-then, length-listed}
+use Rattle.area.proofs.Listings.{lists-none, lists-then, room-first, room-then, length-listed}
 use Rattle.builder.proofs.Runs.{stmts-below}
 use Rattle.builder.proofs.Calling.{entry-below}
 use Rattle.builder.proofs.Calls.{call-small, call-sized, call-args}

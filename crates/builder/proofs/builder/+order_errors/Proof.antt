@@ -2,7 +2,7 @@ use mathlib.Core.Path.{refl}
 use native.Mathlib.Omega.{arith}
 use Rattle.definitions.specs.Flatten.{orderErrors}
 use Rattle.builder.proofs.Checks.{args-end, arg-last, arg-node, args-rest}
-use Rattle.builder.proofs.Listings.{lists-none, lists-then, room-first, room-then}
+use Rattle.area.proofs.Listings.{lists-none, lists-then, room-first, room-then}
 use Rattle.builder.proofs.ModelErrors.{order-more}
 use Prim.Native.Nat.{ℕ, _<_}
 use borrow.Fn.Kinds.{In}

@@ -1,5 +1,5 @@
 use native.Mathlib.Omega.{arith}
-use Rattle.builder.proofs.Listings.{lists-none}
+use Rattle.area.proofs.Listings.{lists-none}
 use Rattle.builder.proofs.ModelErrors.{domain-none, domain-range, domain-small, domain-named}
 use borrow.Author.Needs.{needs}
 use Rattle.builder.proofs.builder.domain_errors.Statement.{statement}

@@ -2,7 +2,7 @@ use mathlib.Core.Path.{refl}
 use mathlib.Core.List.{[]}
 use native.Mathlib.Omega.{arith}
 use Rattle.builder.specs.Checking.{scopeIn}
-use Rattle.builder.proofs.Listings.{lists-then, room-first, room-then}
+use Rattle.area.proofs.Listings.{lists-then, room-first, room-then}
 use Rattle.builder.proofs.ModelErrors.{right-in, left-in, an-equation, rate-errors, equation-errors, right-first}
 use borrow.Author.Needs.{needs}
 use Rattle.builder.proofs.builder.own_errors.Statement.{statement}

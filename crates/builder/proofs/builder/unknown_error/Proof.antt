@@ -1,5 +1,5 @@
 use Rattle.ast.specs.Words.{spanFrom}
-use Rattle.builder.proofs.Listings.{lists-passed, lists-unless}
+use Rattle.area.proofs.Listings.{lists-passed, lists-unless}
 use borrow.Author.Needs.{needs}
 use Rattle.builder.proofs.builder.unknown_error.Statement.{statement}
 use Rattle.builder.proofs.builder.unknown_error.Tie as tie

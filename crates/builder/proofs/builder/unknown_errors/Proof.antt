@@ -1,6 +1,6 @@
 use mathlib.Core.Path.{refl}
 use native.Mathlib.Omega.{arith}
-use Rattle.builder.proofs.Listings.{lists-then, room-first, room-then}
+use Rattle.area.proofs.Listings.{lists-then, room-first, room-then}
 use Rattle.builder.proofs.ModelErrors.{unknown-small, unknown-more}
 use borrow.Author.Needs.{needs}
 use Rattle.builder.proofs.builder.unknown_errors.Statement.{statement}

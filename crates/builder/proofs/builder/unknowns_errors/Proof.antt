@@ -6,9 +6,9 @@ use Rattle.functions.specs.Lists.{each}
 use Rattle.ast.specs.Opens.{fileIn}
 use Rattle.definitions.specs.Variables.{unknownErrors}
 use Rattle.definitions.specs.Flatten.{modelAt}
-use Rattle.builder.specs.Listing.{Lists}
+use Rattle.area.specs.Listing.{Lists}
 use Rattle.builder.specs.Checking.{unknownIn}
-use Rattle.builder.proofs.Listings.{length-listed}
+use Rattle.area.proofs.Listings.{length-listed}
 use Rattle.builder.proofs.Runs.{unknowns-below}
 use Rattle.builder.proofs.ModelErrors.{run-begins, run-room, run-goes, run-ends, unknown-here, unknown-there, unknowns-past}
 use Rattle.builder.proofs.builder.unknowns_errors.Statement.{statement}

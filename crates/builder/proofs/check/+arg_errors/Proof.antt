@@ -2,7 +2,7 @@
 use native.Mathlib.Omega.{arith}
 use Rattle.definitions.specs.Check.{dependentErrors}
 use Rattle.builder.proofs.Checks.{args-end, arg-last, arg-node, arg-keyword, args-rest, dependents-more, positional-more, named-more}
-use Rattle.builder.proofs.Listings.{lists-none, lists-then, room-first, room-then}
+use Rattle.area.proofs.Listings.{lists-none, lists-then, room-first, room-then}
 use Prim.Native.Nat.{ℕ, _<_}
 use borrow.Fn.Kinds.{In}
 use borrow.Fn.PlainCycle.{Measures, is, falls, and}

@@ -8,7 +8,7 @@ use Rattle.builder.specs.Checking.{nodesOf}
 use Rattle.builder.proofs.Checks.{args-end, arg-last, arg-node, arg-child, args-rest, args-more-errors}
 use Rattle.builder.proofs.Calls.{call-args}
 use Rattle.builder.proofs.Exprs.{expr-sized, number-errors, one-in, unary-errors, binary-pos, two-in, binary-errors, is-call, call-errors}
-use Rattle.builder.proofs.Listings.{lists-none, lists-then, room-first, room-then}
+use Rattle.area.proofs.Listings.{lists-none, lists-then, room-first, room-then}
 use Prim.Native.Nat.{ℕ, _<_}
 use borrow.Fn.Kinds.{In}
 use borrow.Fn.PlainCycle.{Measures, is, falls, and}

@@ -3,7 +3,7 @@ use mathlib.Core.Path.{refl}
 use native.Mathlib.Omega.{arith}
 use Rattle.definitions.specs.Check.{keywordErrors}
 use Rattle.builder.proofs.Checks.{args-end, arg-last, arg-node, args-rest, built-in-more}
-use Rattle.builder.proofs.Listings.{lists-none, lists-then, room-first, room-then}
+use Rattle.area.proofs.Listings.{lists-none, lists-then, room-first, room-then}
 use Prim.Native.Nat.{ℕ, _<_}
 use borrow.Fn.Kinds.{In}
 use borrow.Fn.PlainCycle.{Measures, is, falls, and}

@@ -1,7 +1,7 @@
 -- `builder::check::call_errors` meets its contract: the count against the table, then by the class of the call's name.
 use native.Mathlib.Omega.{arith}
 use Rattle.builder.proofs.Calls.{call-node, call-small, call-sized, call-args, call-built-in, call-other}
-use Rattle.builder.proofs.Listings.{lists-then, room-then}
+use Rattle.area.proofs.Listings.{lists-then, room-then}
 use borrow.Author.Needs.{needs}
 use Rattle.builder.proofs.check.call_errors.Statement.{statement}
 use Rattle.builder.proofs.check.call_errors.Tie as tie

@@ -1,5 +1,5 @@
 -- `builder::check::error_unless` meets its contract: where the test passed there is no error. Assumes nothing.
-use Rattle.builder.proofs.Listings.{lists-passed, lists-unless}
+use Rattle.area.proofs.Listings.{lists-passed, lists-unless}
 use borrow.Author.Needs.{needs}
 use Rattle.builder.proofs.check.error_unless.Statement.{statement}
 use Rattle.builder.proofs.check.error_unless.Tie as tie

@@ -1,7 +1,7 @@
 -- `builder::check::variable_errors` meets its contract: by the entry of the call's name. Assumes nothing.
 use native.Mathlib.Omega.{arith}
 use Rattle.builder.proofs.Calls.{call-node, call-small, call-sized, call-args, call-missing, call-found, call-variable}
-use Rattle.builder.proofs.Listings.{lists-then, room-then}
+use Rattle.area.proofs.Listings.{lists-then, room-then}
 use borrow.Author.Needs.{needs}
 use Rattle.builder.proofs.check.variable_errors.Statement.{statement}
 use Rattle.builder.proofs.check.variable_errors.Tie as tie

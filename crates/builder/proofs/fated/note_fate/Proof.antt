@@ -3,7 +3,7 @@ use mathlib.Core.Path.{sym, _∙_}
 use borrow.Author.Needs.{needs}
 use Rattle.ast.specs.Words.{section}
 use Rattle.ast.proofs.Fields.{length-section}
-use Rattle.builder.specs.Places.{stmtsAt}
+use Rattle.area.specs.Sections.{stmtsAt}
 use Rattle.builder.proofs.FateTables.{fate-beyond, fate-held, fate-first, fate-other, conditions-few}
 use Rattle.builder.proofs.fated.note_fate.Statement.{statement}
 use Rattle.builder.proofs.fated.note_fate.Tie as tie
@@ -20,6 +20,9 @@ returns c =
     let a = c .before .before .before .before .before .before .before .args in
     let rs = section 8 (a .z .stmts) (stmtsAt (a .z)) (a .area .now) in
     fate-beyond rs (a .i) (omega (arith, length-section 8 (a .z .stmts) (stmtsAt (a .z)) (a .area .now), p .2)) (a .held .now) (a .first .now) (a .conditions .now) (p .3) (omega (arith, c .before .stmt-of2 .ensures .0, c .if1 .taken))
+
+cast-if2 : tie.Need-cast-if2
+cast-if2 c = search needs
 
 add-held : tie.Need-add-held
 add-held c = search needs
@@ -42,6 +45,9 @@ returns-2 c =
     let a = c .before .before .before .before .before .before .before .before .args in
     let rs = section 8 (a .z .stmts) (stmtsAt (a .z)) (a .area .now) in
     fate-held rs (a .i) (omega (arith, length-section 8 (a .z .stmts) (stmtsAt (a .z)) (a .area .now), p .2)) (a .held .now) (a .first .now) (a .conditions .now) (p .3) (c .before .before .stmt-of2 .result) (c .before .before .stmt-of2 .ensures .0) (omega arith) (sym (c .before .before .before .stmt-of .ensures .0) ∙ c .if2 .taken)
+
+cast-if3 : tie.Need-cast-if3
+cast-if3 c = search needs
 
 add-first : tie.Need-add-first
 add-first c = search needs
@@ -105,12 +111,14 @@ note-fate-spec =
     stmt-of-requires
     stmt-of-requires-2
     returns
+    cast-if2
     add-held
     cast-held
     mul-held
     slice-write-held
     same-length
     returns-2
+    cast-if3
     add-first
     cast-first
     mul-first

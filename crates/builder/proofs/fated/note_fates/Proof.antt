@@ -2,7 +2,7 @@ use native.Mathlib.Omega.{arith}
 use mathlib.Core.Path.{_≡_, sym, _∙_}
 use Prim.Native.Nat.{_+_, _-_, _≤_}
 use Rattle.ast.specs.Words.{section}
-use Rattle.builder.specs.Places.{stmtsAt}
+use Rattle.area.specs.Sections.{stmtsAt}
 use Rattle.builder.specs.Fating.{FatesFrom}
 use Rattle.builder.proofs.FateTables.{fates-all}
 use Rattle.builder.proofs.fated.note_fates.Statement.{statement}

@@ -1,4 +1,4 @@
-use Rattle.builder.specs.Places.{stmtsAt, varsAt, depsAt}
+use Rattle.area.specs.Sections.{stmtsAt, varsAt, depsAt}
 use native.Mathlib.Omega.{arith}
 use Rattle.builder.proofs.FateRecords.{fate-put}
 use borrow.Author.Needs.{needs}

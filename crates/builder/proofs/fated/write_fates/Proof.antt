@@ -1,4 +1,4 @@
-use Rattle.builder.specs.Places.{stmtsAt, varsAt, depsAt}
+use Rattle.area.specs.Sections.{stmtsAt, varsAt, depsAt}
 use native.Mathlib.Omega.{arith}
 use mathlib.Core.Path.{_≡_, refl, sym, _∙_}
 use Prim.Native.Nat.{_+_, _*_, _-_, _≤_}

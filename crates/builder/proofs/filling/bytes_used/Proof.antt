@@ -1,5 +1,5 @@
 use native.Mathlib.Omega.{arith}
-use Rattle.builder.specs.Places.{stmtsAt, varsAt, depsAt, errorsAt}
+use Rattle.area.specs.Sections.{stmtsAt, varsAt, depsAt, errorsAt}
 use borrow.Author.Needs.{needs}
 use Rattle.builder.proofs.filling.bytes_used.Statement.{statement}
 use Rattle.builder.proofs.filling.bytes_used.Tie as tie

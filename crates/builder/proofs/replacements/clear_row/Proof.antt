@@ -2,7 +2,7 @@ use native.Mathlib.Omega.{arith}
 use mathlib.Core.Path.{_≡_, refl}
 use Prim.Native.Nat.{_-_, _≤_, _<_}
 use lib.ListN.{length, take, drop, replicate, length-set}
-use Rattle.builder.proofs.Outputs.{drop-step}
+use Rattle.area.proofs.HandedOut.{drop-step}
 use Rattle.builder.proofs.Replacing.{zeros-more, zeros-front}
 use Rattle.builder.proofs.replacements.clear_row.Statement.{statement}
 use Rattle.builder.proofs.replacements.clear_row.Tie as tie

@@ -4,8 +4,8 @@ use native.Mathlib.Omega.{arith}
 use borrow.Author.Needs.{needs}
 use Rattle.ast.specs.Opens.{fileIn}
 use Rattle.definitions.specs.Flatten.{modelAt}
-use Rattle.builder.specs.Places.{stmtsAt, varsAt, depsAt, errorsAt}
-use Rattle.builder.specs.Allocating.{areaNodes, areaStmts, ListsAt}
+use Rattle.area.specs.Sections.{stmtsAt, varsAt, depsAt, errorsAt, areaNodes, areaStmts}
+use Rattle.builder.specs.Allocating.{ListsAt}
 use Rattle.builder.specs.Starting.{startingIn}
 use Rattle.builder.proofs.FateTables.{fates-none, held-few, first-few}
 use Rattle.builder.proofs.ListedAt.{none-at, lists-length}

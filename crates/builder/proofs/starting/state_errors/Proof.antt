@@ -1,6 +1,6 @@
 use mathlib.Core.Path.{sym, _∙_}
 use native.Mathlib.Omega.{arith}
-use Rattle.builder.specs.Places.{stmtsAt, varsAt, depsAt, errorsAt}
+use Rattle.area.specs.Sections.{stmtsAt, varsAt, depsAt, errorsAt}
 use Rattle.builder.proofs.ListedAt.{none-at}
 use Rattle.builder.proofs.StartingLaws.{state-bare, state-lacks, state-starts, state-free, state-algebraic}
 use borrow.Author.Needs.{needs}

@@ -43,6 +43,9 @@ measure-expr-requires c κs =
 add-right : tie.Need-add-right
 add-right c = omega (arith, at-most-le _ _ _ (c .measure-expr .ensures), c .before .before .before .before .before .before .before .before .before .before .pre .3 .1 .1)
 
+cast-record-behind : tie.Need-cast-record-behind
+cast-record-behind c = search needs
+
 sub-record-behind : tie.Need-sub-record-behind
 sub-record-behind c =
     let a = c .before .before .before .before .before .before .before .before .before .before .before .args in
@@ -50,8 +53,8 @@ sub-record-behind c =
     let z = rate-fits (a .f .now) (a .s) (p .0) (a .rows .now) (a .level) (a .q) (p .3 .0) (a .done .stmts) (a .done .nodes) (length (a .out .now)) (p .3 .1) _ _ (c .before .before .before .before .before .before .before .stmt .ensures .0) (c .before .before .before .before .before .before .stmt2 .ensures .0) _ _ _ (sym (c .before .before .before .before .stmt4 .ensures .0) ∙ c .before .before .before .if1 .taken) (c .before .before .before .before .before .stmt3 .ensures .0) (c .before .before .stmt5 .ensures .0) (c .before .measure-expr .ensures) in
     omega (arith, z .1)
 
-cast-record-behind : tie.Need-cast-record-behind
-cast-record-behind c =
+cast-record-behind-2 : tie.Need-cast-record-behind-2
+cast-record-behind-2 c =
     let a = c .before .before .before .before .before .before .before .before .before .before .before .args in
     let p = c .before .before .before .before .before .before .before .before .before .before .before .pre in
     let z = rate-fits (a .f .now) (a .s) (p .0) (a .rows .now) (a .level) (a .q) (p .3 .0) (a .done .stmts) (a .done .nodes) (length (a .out .now)) (p .3 .1) _ _ (c .before .before .before .before .before .before .before .stmt .ensures .0) (c .before .before .before .before .before .before .stmt2 .ensures .0) _ _ _ (sym (c .before .before .before .before .stmt4 .ensures .0) ∙ c .before .before .before .if1 .taken) (c .before .before .before .before .before .stmt3 .ensures .0) (c .before .before .stmt5 .ensures .0) (c .before .measure-expr .ensures) in
@@ -131,6 +134,9 @@ cast-r c =
     let z = equation-fits (a .f .now) (a .s) (p .0) (a .rows .now) (a .level) (a .q) (p .3 .0) (a .done .stmts) (a .done .nodes) (length (a .out .now)) (p .3 .1) _ _ (c .before .before .before .before .before .before .before .stmt .ensures .0) (c .before .before .before .before .before .before .stmt2 .ensures .0) _ _ _ _ (is-equation (a .f .now) (a .s) (p .0) (a .q) (p .1 .0) (λ e. c .before .before .before .if1 .left (c .before .before .before .before .stmt4 .ensures .0 ∙ e)) (p .1 .1)) (c .before .before .stmt6 .ensures .0) (c .before .before .before .before .before .stmt3 .ensures .0) (c .before .measure-expr2 .ensures) (c .measure-expr3 .ensures) in
     omega (arith, z .3)
 
+cast-record-behind-3 : tie.Need-cast-record-behind-3
+cast-record-behind-3 c = search needs
+
 record-behind-requires-2 : tie.Need-record-behind-requires-2
 record-behind-requires-2 c κs =
     let a = c .before .before .before .before .before .before .before .before .before .before .before .before .args in
@@ -170,8 +176,9 @@ write-record-spec =
     cast-name
     measure-expr-requires
     add-right
-    sub-record-behind
     cast-record-behind
+    sub-record-behind
+    cast-record-behind-2
     record-behind-requires
     add-t24
     same-length
@@ -185,6 +192,7 @@ write-record-spec =
     cast-l
     sub-r
     cast-r
+    cast-record-behind-3
     record-behind-requires-2
     add-t22
     same-length-2

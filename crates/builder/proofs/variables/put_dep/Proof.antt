@@ -3,7 +3,7 @@ use Prim.Native.Nat.{_-_, _*_}
 use native.Mathlib.Omega.{arith}
 use Rattle.builder.proofs.PutWords.{below-none, below-one}
 use borrow.Author.Needs.{needs}
-use Rattle.builder.proofs.Puts.{words-none, put-first}
+use Rattle.area.proofs.Puts.{words-none, put-first}
 use Rattle.builder.proofs.variables.put_dep.Statement.{statement}
 use Rattle.builder.proofs.variables.put_dep.Tie as tie
 

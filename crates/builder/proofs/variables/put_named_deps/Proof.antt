@@ -6,7 +6,7 @@ use lib.Dec.{eqb}
 use borrow.Author.Tests.{eq-eqb, ne-eqb}
 use Rattle.builder.specs.VariableTables.{unknownIn}
 use Rattle.builder.proofs.OpenUnknowns.{unknown-name}
-use Rattle.builder.proofs.Puts.{words-none}
+use Rattle.area.proofs.Puts.{words-none}
 use borrow.Author.Needs.{needs}
 use Rattle.builder.proofs.variables.put_named_deps.Statement.{statement}
 use Rattle.builder.proofs.variables.put_named_deps.Tie as tie

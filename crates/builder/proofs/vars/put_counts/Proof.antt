@@ -1,5 +1,5 @@
 use borrow.Author.Needs.{needs}
-use Rattle.builder.proofs.Puts.{put-six}
+use Rattle.area.proofs.Puts.{put-six}
 use Rattle.builder.proofs.vars.put_counts.Statement.{statement}
 use Rattle.builder.proofs.vars.put_counts.Tie as tie
 

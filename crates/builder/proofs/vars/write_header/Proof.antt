@@ -2,7 +2,7 @@ use native.Mathlib.Omega.{arith}
 use mathlib.Core.Path.{refl, _∙_}
 use mathlib.Core.List.{[], _∷_}
 use Rattle.builder.specs.VarRecords.{headWords}
-use Rattle.builder.proofs.Puts.{put-more}
+use Rattle.area.proofs.Puts.{put-more}
 use borrow.Author.Needs.{needs}
 use Rattle.builder.proofs.vars.write_header.Statement.{statement}
 use Rattle.builder.proofs.vars.write_header.Tie as tie

@@ -8,11 +8,11 @@ use Rattle.ast.specs.Bytes.{put}
 use Rattle.ast.specs.Encode.{encode}
 use Rattle.ast.specs.Opens.{fileIn}
 use Rattle.definitions.specs.Flatten.{modelAt}
-use Rattle.builder.specs.Places.{stmtsAt, varsAt, depsAt}
+use Rattle.area.specs.Sections.{stmtsAt, varsAt, depsAt}
 use Rattle.builder.specs.VarRecords.{varRecords}
 use Rattle.builder.proofs.FateTables.{fates-none}
 use Rattle.builder.proofs.VarLaws.{section-before, vars-none, vars-next}
-use Rattle.builder.proofs.Puts.{words-none}
+use Rattle.area.proofs.Puts.{words-none}
 use Rattle.builder.proofs.vars.write_vars.Statement.{statement}
 use Rattle.builder.proofs.vars.write_vars.Tie as tie
 

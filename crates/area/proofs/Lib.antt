@@ -1,0 +1,5 @@
+pub mod Puts
+pub mod SectionsKept
+pub mod Parts
+pub mod Listings
+pub mod HandedOut

@@ -1,0 +1,48 @@
+-- The sections of an answer area behind its header: nodes, statements, variables, dependents, errors, without gaps.
+use Prim.Native.Nat.{ℕ, _+_, _*_, _≤_}
+use mathlib.Core.List.{List, []}
+use lib.ListN.{take, drop, getD}
+use Rattle.ast.specs.Words.{section}
+use Rattle.definitions.specs.Numbers.{mostNodes, mostStmts, mostVariables, mostDeps, headerLength, nodeLength, stmtLength, variableLength, depLength}
+use Rattle.area.specs.declared.sections.Sizes.{Sizes}
+
+-- no section beyond its most
+pub record Small (z : Sizes) : Type 0 where
+  pub nodes : z .nodes ≤ mostNodes
+  pub stmts : z .stmts ≤ mostStmts
+  pub vars : z .vars ≤ mostVariables
+  pub deps : z .deps ≤ mostDeps
+
+-- ---- the byte at which each section begins
+
+abbrev pub nodesAt : ℕ
+nodesAt = 4 * headerLength
+
+unfoldable pub stmtsAt : Sizes → ℕ
+stmtsAt z = nodesAt + 4 * nodeLength * z .nodes
+
+unfoldable pub varsAt : Sizes → ℕ
+varsAt z = stmtsAt z + 4 * stmtLength * z .stmts
+
+unfoldable pub depsAt : Sizes → ℕ
+depsAt z = varsAt z + 4 * variableLength * z .vars
+
+unfoldable pub errorsAt : Sizes → ℕ
+errorsAt z = depsAt z + 4 * depLength * z .deps
+
+-- ---- the records of a section
+
+module _ (b : List ℕ) (z : Sizes) where
+  abbrev pub areaNodes : List (List ℕ)
+  areaNodes = section nodeLength (z .nodes) nodesAt b
+
+  abbrev pub areaStmts : List (List ℕ)
+  areaStmts = section stmtLength (z .stmts) (stmtsAt z) b
+
+  abbrev pub areaStmt : ℕ → List ℕ
+  areaStmt i = getD areaStmts i []
+
+-- ---- n bytes from a place on
+
+unfoldable pub part : ℕ → ℕ → List ℕ → List ℕ
+part at n b = take n (drop at b)

@@ -1,0 +1,35 @@
+// The list of errors: all are counted, the first 256 are listed, four words each: kind, span, name plus 1 or 0.
+ghost use mathlib.Core.Path.{_≡_};
+ghost use mathlib.Core.List.{[], _∷_};
+ghost use Prim.Native.Nat.{_+_, _^_, _≤_, _<_};
+ghost use lib.ListN.{length};
+ghost use Rattle.ast.specs.Words.{bytesOf};
+ghost use Rattle.ast.specs.Bytes.{put};
+ghost use Rattle.definitions.specs.Variables.{error};
+ghost use Rattle.area.specs.Listing.{spanned, Lists};
+use super::layout::ERROR_BYTES;
+use super::layout::MOST_LISTED;
+use ast::words::put_word;
+
+// Puts four words at a place.
+fn put_words(out: &mut [u8], at: usize, kind: u32, from: u32, to: u32, name: u32)
+    requires { ⌜ at + 16 ≤ length (now out) ⌝ }
+    ensures { λ _. ⌜ now (out .exit) ≡ put (now (out .entry)) at (bytesOf (kind ∷ from ∷ to ∷ name ∷ [])) ⌝ }
+{
+    put_word(out, at, kind);
+    put_word(out, at + 4, from);
+    put_word(out, at + 8, to);
+    put_word(out, at + 12, name);
+}
+
+// Lists an error behind `count` of them and gives their new number.
+pub fn put_error(out: &mut [u8], count: usize, kind: u32, from: u32, to: u32, name: u32) -> usize
+    requires { ⌜ (4096 ≤ length (now out)) × (count < 2 ^ 40) ⌝ }
+    ensures { λ r. ⌜ Lists (now (out .entry)) count (error kind (spanned from to) name ∷ []) r (now (out .exit)) ⌝ }
+{
+    if MOST_LISTED <= count {
+        return count + 1;
+    }
+    put_words(out, ERROR_BYTES * count, kind, from, to, name);
+    count + 1
+}

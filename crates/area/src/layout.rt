@@ -1,0 +1,56 @@
+// The numbers of an answer area: its mosts, the lengths of its header and records, the word of each field, and the fates. `Numbers` of definitions has them.
+pub const MOST_INSTANCES: usize = 1024;
+
+pub const MOST_VARS: usize = 129;
+
+pub const MOST_LISTED: usize = 256;
+
+pub const MOST_BYTES: usize = 55384;
+
+// The lengths of records, in words; a node's is that of the file.
+pub const STMT_WORDS: usize = 8;
+
+pub const VAR_WORDS: usize = 12;
+
+// The same in bytes.
+pub const HEADER_BYTES: usize = 40;
+
+pub const STMT_BYTES: usize = 32;
+
+pub const VAR_BYTES: usize = 48;
+
+pub const ERROR_BYTES: usize = 16;
+
+// All errors that are listed.
+pub const ERRORS_BYTES: usize = 4096;
+
+// The words of a statement's record behind those that it has in the file.
+pub const STMT_FATE: usize = 6;
+
+pub const STMT_VARIABLE: usize = 7;
+
+// The fates of statements.
+pub const INITIAL_FATE: u32 = 1;
+
+pub const HELD_FATE: u32 = 2;
+
+pub const REPLACED_FATE: u32 = 3;
+
+pub const LEFT_OVER_FATE: u32 = 4;
+
+// Words and their bytes: a bound is a float of two words.
+pub const WORD: usize = 4294967296;
+
+pub const WORD_BYTES: usize = 4;
+
+pub const FLOAT_BYTES: usize = 8;
+
+// Bytes within a record: the fate and its variable in a statement's, the bounds in a variable's.
+pub const FATE_AT: usize = 24;
+
+pub const VARIABLE_AT: usize = 28;
+
+pub const BOUNDS_AT: usize = 32;
+
+// The weight of the bytes used in what a build tells: they stand in the high 32 bits.
+pub const HIGH: u64 = 4294967296;
