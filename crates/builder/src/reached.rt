@@ -12,6 +12,10 @@ ghost use Rattle.ast.specs.Opens.{Open, contentsIn, fileIn};
 ghost use Rattle.definitions.specs.Flatten as flatten;
 ghost use Rattle.builder.specs.Tables.{Classes, Callees, Reaching};
 ghost use Rattle.builder.specs.Rounds.{onward, Added, Stepped};
+use super::names::is_reserved;
+use super::names::is_time;
+use super::numbers::MODEL_PAIRS;
+use super::numbers::NEXT_DIAGONAL;
 use ast::layout::MODEL_FIRST_STMT;
 use ast::layout::MODEL_FIRST_UNKNOWN;
 use ast::layout::MODEL_STMTS;
@@ -32,10 +36,6 @@ use ast::records::node;
 use ast::records::stmt;
 use ast::records::unknown;
 use ast::sections::Sections;
-use super::names::is_reserved;
-use super::names::is_time;
-use super::numbers::MODEL_PAIRS;
-use super::numbers::NEXT_DIAGONAL;
 
 // 1 where y is 1, else x.
 fn either(x: u8, y: u8) -> u8
