@@ -1,8 +1,8 @@
 -- The sections of an answer area behind its header: nodes, statements, variables, dependents, errors, without gaps.
 use Prim.Native.Nat.{ℕ, _+_, _*_, _≤_}
-use mathlib.Core.List.{List, []}
+use mathlib.Core.List.{List, [], map}
 use lib.ListN.{take, drop, getD}
-use Rattle.ast.specs.Words.{section}
+use Rattle.ast.specs.Words.{section, wordOf}
 use Rattle.definitions.specs.Numbers.{mostNodes, mostStmts, mostVariables, mostDeps, headerLength, nodeLength, stmtLength, variableLength, depLength}
 use Rattle.area.specs.declared.sections.Sizes.{Sizes}
 
@@ -41,6 +41,13 @@ module _ (b : List ℕ) (z : Sizes) where
 
   abbrev pub areaStmt : ℕ → List ℕ
   areaStmt i = getD areaStmts i []
+
+  abbrev pub areaVars : List (List ℕ)
+  areaVars = section variableLength (z .vars) (varsAt z) b
+
+-- word k of each record
+unfoldable pub column : ℕ → List (List ℕ) → List ℕ
+column k rs = map (λ r. wordOf r k) rs
 
 -- ---- n bytes from a place on
 

@@ -29,6 +29,15 @@ pub const STMT_FATE: usize = 6;
 
 pub const STMT_VARIABLE: usize = 7;
 
+// The words of a variable's record in front of its bounds.
+pub const VAR_NAME: usize = 0;
+
+pub const VAR_STATE: usize = 1;
+
+pub const VAR_TIME_INDEX: usize = 2;
+
+pub const VAR_TIMED: usize = 7;
+
 // The fates of statements.
 pub const INITIAL_FATE: u32 = 1;
 
@@ -45,12 +54,34 @@ pub const WORD_BYTES: usize = 4;
 
 pub const FLOAT_BYTES: usize = 8;
 
-// Bytes within a record: the fate and its variable in a statement's, the bounds in a variable's.
+// Bytes within the header: the counts, and time's bounds.
+pub const NODES_AT: usize = 0;
+
+pub const STMTS_AT: usize = 4;
+
+pub const VARS_AT: usize = 8;
+
+pub const DEPS_AT: usize = 12;
+
+pub const ERRORS_AT: usize = 16;
+
+pub const INSTANCES_AT: usize = 20;
+
+pub const TIME_AT: usize = 24;
+
+// Bytes within a record: the fate and its variable in a statement's; the held statement, the count of initial conditions and the bounds in a variable's.
 pub const FATE_AT: usize = 24;
 
 pub const VARIABLE_AT: usize = 28;
 
+pub const HELD_AT: usize = 20;
+
+pub const INITIAL_AT: usize = 24;
+
 pub const BOUNDS_AT: usize = 32;
+
+// The refusal of an area that is shorter than the answer.
+pub const SHORT_AREA: u32 = 1;
 
 // The weight of the bytes used in what a build tells: they stand in the high 32 bits.
 pub const HIGH: u64 = 4294967296;

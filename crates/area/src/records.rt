@@ -1,14 +1,17 @@
 // The records of an answer area by number.
 ghost use mathlib.Core.Path.{_≡_};
 ghost use Prim.Native.Nat.{_+_, _*_, _^_, _≤_, _<_};
-ghost use lib.ListN.{length};
+ghost use lib.ListN.{length, getD};
 ghost use Rattle.ast.specs.Words.{wordOf};
 ghost use Rattle.ast.specs.Nodes.{nodeAt};
-ghost use Rattle.area.specs.Sections.{Small, nodesAt, stmtsAt, varsAt, areaNodes, areaStmt};
+ghost use Rattle.area.specs.Sections.{Small, nodesAt, stmtsAt, varsAt, depsAt, areaNodes, areaStmt, areaVars, column};
 use super::layout::HEADER_BYTES;
 use super::layout::STMT_WORDS;
+use super::layout::VAR_WORDS;
 use super::sections::Sizes;
 use super::sections::stmts_at;
+use super::sections::vars_at;
+use ast::sections::Nodes;
 use ast::sections::node_word;
 use ast::sections::record_word;
 
@@ -17,7 +20,11 @@ pub fn node_of(area: &[u8], z: Sizes, i: usize, k: usize) -> usize
     requires { ⌜ (nodesAt + 32 * z .nodes ≤ length (now area)) × (i < z .nodes) × (k < 8) ⌝ }
     ensures { λ r. ⌜ (r ≡ wordOf (nodeAt (areaNodes (now (area .entry)) z) i) k) × (r < 2 ^ 32) ⌝ }
 {
-    node_word(area, HEADER_BYTES, z.nodes, i, k)
+    let ns = Nodes {
+        at: HEADER_BYTES,
+        count: z.nodes,
+    };
+    node_word(area, ns, i, k)
 }
 
 // Word k of statement i.
@@ -26,4 +33,12 @@ pub fn stmt_of(area: &[u8], z: Sizes, i: usize, k: usize) -> usize
     ensures { λ r. ⌜ (r ≡ wordOf (areaStmt (now (area .entry)) z i) k) × (r < 2 ^ 32) ⌝ }
 {
     record_word(area, stmts_at(z), STMT_WORDS, z.stmts, i, k) as usize
+}
+
+// Word k of variable v.
+pub fn var_of(area: &[u8], z: Sizes, v: usize, k: usize) -> u32
+    requires { ⌜ Small z × (depsAt z ≤ length (now area)) × (v < z .vars) × (k < 12) ⌝ }
+    ensures { λ r. ⌜ r ≡ getD (column k (areaVars (now (area .entry)) z)) v 0 ⌝ }
+{
+    record_word(area, vars_at(z), VAR_WORDS, z.vars, v, k)
 }

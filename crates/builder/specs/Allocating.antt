@@ -2,7 +2,7 @@
 use Prim.Native.Nat.{ℕ, zero, suc, _+_, _-_, _*_, _≤_, _<_}
 use mathlib.Core.Path.{_≡_}
 use mathlib.Core.Logic.{_⊎_}
-use mathlib.Core.Bool.{Bool, true, false, cond}
+use mathlib.Core.Bool.{Bool, true, false, cond, _&&_}
 use mathlib.Core.List.{List, [], _∷_, _++_, map}
 use mathlib.Core.Option.{Option, none, some}
 use lib.Dec.{eqb, leb}
@@ -13,15 +13,14 @@ use Rattle.ast.specs.Tree.{Span, Expr, name, number, binary, unary, call, Args,
 use Rattle.ast.specs.Words.{wordOf, spanFrom}
 use Rattle.ast.specs.Numbers.{numberOf}
 use Rattle.ast.specs.Nodes.{kindAt, nameAt, opAt, sizeAt, spanAt, bitsAt, treeAt, isExpr, nodesFit}
-use Rattle.definitions.specs.Numbers.{nameNotFound, wrongStart, rateInvalid}
+use Rattle.definitions.specs.Numbers.{mostNames, nameNotFound, wrongStart, rateInvalid}
 use Rattle.definitions.specs.Variables.{Error, error, Bounds, at, timeIndex}
 use Rattle.definitions.specs.Check.{Scope, lookup}
 use Rattle.definitions.specs.Roles.{Start, argAt, numberIn, takesRate}
-use Rattle.area.specs.Listing.{listed}
-use Rattle.area.specs.Sections.{Small, areaNodes, areaStmts, areaStmt}
+use Rattle.area.specs.Sections.{Small, depsAt, areaNodes, areaStmts, areaStmt, areaVars, column}
 use Rattle.area.specs.declared.sections.Sizes.{Sizes}
-use Rattle.builder.specs.declared.allocate.Start as found
-use Rattle.builder.specs.declared.allocate.Start.the-variants.{Nothing, Short, Number}
+use Rattle.builder.specs.declared.allocation.roles.Start as found
+use Rattle.builder.specs.declared.allocation.roles.Start.the-variants.{Nothing, Short, Number}
 
 -- ---- the statements of an area: kind (1 for an equation, 2 for a rate equation), name, left top, right top, span, fate, variable
 
@@ -49,6 +48,23 @@ pub record Flattened (names : ℕ) (b : List ℕ) (z : Sizes) : Type 0 where
   pub left : (i : ℕ) → i < z .stmts → wordOf (areaStmt b z i) 0 ≡ 1 → (wordOf (areaStmt b z i) 2 < z .nodes) × (isExpr (areaNodes b z) (wordOf (areaStmt b z i) 2) ≡ true)
   pub name : (i : ℕ) → i < z .stmts → wordOf (areaStmt b z i) 0 ≡ 2 → wordOf (areaStmt b z i) 1 < names
 
+-- ---- the variables of an area by number
+
+module _ (b : List ℕ) (z : Sizes) where
+  -- names plus 1; 1 for a state; time indexes plus 1 or 0
+  abbrev pub namesIn : List ℕ
+  namesIn = column 0 (areaVars b z)
+
+  abbrev pub statesIn : List ℕ
+  statesIn = column 1 (areaVars b z)
+
+  abbrev pub indexesIn : List ℕ
+  indexesIn = column 2 (areaVars b z)
+
+  -- 1 for a variable that a rate equation may go to: a time-dependent state
+  unfoldable pub ratesIn : List ℕ
+  ratesIn = map (λ r. flag (eqb (wordOf r 1) 1 && eqb (wordOf r 7) 1)) (areaVars b z)
+
 -- ---- tables: `numbers` has each name's variable number plus 1 or 0, `indexes` each variable's time index plus 1 or 0, `rates` 1 for each
 -- variable that a rate equation may go to; `lower` is time's lower bound
 
@@ -60,11 +76,11 @@ lessOne (suc n) = some n
 unfoldable pub entryBy : List ℕ → ℕ → Option ℕ
 entryBy table n = lessOne (getD table n 0)
 
--- tables that are long enough, for names up to 256 and variables up to 129
-pub record TablesLong (z : Sizes) (numbers indexes : List ℕ) : Type 0 where
-  pub names : 256 ≤ length numbers
-  pub vars : 129 ≤ length indexes
-  pub entries : (n : ℕ) → n < 256 → getD numbers n 0 ≤ z .vars
+-- a table of numbers that is long enough, each entry a variable's whose record the area has
+pub record Numbered (b : List ℕ) (z : Sizes) (numbers : List ℕ) : Type 0 where
+  pub names : mostNames ≤ length numbers
+  pub vars : depsAt z ≤ length b
+  pub entries : (n : ℕ) → n < mostNames → getD numbers n 0 ≤ z .vars
 
 module _ (numbers indexes : List ℕ) where
   -- A left side that is itself a call by a variable's name with a number in time's place.
@@ -182,12 +198,3 @@ unfoldable pub CallFits : List (List ℕ) → ℕ → found.Start → Type 0
 CallFits ns i Nothing = Unit {0}
 CallFits ns i Short = Unit {0}
 CallFits ns i (Number v a) = nameAt ns i < 256
-
--- ---- errors listed in an area whose errors begin at byte k
-
-unfoldable pub listedAt : ℕ → List ℕ → ℕ → List Error → List ℕ
-listedAt k d n es = take k d ++ listed (drop k d) n es
-
--- From n errors in the area d, the errors es lead to r errors in the area d′.
-abbrev pub ListsAt : ℕ → List ℕ → ℕ → List Error → ℕ → List ℕ → Type 0
-ListsAt k d n es r d′ = (r ≡ n + length es) × (d′ ≡ listedAt k d n es)

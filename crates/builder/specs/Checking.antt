@@ -1,62 +1,100 @@
--- What the code that checks expressions stands on: an expression or arguments of an open file, and the tables of a model's scope.
+-- What the code that checks expressions stands on: nodes that pass, expressions and arguments among them, and the
+-- tables of a model's scope.
 use mathlib.Core.Path.{_≡_}
-use mathlib.Core.Bool.{true}
+use mathlib.Core.Bool.{true, not}
 use mathlib.Core.List.{List, []}
 use mathlib.Core.Option.{Option, none, some}
-use Prim.Native.Nat.{ℕ, _-_, _≤_, _<_}
+use Prim.Native.Nat.{ℕ, _+_, _-_, _≤_, _<_}
+use lib.Dec.{eqb}
 use lib.ListN.{getD}
-use Rattle.ast.specs.Tree.{Expr, Args, Stmt, Unknown}
-use Rattle.ast.specs.Nodes.{kindAt, opAt, sizeAt, isExpr, argsFit, treeAt, argsBefore}
-use Rattle.ast.specs.Records.{unknownOf, stmtOf}
+use Rattle.functions.specs.Lists.{unless}
+use Rattle.ast.specs.Tree.{Args, Stmt, Unknown}
+use Rattle.ast.specs.Nodes.{kindAt, nameAt, opAt, sizeAt, spanAt, isExpr, argsFit, argsBefore, nodesFit}
+use Rattle.ast.specs.NodesIn.{nodesIn, NodesLie}
+use Rattle.ast.specs.Records.{rightTop, spanOfStmt, unknownOf, stmtOf}
 use Rattle.ast.specs.Opens.{Open, contentsIn, fileIn}
+use Rattle.ast.specs.declared.sections.Nodes.{Nodes}
 use Rattle.ast.specs.declared.sections.Sections.{Sections}
-use Rattle.definitions.specs.Check.{Scope, depNames}
-use Rattle.definitions.specs.Flatten.{modelAt, scopeOf}
+use Rattle.definitions.specs.Numbers.{mostNames, nameNotFound, submodelMissing}
+use Rattle.definitions.specs.Variables.{Error, error}
+use Rattle.definitions.specs.Check.{Scope, lookup, depNames, dependentErrors, variableErrors, callErrors}
+use Rattle.definitions.specs.Flatten.{modelAt, scopeOf, stmtErrors, errorsOf}
 use Rattle.builder.specs.Tables.{Classes, RuleNumbers, Callees, VarsOf}
+use Rattle.builder.specs.declared.errors.check.Checked.{Checked}
+use Rattle.builder.specs.declared.errors.check.Run.{Run}
 
-module _ (f : List ℕ) (s : Sections) where
-  abbrev pub nodesOf : List (List ℕ)
-  nodesOf = contentsIn f s .nodes
+-- ---- arguments
 
-  -- The scope of model m.
-  abbrev pub scopeIn : ℕ → Scope
-  scopeIn m = scopeOf (fileIn f s) (modelAt (fileIn f s) m)
+module _ (ns : List (List ℕ)) where
+  -- The arguments of a run.
+  abbrev pub argsIn : Run → Args
+  argsIn r = argsBefore ns (r .end) (r .args) (r .total)
 
-  -- The expression at node i, and c arguments of t nodes in all before node `end`.
-  abbrev pub treeIn : ℕ → Expr
-  treeIn i = treeAt nodesOf i
+  -- A run without its last argument, whose node is the last before the end.
+  abbrev pub beforeLast : Run → Run
+  beforeLast r =
+      record {
+        end = r .end - sizeAt ns (r .end - 1);
+        args = r .args - 1;
+        total = r .total - sizeAt ns (r .end - 1);
+      }
 
-  abbrev pub argsIn : ℕ → ℕ → ℕ → Args
-  argsIn end c t = argsBefore nodesOf end c t
+  -- The run of the arguments of the call at node i.
+  abbrev pub runOf : ℕ → Run
+  runOf i = record { end = i; args = opAt ns i; total = sizeAt ns i - 1 }
 
-  -- The arguments of the call at node i.
-  abbrev pub argsOf : ℕ → Args
-  argsOf i = argsIn i (opAt nodesOf i) (sizeAt nodesOf i - 1)
+-- ---- errors
 
 -- The names, plus 1, of the kept dependents of a variable, if there is one.
 unfoldable pub keptNames : Scope → Option ℕ → List ℕ
 keptNames c none = []
 keptNames c (some v) = depNames c v
 
-pub record NodeIn (f : List ℕ) (s : Sections) (i : ℕ) : Type 0 where
-  pub opened : Open f s
-  pub within : i < s .counts .nodes
+-- Errors 9 and 10 of the arguments of a call by the name n.
+abbrev pub dependentsAt : Scope → ℕ → Args → List Error
+dependentsAt c n a = dependentErrors (keptNames c (lookup c n)) a
 
--- Node i is an expression; a call; c arguments of t nodes in all stand before node `end`.
-pub record ExprIn (f : List ℕ) (s : Sections) (i : ℕ) : Type 0 where
-  pub opened : Open f s
-  pub within : i < s .counts .nodes
-  pub expr : isExpr (nodesOf f s) i ≡ true
+module _ (c : Scope) (ns : List (List ℕ)) (i : ℕ) where
+  -- The errors of the call at node i itself, and those of one that is no built-in's.
+  abbrev pub callAt : List Error
+  callAt = callErrors c (nameAt ns i) (argsIn ns (runOf ns i)) (spanAt ns i)
 
-pub record CallIn (f : List ℕ) (s : Sections) (i : ℕ) : Type 0 where
-  pub opened : Open f s
-  pub within : i < s .counts .nodes
-  pub call : kindAt (nodesOf f s) i ≡ 5
+  abbrev pub variableAt : List Error
+  variableAt = variableErrors c (nameAt ns i) (argsIn ns (runOf ns i)) (spanAt ns i) (lookup c (nameAt ns i))
 
-pub record ArgsIn (f : List ℕ) (s : Sections) (end c t : ℕ) : Type 0 where
-  pub opened : Open f s
-  pub within : end ≤ s .counts .nodes
-  pub fits : argsFit (nodesOf f s) end c t ≡ true
+-- The error of the name at node i that has no entry in a table of variables.
+unfoldable pub nameAbsent : List (List ℕ) → List ℕ → ℕ → List Error
+nameAbsent ns vs i = unless (not (eqb (getD vs (nameAt ns i) 0) 0)) (error nameNotFound (spanAt ns i) (nameAt ns i + 1))
+
+-- ---- nodes
+
+-- Nodes of the bytes b that lie within them and pass, where there are `names` names.
+pub record Formed (names : ℕ) (b : List ℕ) (ns : Nodes) : Type 0 where
+  pub lie : NodesLie ns b
+  pub named : names ≤ mostNames
+  pub pass : nodesFit names (nodesIn ns b) (ns .count) ≡ true
+
+-- Node i of them is an expression; a call; a run of arguments stands among them.
+pub record ExprIn (names : ℕ) (b : List ℕ) (ns : Nodes) (i : ℕ) : Type 0 where
+  pub formed : Formed names b ns
+  pub within : i < ns .count
+  pub expr : isExpr (nodesIn ns b) i ≡ true
+
+pub record CallIn (names : ℕ) (b : List ℕ) (ns : Nodes) (i : ℕ) : Type 0 where
+  pub formed : Formed names b ns
+  pub within : i < ns .count
+  pub call : kindAt (nodesIn ns b) i ≡ 5
+
+pub record ArgsIn (names : ℕ) (b : List ℕ) (ns : Nodes) (r : Run) : Type 0 where
+  pub formed : Formed names b ns
+  pub within : r .end ≤ ns .count
+  pub fits : argsFit (nodesIn ns b) (r .end) (r .args) (r .total) ≡ true
+
+-- ---- tables
+
+-- The scope of model m.
+abbrev pub scopeIn : List ℕ → Sections → ℕ → Scope
+scopeIn f s m = scopeOf (fileIn f s) (modelAt (fileIn f s) m)
 
 -- The variables of model m, by name.
 pub record Scoped (f : List ℕ) (s : Sections) (m : ℕ) (vs : List ℕ) : Type 0 where
@@ -69,6 +107,17 @@ pub record Against (f : List ℕ) (s : Sections) (m : ℕ) (cs rs vs : List ℕ)
   pub scoped : Scoped f s m vs
   pub classes : Classes (scopeIn f s m .names) cs
   pub rules : RuleNumbers (scopeIn f s m .names) rs
+
+module _ (f : List ℕ) (at : Checked) where
+  -- The same for what is checked: the scope, its variables by name, and what an expression is checked against.
+  abbrev pub scopeFor : Scope
+  scopeFor = scopeIn f (at .sections) (at .model)
+
+  abbrev pub ScopedFor : List ℕ → Type 0
+  ScopedFor vs = Scoped f (at .sections) (at .model) vs
+
+  abbrev pub AgainstFor : List ℕ → List ℕ → List ℕ → Type 0
+  AgainstFor cs rs vs = Against f (at .sections) (at .model) cs rs vs
 
 -- The classes of the names, and the models that the statements call.
 pub record Called (f : List ℕ) (s : Sections) (cs ts : List ℕ) : Type 0 where
@@ -83,6 +132,11 @@ pub record TablesRead (f : List ℕ) (s : Sections) (cs rs ts : List ℕ) : Type
   pub rules : RuleNumbers (fileIn f s .names) rs
   pub callees : Callees f s ts
 
+-- Statement q, with a depth of k models below it.
+pub record StmtAt (s : Sections) (q k : ℕ) : Type 0 where
+  pub within : q < s .counts .stmts
+  pub deep : k ≤ 32
+
 -- Unknown u, and the classes of the names.
 pub record UnknownIn (f : List ℕ) (s : Sections) (cs : List ℕ) (u : ℕ) : Type 0 where
   pub opened : Open f s
@@ -96,3 +150,16 @@ module _ (f : List ℕ) (s : Sections) where
 
   abbrev pub stmtIn : ℕ → Stmt
   stmtIn q = stmtOf (contentsIn f s .nodes) (getD (contentsIn f s .stmts) q [])
+
+  -- The errors of statement q: to a depth of k models, in a scope; of one that is no submodel statement, of model m;
+  -- and the error of a submodel statement whose model is missing.
+  abbrev pub errorsAt : ℕ → Scope → ℕ → List Error
+  errorsAt k c q = stmtErrors (fileIn f s) (λ j. errorsOf (fileIn f s) k j) c (stmtIn q)
+
+  abbrev pub ownErrors : ℕ → ℕ → List Error
+  ownErrors m q = stmtErrors (fileIn f s) (λ j. []) (scopeIn f s m) (stmtIn q)
+
+  abbrev pub missingAt : ℕ → Error
+  missingAt q =
+      let r = getD (contentsIn f s .stmts) q [] in
+      error submodelMissing (spanOfStmt r) (nameAt (contentsIn f s .nodes) (rightTop r) + 1)

@@ -1,5 +1,5 @@
 -- The fates of statements by numbers, as the code writes them into words 6 and 7 of the statements' records.
-use Prim.Native.Nat.{ℕ, _-_, _/_, _%_, _<_}
+use Prim.Native.Nat.{ℕ, _-_, _/_, _%_, _≤_, _<_}
 use mathlib.Core.Path.{_≡_}
 use mathlib.Core.Bool.{Bool, cond, _&&_}
 use mathlib.Core.List.{List, [], _∷_, _++_}
@@ -7,18 +7,21 @@ use lib.Dec.{eqb}
 use lib.ListN.{length, take, drop, getD}
 use Rattle.functions.specs.Lists.{member, place, placeFrom, plusOne, times}
 use Rattle.ast.specs.Words.{wordOf}
+use Rattle.area.specs.Sections.{Small, varsAt}
+use Rattle.area.specs.declared.sections.Sizes.{Sizes}
+use Rattle.definitions.specs.Numbers.{initialFate, heldFate, replacedFate, leftOverFate, mostVariables}
 
 -- A statement that is left holds the queue's first state, or is left over.
 unfoldable pub leftIn : List ℕ → ℕ × ℕ
-leftIn [] = (4, 0)
-leftIn (v ∷ queue) = (2, v)
+leftIn [] = (leftOverFate, 0)
+leftIn (v ∷ queue) = (heldFate, v)
 
 -- The fate, and its variable, of a statement of a role's number: `later` are the roles behind it.
 unfoldable pub fateIn : List ℕ → ℕ → List ℕ → ℕ × ℕ
 fateIn queue role later =
     cond (eqb role 0) (leftIn queue)
-    (cond (eqb (role % 2) 1) (1, (role - 1) / 2)
-    (cond (member role later) (3, (role - 1) / 2) (2, (role - 1) / 2)))
+    (cond (eqb (role % 2) 1) (initialFate, (role - 1) / 2)
+    (cond (member role later) (replacedFate, (role - 1) / 2) (heldFate, (role - 1) / 2)))
 
 -- The states that are still to be paired behind it.
 unfoldable pub queueIn : List ℕ → ℕ → List ℕ
@@ -28,6 +31,17 @@ queueIn queue role = cond (eqb role 0) (drop 1 queue) queue
 unfoldable pub fatesIn : List ℕ → List ℕ → List (ℕ × ℕ)
 fatesIn queue [] = []
 fatesIn queue (r ∷ rs) = fateIn queue r rs ∷ fatesIn (queueIn queue r) rs
+
+-- The states that are still queued: of the first `queued` of a table, those behind the first `paired`.
+abbrev pub stillQueued : List ℕ → ℕ → ℕ → List ℕ
+stillQueued states queued paired = drop paired (take queued states)
+
+-- What fates are written by: the roles of all statements that the area has, and a table whose first states are queued.
+pub record FateSources (z : Sizes) (area roles states : List ℕ) (queued : ℕ) : Type 0 where
+  pub small : Small z
+  pub within : varsAt z ≤ length area
+  pub roles-long : z .stmts ≤ length roles
+  pub states-long : queued ≤ length states
 
 -- ---- in the records
 
@@ -48,18 +62,18 @@ isFated fate v r = eqb (wordOf r 6) fate && eqb (wordOf r 7) v
 
 -- Of the statements' records `rs` from number i on: the first that each variable holds plus 1 or 0, its first initial condition plus 1 or 0, and how many it has.
 pub record FatesFrom (i : ℕ) (rs : List (List ℕ)) (held first conditions : List ℕ) : Type 0 where
-  pub held-long : length held ≡ 129
-  pub first-long : length first ≡ 129
-  pub conditions-long : length conditions ≡ 129
-  pub held-of : (v : ℕ) → v < 129 → getD held v 0 ≡ plusOne (placeFrom i (isFated 2 v) (drop i rs))
-  pub first-of : (v : ℕ) → v < 129 → getD first v 0 ≡ plusOne (placeFrom i (isFated 1 v) (drop i rs))
-  pub conditions-of : (v : ℕ) → v < 129 → getD conditions v 0 ≡ times (isFated 1 v) (drop i rs)
+  pub held-long : length held ≡ mostVariables
+  pub first-long : length first ≡ mostVariables
+  pub conditions-long : length conditions ≡ mostVariables
+  pub held-of : (v : ℕ) → v < mostVariables → getD held v 0 ≡ plusOne (placeFrom i (isFated heldFate v) (drop i rs))
+  pub first-of : (v : ℕ) → v < mostVariables → getD first v 0 ≡ plusOne (placeFrom i (isFated initialFate v) (drop i rs))
+  pub conditions-of : (v : ℕ) → v < mostVariables → getD conditions v 0 ≡ times (isFated initialFate v) (drop i rs)
 
 -- Of all of them.
 pub record FatesIn (rs : List (List ℕ)) (held first conditions : List ℕ) : Type 0 where
-  pub held-long : length held ≡ 129
-  pub first-long : length first ≡ 129
-  pub conditions-long : length conditions ≡ 129
-  pub held-of : (v : ℕ) → v < 129 → getD held v 0 ≡ plusOne (place (isFated 2 v) rs)
-  pub first-of : (v : ℕ) → v < 129 → getD first v 0 ≡ plusOne (place (isFated 1 v) rs)
-  pub conditions-of : (v : ℕ) → v < 129 → getD conditions v 0 ≡ times (isFated 1 v) rs
+  pub held-long : length held ≡ mostVariables
+  pub first-long : length first ≡ mostVariables
+  pub conditions-long : length conditions ≡ mostVariables
+  pub held-of : (v : ℕ) → v < mostVariables → getD held v 0 ≡ plusOne (place (isFated heldFate v) rs)
+  pub first-of : (v : ℕ) → v < mostVariables → getD first v 0 ≡ plusOne (place (isFated initialFate v) rs)
+  pub conditions-of : (v : ℕ) → v < mostVariables → getD conditions v 0 ≡ times (isFated initialFate v) rs

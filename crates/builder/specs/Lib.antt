@@ -12,3 +12,4 @@ pub mod Fating
 pub mod VarRecords
 pub mod Starting
 pub mod Root
+pub mod Laying

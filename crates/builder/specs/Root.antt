@@ -1,7 +1,7 @@
 -- What a build works out of a root model, step by step: the sizes, the tables of its variables, and the parts of the area that are written.
-use Prim.Native.Nat.{ℕ, _*_, _≤_, _<_}
+use Prim.Native.Nat.{ℕ, _*_, _^_, _≤_, _<_}
 use mathlib.Core.Path.{_≡_}
-use mathlib.Core.Bool.{cond, _||_}
+use mathlib.Core.Bool.{false, cond, _||_}
 use mathlib.Core.List.{List, [], _++_, map}
 use lib.Dec.{eqb}
 use lib.ListN.{length, take, drop, getD}
@@ -9,10 +9,14 @@ use lib.Ieee.{Float}
 use Rattle.functions.specs.Lists.{each, sumOf, plusOne, flag, times}
 use Rattle.ast.specs.Tree.{File, Flat, flatSize}
 use Rattle.ast.specs.Words.{bytesOf}
+use Rattle.ast.specs.Bytes.{put}
 use Rattle.ast.specs.Encode.{flatNodes, encode}
 use Rattle.ast.specs.Opens.{Open, fileIn}
 use Rattle.ast.specs.declared.sections.Sections.{Sections}
-use Rattle.definitions.specs.Numbers.{modelCycle, selfListedUnknown, argumentBeyond, overMost}
+use Rattle.definitions.specs.Flatten as definition
+use Rattle.ast.specs.declared.numbers.Bounds as floats
+use Rattle.builder.specs.Bounding.{Floating}
+use Rattle.definitions.specs.Numbers.{mostInstances, modelCycle, selfListedUnknown, argumentBeyond, overMost}
 use Rattle.definitions.specs.Variables.{Error, Bounds, at, timeIndex, timeDependent, timeBounds}
 use Rattle.definitions.specs.Check.{Scope}
 use Rattle.definitions.specs.Flatten.{modelAt, scopeOf, flatten, errorsOf, instances, cyclic, selfListed, overfull}
@@ -21,17 +25,19 @@ use Rattle.definitions.specs.Allocate.{Fate, fatesOf, pairedStates, countErrors
 use Rattle.definitions.specs.Answer.{Answer, answerBytes, flatRecords, variableRecords}
 use Rattle.definitions.specs.Build.{Result, refusal, accepted, answerFrom, tooBig, fitted}
 use Rattle.builder.specs.Tables.{Classes, lackingIn}
-use Rattle.builder.specs.VariableTables.{rosterIn, rostered, Listing}
+use Rattle.builder.specs.VariableTables.{rosterIn, Numbers}
 use Rattle.builder.specs.Unfated.{unfated}
+use Rattle.builder.specs.VarRecords.{unheldRecords}
 use Rattle.area.specs.Sections.{Small, stmtsAt, varsAt, depsAt, areaNodes, areaStmts, part}
 use Rattle.builder.specs.Fating as fating
-use Rattle.builder.specs.Allocating.{flatsIn, roleBy, roleErrorsBy}
-use Rattle.builder.specs.Starting.{startingIn}
+use Rattle.builder.specs.Allocating.{flatsIn, Flattened, Numbered, namesIn, statesIn, indexesIn, ratesIn, roleBy, roleErrorsBy}
+use Rattle.builder.specs.Starting.{startingIn, Righted}
+use Rattle.builder.specs.Checking as checking
 use Rattle.area.specs.declared.sections.Sizes.{Sizes}
-use Rattle.builder.specs.declared.measure.Measured as measured
-use Rattle.builder.specs.declared.measure.Measured.the-variants.{Refused, Sized}
-use Rattle.builder.specs.declared.filling.Answered as answered
-use Rattle.builder.specs.declared.filling.Answered.the-variants as is
+use Rattle.builder.specs.declared.extent.measure.Measured as measured
+use Rattle.builder.specs.declared.extent.measure.Measured.the-variants.{Refused, Sized}
+use Rattle.builder.specs.declared.answer.Answered as answered
+use Rattle.builder.specs.declared.answer.Answered.the-variants as is
 
 -- The numbers of instances, flattened statements and flattened nodes.
 pub record Measure : Type 0 where
@@ -82,37 +88,28 @@ unfoldable pub measuredAs : measured.Measured → Result Measure
 measuredAs (Refused n) = refusal n
 measuredAs (Sized i q n) = accepted (record { instances = i; stmts = q; nodes = n })
 
--- ---- the tables of the root's variables
+-- The instances, flattened statements and nodes of a model that is not too big.
+pub record ExtentOf (f : File) (m i q n : ℕ) : Type 0 where
+  pub instances : i ≡ definition.instances f (length (f .models)) m
+  pub stmts : q ≡ length (flatsOf f m)
+  pub nodes : n ≡ sumOf flatSize (flatsOf f m)
+  pub small : tooBig f m (flatsOf f m) ≡ false
 
--- Where the variables' dependents begin, their time indexes, whether they reach t, and whether a rate equation may go to them.
-pub record Tables : Type 0 where
-  pub starts : List ℕ
-  pub indexes : List ℕ
-  pub reach : List ℕ
-  pub rates : List ℕ
+-- ---- the root's variables
 
-abbrev pub tabled : List ℕ → List ℕ → List ℕ → List ℕ → Tables
-tabled starts indexes reach rates = record { starts = starts; indexes = indexes; reach = reach; rates = rates }
+-- Where the variables' dependents begin and, last, where they end; and whether they reach t.
+pub record TablesOf (c : Scope) (starts reach : List ℕ) : Type 0 where
+  pub starts-long : length starts ≡ 130
+  pub reach-long : length reach ≡ 129
+  pub start : (v : ℕ) → v ≤ length (c .vars) → getD starts v 0 ≡ length (each (λ x. x .deps) (take v (c .vars)))
+  pub reached : (v : ℕ) → v < length (c .vars) → (eqb v 0 || eqb (getD reach v 0) 1) ≡ timeDependent (c .vars) v
 
 -- tables without entries
-pub record NoTables (starts indexes reach rates : List ℕ) : Type 0 where
+pub record NoTables (starts reach : List ℕ) : Type 0 where
   pub starts-long : length starts ≡ 130
-  pub indexes-long : length indexes ≡ 129
   pub reach-long : length reach ≡ 129
-  pub rates-long : length rates ≡ 129
   pub no-start : getD starts 0 0 ≡ 0
   pub no-mark : (v : ℕ) → getD reach v 0 ≡ 0
-
-pub record TablesOf (c : Scope) (t : Tables) : Type 0 where
-  pub starts-long : length (t .starts) ≡ 130
-  pub indexes-long : length (t .indexes) ≡ 129
-  pub reach-long : length (t .reach) ≡ 129
-  pub rates-long : length (t .rates) ≡ 129
-  -- where each variable's dependents begin, and, last, where they end
-  pub start : (v : ℕ) → v ≤ length (c .vars) → getD (t .starts) v 0 ≡ length (each (λ x. x .deps) (take v (c .vars)))
-  pub index : (v : ℕ) → v < length (c .vars) → getD (t .indexes) v 0 ≡ plusOne (timeIndex (at (c .vars) v))
-  pub reach : (v : ℕ) → v < length (c .vars) → (eqb v 0 || eqb (getD (t .reach) v 0) 1) ≡ timeDependent (c .vars) v
-  pub rate : (v : ℕ) → v < length (c .vars) → getD (t .rates) v 0 ≡ flag (takesRate c v)
 
 -- The sizes of the answer's sections.
 pub record SizesOf (f : File) (m : ℕ) (z : Sizes) : Type 0 where
@@ -122,62 +119,87 @@ pub record SizesOf (f : File) (m : ℕ) (z : Sizes) : Type 0 where
   pub vars : z .vars ≡ length (scopeAt f m .vars)
   pub deps : z .deps ≡ length (each (λ x. x .deps) (scopeAt f m .vars))
 
--- What is known of root model m of an open file: the classes of its names, its variables by number and by name, their tables, and the sizes.
-pub record Known (f : List ℕ) (s : Sections) (m : ℕ) (classes names numbers starts indexes reach rates : List ℕ) (z : Sizes) : Type 0 where
+-- What is known of root model m of an open file: the classes of its names, its variables by name, and the sizes.
+pub record Known (f : List ℕ) (s : Sections) (m : ℕ) (classes numbers : List ℕ) (z : Sizes) : Type 0 where
   pub is-open : Open f s
   pub model : m < s .counts .models
   pub classed : Classes (fileIn f s .names) classes
   pub classes-long : length classes ≡ 256
-  pub listing : Listing (rosterIn f s m) (rostered (z .vars) names numbers)
-  pub tables : TablesOf (scopeAt (fileIn f s) m) (tabled starts indexes reach rates)
+  pub numbered : Numbers (rosterIn f s m) numbers
+  pub numbers-long : length numbers ≡ 256
   pub sizes : SizesOf (fileIn f s) m z
+
+-- The same with the models that statements call, the instances, and time's bounds as floats: what its answer is written from.
+pub record Rooted (f : List ℕ) (s : Sections) (classes calls numbers : List ℕ) (m i : ℕ) (z : Sizes) (time : floats.Bounds) : Type 0 where
+  pub known : Known f s m classes numbers z
+  pub called : checking.Called f s classes calls
+  pub instances : i ≡ definition.instances (fileIn f s) (length (fileIn f s .models)) m
+  pub few : i ≤ mostInstances
+  pub timed : Floating (timeAt (fileIn f s) m) time
 
 -- ---- parts of an area
 
--- An area with the nodes, the statements' records `rs` and the dependents of the answer.
-pub record PartsLaid (f : File) (m : ℕ) (z : Sizes) (rs : List (List ℕ)) (b : List ℕ) : Type 0 where
+-- An area with the nodes, the statements' records `rs`, the variables' records `vs` and the dependents of the answer.
+pub record PartsLaid (f : File) (m : ℕ) (z : Sizes) (rs vs : List (List ℕ)) (b : List ℕ) : Type 0 where
   pub long : length b ≡ 55384
   pub nodes : part 40 (32 * z .nodes) b ≡ encode (each flatNodes (flatsOf f m))
   pub stmts : part (stmtsAt z) (32 * z .stmts) b ≡ encode rs
+  pub vars : part (varsAt z) (48 * z .vars) b ≡ encode vs
   pub deps : part (depsAt z) (4 * z .deps) b ≡ bytesOf (each (λ x. x .deps) (scopeAt f m .vars))
 
--- before their fates are known, and with them
+-- The variables laid into an area `b` whose sizes but for the dependents are those of z: the sizes then, and the area with the variables' records and,
+-- behind them, their dependents.
+pub record VarsLaid (f : File) (m : ℕ) (z : Sizes) (b : List ℕ) (r : Sizes) (b′ : List ℕ) : Type 0 where
+  pub nodes : r .nodes ≡ z .nodes
+  pub stmts : r .stmts ≡ z .stmts
+  pub vars : r .vars ≡ length (scopeAt f m .vars)
+  pub deps : r .deps ≡ length (each (λ x. x .deps) (scopeAt f m .vars))
+  pub laid : b′ ≡ put (put b (depsAt r) (bytesOf (each (λ x. x .deps) (scopeAt f m .vars)))) (varsAt r) (encode (unheldRecords (scopeAt f m .vars)))
+
+-- before fates are known, with them, and with what each variable holds
 abbrev pub Unfated : File → ℕ → Sizes → List ℕ → Type 0
-Unfated f m z b = PartsLaid f m z (unfated 0 (flatsOf f m)) b
+Unfated f m z b = PartsLaid f m z (unfated 0 (flatsOf f m)) (unheldRecords (scopeAt f m .vars)) b
 
 abbrev pub Fated : File → ℕ → Sizes → List ℕ → Type 0
-Fated f m z b = PartsLaid f m z (flatRecords 0 (flatsOf f m) (fatesAt f m)) b
+Fated f m z b = PartsLaid f m z (flatRecords 0 (flatsOf f m) (fatesAt f m)) (unheldRecords (scopeAt f m .vars)) b
+
+abbrev pub Held : File → ℕ → Sizes → List ℕ → Type 0
+Held f m z b = PartsLaid f m z (flatRecords 0 (flatsOf f m) (fatesAt f m)) (variableRecords (answerAt f m) 0 0 (scopeAt f m .vars)) b
 
 -- how many of the states are paired
 unfoldable pub pairedCount : ℕ → ℕ → ℕ
 pairedCount left states = cond (eqb left states) states 0
 
--- with the variables too
-abbrev pub Varied : File → ℕ → Sizes → List ℕ → Type 0
-Varied f m z b = Fated f m z b × (part (varsAt z) (48 * z .vars) b ≡ encode (variableRecords (answerAt f m) 0 0 (scopeAt f m .vars)))
+-- ---- fates and errors over the records in an area, `numbers` having each name's variable
 
--- ---- fates and errors by the tables, over the records in an area
-
-module _ (b : List ℕ) (z : Sizes) (numbers indexes rates : List ℕ) (lower : Float) where
+module _ (b : List ℕ) (z : Sizes) (numbers : List ℕ) (lower : Float) where
   unfoldable pub rolesBy : List ℕ
-  rolesBy = map (roleBy numbers indexes rates lower) (flatsIn b z)
+  rolesBy = map (roleBy numbers (indexesIn b z) (ratesIn b z) lower) (flatsIn b z)
 
-  module _ (starts : List ℕ) where
-    unfoldable pub lackingBy : List ℕ
-    lackingBy = lackingIn rolesBy starts (z .vars)
+  unfoldable pub lackingBy : List ℕ
+  lackingBy = lackingIn rolesBy (statesIn b z) (z .vars)
 
-    -- the states that are paired
-    unfoldable pub queueBy : List ℕ
-    queueBy = cond (eqb (times (eqb 0) rolesBy) (length lackingBy)) lackingBy []
+  -- the states that are paired
+  unfoldable pub queueBy : List ℕ
+  queueBy = cond (eqb (times (eqb 0) rolesBy) (length lackingBy)) lackingBy []
 
-    -- the statements' records with their fates
-    unfoldable pub fatedBy : List (List ℕ)
-    fatedBy = fating.fated (areaStmts b z) (fating.fatesIn queueBy rolesBy)
+  -- the statements' records with their fates
+  unfoldable pub fatedBy : List (List ℕ)
+  fatedBy = fating.fated (areaStmts b z) (fating.fatesIn queueBy rolesBy)
 
   -- the errors of root model m, where `left` statements and `states` states are left
-  unfoldable pub errorsBy : File → ℕ → List ℕ → ℕ → ℕ → List Error
-  errorsBy f m names left states =
-      errorsOf f (length (f .models)) m ++ each (roleErrorsBy numbers indexes rates lower) (flatsIn b z) ++ countErrors (modelAt f m .span) left states ++ startingIn (modelAt f m .span) (areaNodes b z) (areaStmts b z) names (z .vars)
+  unfoldable pub errorsBy : File → ℕ → ℕ → ℕ → List Error
+  errorsBy f m left states =
+      errorsOf f (length (f .models)) m ++ each (roleErrorsBy numbers (indexesIn b z) (ratesIn b z) lower) (flatsIn b z) ++ countErrors (modelAt f m .span) left states ++ startingIn (modelAt f m .span) (areaNodes b z) (areaStmts b z) (namesIn b z) (z .vars)
+
+-- What the errors of root model m are found from: the file's tables, the area with fates, and few enough errors to count.
+pub record Erring (f : List ℕ) (s : Sections) (classes calls b numbers : List ℕ) (m : ℕ) (z : Sizes) : Type 0 where
+  pub called : checking.Called f s classes calls
+  pub model : m < s .counts .models
+  pub righted : Righted b z
+  pub flattened : (count : ℕ) × Flattened count b z
+  pub numbered : Numbered b z numbers
+  pub few : length (errorsOf (fileIn f s) (length (fileIn f s .models)) m) < 2 ^ 32
 
 -- ---- what the build of a model answers: a refusal, or the bytes used of an area
 

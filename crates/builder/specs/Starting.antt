@@ -10,7 +10,7 @@ use Rattle.ast.specs.Words.{wordOf}
 use Rattle.ast.specs.Nodes.{spanAt}
 use Rattle.definitions.specs.Numbers.{noInitialCondition, algebraicInitialCondition}
 use Rattle.definitions.specs.Variables.{Error, error}
-use Rattle.area.specs.Sections.{Small, errorsAt, areaStmt}
+use Rattle.area.specs.Sections.{Small, depsAt, areaStmt}
 use Rattle.builder.specs.Fating.{isFated}
 use Rattle.area.specs.declared.sections.Sizes.{Sizes}
 
@@ -35,8 +35,8 @@ module _ (model : Span) (ns rs : List (List ℕ)) where
   startingIn names zero = []
   startingIn names (suc n) = startingIn names n ++ stateErrorsIn (getD names n 0) n
 
--- An area with room for errors, where each statement's right side is a node.
+-- An area with the variables' records, where each statement's right side is a node.
 pub record Righted (b : List ℕ) (z : Sizes) : Type 0 where
   pub small : Small z
-  pub long : errorsAt z + 4096 ≤ length b
+  pub long : depsAt z ≤ length b
   pub right : (i : ℕ) → i < z .stmts → wordOf (areaStmt b z i) 3 < z .nodes

@@ -2,7 +2,7 @@
 use Prim.Native.Nat.{ℕ, zero, suc, _+_, _*_, _<_}
 use mathlib.Core.Path.{_≡_}
 use mathlib.Core.Bool.{Bool, cond, not, _&&_}
-use lib.Dec.{eqb, ltb}
+use lib.Dec.{eqb}
 use mathlib.Core.List.{List, [], _∷_, _++_}
 use mathlib.Core.Option.{Option, none, some}
 use lib.ListN.{length, getD}
@@ -12,8 +12,9 @@ use Rattle.functions.specs.declared.Rule.the-variants.{One, Two, Interp1d, Piec
 use Rattle.functions.specs.Rules.{ruleOf}
 use Rattle.ast.specs.Tree.{Stmt, own, submodel, File}
 use Rattle.ast.specs.Records.{stmtOf}
-use Rattle.ast.specs.Opens.{contentsIn, fileIn}
+use Rattle.ast.specs.Opens.{Open, contentsIn, fileIn}
 use Rattle.ast.specs.declared.sections.Sections.{Sections}
+use Rattle.definitions.specs.Numbers.{mostNames, mostModels}
 use Rattle.definitions.specs.Names.{textOf}
 use Rattle.definitions.specs.Variables.{at}
 use Rattle.definitions.specs.Check.{Scope, lookup}
@@ -32,9 +33,36 @@ classFrom i (y ∷ ys) x = cond (sameText x y) i (classFrom (i + 1) ys x)
 unfoldable pub classOf : List ℕ → ℕ
 classOf x = classFrom 0 deciding x
 
+-- of t, the last reserved name, NonNegative, the first built-in function, and every text that decides nothing
+abbrev pub timeClass : ℕ
+timeClass = 0
+
+abbrev pub lastReserved : ℕ
+lastReserved = 5
+
+abbrev pub nonNegative : ℕ
+nonNegative = 6
+
+abbrev pub firstBuiltIn : ℕ
+firstBuiltIn = 8
+
+abbrev pub otherClass : ℕ
+otherClass = 18
+
 -- the class of each name
 pub record Classes (names : List (List ℕ)) (table : List ℕ) : Type 0 where
   pub class : (n : ℕ) → n < length names → getD table n 0 ≡ classOf (textOf names n)
+
+-- Model m of an open file, and the class of each name: what the model's variables are found by.
+pub record ClassedModel (f : List ℕ) (s : Sections) (classes : List ℕ) (m : ℕ) : Type 0 where
+  pub opened : Open f s
+  pub classed : Classes (fileIn f s .names) classes
+  pub model : m < s .counts .models
+
+-- A table of n entries that are all 0.
+pub record Blank (n : ℕ) (table : List ℕ) : Type 0 where
+  pub long : length table ≡ n
+  pub zeros : (k : ℕ) → getD table k 0 ≡ 0
 
 -- ---- argument rules by number
 
@@ -65,7 +93,11 @@ pub record Callees (f : List ℕ) (s : Sections) (table : List ℕ) : Type 0 whe
 -- ---- models: 1 at 32 a + b where b is reached from a by at most k steps
 
 pub record Reaching (f : File) (n k : ℕ) (table : List ℕ) : Type 0 where
-  pub reach : (a b : ℕ) → a < n → b < n → getD table (32 * a + b) 0 ≡ flag (reaches (submodels f) k a b)
+  pub reach : (a b : ℕ) → a < n → b < n → getD table (mostModels * a + b) 0 ≡ flag (reaches (submodels f) k a b)
+
+-- by any number of steps, of all models of an open file
+abbrev pub ReachedIn : List ℕ → Sections → List ℕ → Type 0
+ReachedIn f s table = Reaching (fileIn f s) (s .counts .models) (s .counts .models) table
 
 -- ---- variables of a scope by name: 0 where a name is none, else 1 plus the count of its kept dependents
 
@@ -78,7 +110,7 @@ pub record VarsOf (c : Scope) (table : List ℕ) : Type 0 where
 
 -- 1 at each name that is among the variables' names, plus 1, `vs`, and 0 at every other
 pub record Marks (n : ℕ) (vs table : List ℕ) : Type 0 where
-  pub long : length table ≡ 256
+  pub long : length table ≡ mostNames
   pub mark : (k : ℕ) → k < n → getD table k 0 ≡ flag (member (suc k) vs)
 
 -- how many of some names have an entry
@@ -92,11 +124,11 @@ roleNumber (starts v) = 2 * v + 1
 roleNumber (rates v) = 2 * v + 2
 roleNumber free = 0
 
--- Whether variable v, whose dependents are those from `firsts` v up to the next, is a state that none of the roles goes to.
+-- Whether variable v is a state, 1 in the table, that none of the roles goes to.
 unfoldable pub lacksIn : List ℕ → List ℕ → ℕ → Bool
-lacksIn roles firsts v = ltb (getD firsts v 0) (getD firsts (v + 1) 0) && not (member (2 * v + 2) roles)
+lacksIn roles states v = eqb (getD states v 0) 1 && not (member (2 * v + 2) roles)
 
 -- Those below n, in order.
 unfoldable pub lackingIn : List ℕ → List ℕ → ℕ → List ℕ
-lackingIn roles firsts zero = []
-lackingIn roles firsts (suc n) = lackingIn roles firsts n ++ cond (lacksIn roles firsts n) (n ∷ []) []
+lackingIn roles states zero = []
+lackingIn roles states (suc n) = lackingIn roles states n ++ cond (lacksIn roles states n) (n ∷ []) []

@@ -1,4 +1,4 @@
--- The tables of a model's variables: names, numbers, kept dependents, reaching time, and bounds.
+-- The tables of a model's variables: names, numbers, kept dependents, and reaching time.
 use Prim.Native.Nat.{ℕ, zero, suc, _+_, _-_, _*_, _≤_, _<_}
 use mathlib.Core.Path.{_≡_}
 use mathlib.Core.Bool.{Bool, true, cond, _||_}
@@ -7,11 +7,12 @@ use lib.Dec.{ltb, eqb}
 use lib.ListN.{length, take, drop, getD}
 use Rattle.functions.specs.Lists.{any, all, each, member, plusOne, reaches, flag}
 use Rattle.ast.specs.Tree.{Unknown}
-use Rattle.ast.specs.Words.{words}
-use Rattle.ast.specs.Numbers.{numberOf}
+use Rattle.ast.specs.Bytes.{put}
+use Rattle.ast.specs.Words.{words, bytesOf}
 use Rattle.ast.specs.Records.{unknownOf}
-use Rattle.ast.specs.Opens.{contentsIn, fileIn}
+use Rattle.ast.specs.Opens.{Open, contentsIn, fileIn}
 use Rattle.ast.specs.declared.sections.Sections.{Sections}
+use Rattle.definitions.specs.Numbers.{mostNames, mostVariables, mostDeps}
 use Rattle.definitions.specs.Variables as vars
 use Rattle.definitions.specs.Variables.{variableNames, keptDeps}
 use Rattle.definitions.specs.Flatten.{modelAt}
@@ -26,7 +27,7 @@ nextIn starts deps v = wordsFrom deps (getD starts v 0) (getD starts (v + 1) 0)
 
 -- the starts rise within the bytes, and each dependent is one of `vars` variables
 pub record DepsIn (starts deps : List ℕ) (vars : ℕ) : Type 0 where
-  pub few : vars ≤ 129
+  pub few : vars ≤ mostVariables
   pub rise : (v : ℕ) → v < vars → getD starts v 0 ≤ getD starts (v + 1) 0
   pub within : (v : ℕ) → v < vars → 4 * getD starts (v + 1) 0 ≤ length deps
   pub below : (v : ℕ) → v < vars → all (λ d. ltb d vars) (nextIn starts deps v) ≡ true
@@ -45,11 +46,6 @@ pub record TimeReached (starts deps : List ℕ) (vars k : ℕ) (table : List ℕ
 
 -- ---- the variables' names, plus 1, by number, and their numbers, plus 1 or 0, by name
 
--- the first of n places from i on that holds 0, plus 1, or 0
-unfoldable pub firstZero : List ℕ → ℕ → ℕ → ℕ
-firstZero table i zero = 0
-firstZero table i (suc n) = cond (eqb (getD table i 0) 0) (suc i) (firstZero table (suc i) n)
-
 -- A count of variables, the table of their names and that of their numbers.
 pub record Roster : Type 0 where
   pub count : ℕ
@@ -67,15 +63,15 @@ unfoldable pub declareOne : List ℕ → ℕ → List ℕ
 declareOne vs n = cond (member (suc n) vs) vs (vs ++ suc n ∷ [])
 
 pub record Numbers (vs table : List ℕ) : Type 0 where
-  pub number : (n : ℕ) → n < 256 → getD table n 0 ≡ plusOne (vars.numberOf vs n)
+  pub number : (n : ℕ) → n < mostNames → getD table n 0 ≡ plusOne (vars.numberOf vs n)
 
 pub record Listing (vs : List ℕ) (r : Roster) : Type 0 where
-  pub few : r .count ≤ 129
+  pub few : r .count ≤ mostVariables
   pub count : r .count ≡ length vs
   pub names : take (r .count) (r .names) ≡ vs
   pub numbers : Numbers vs (r .numbers)
-  pub room : length (r .names) ≡ 129
-  pub every : length (r .numbers) ≡ 256
+  pub room : length (r .names) ≡ mostVariables
+  pub every : length (r .numbers) ≡ mostNames
 
 -- the unknowns of model m, and the names of its variables
 unfoldable pub unknownsIn : List ℕ → Sections → ℕ → List Unknown
@@ -97,6 +93,31 @@ oneBelow (suc v) = v ∷ []
 unfoldable pub keptBy : List ℕ → List ℕ → List ℕ
 keptBy table ds = each (λ d. oneBelow (getD table d 0)) ds
 
+-- those of an unknown that declares the name (plus 1), and none of another
+abbrev pub keptNamed : List ℕ → ℕ → Unknown → List ℕ
+keptNamed table name u = cond (eqb (suc (u .name)) name) (keptBy table (u .deps)) []
+
+-- Room for words behind the first `done` words of some bytes.
+abbrev pub RoomBehind : List ℕ → ℕ → List ℕ → Type 0
+RoomBehind ws done was = 4 * (done + length ws) ≤ length was
+
+-- Words written behind the first `done` words of some bytes: the new count of words, and the bytes.
+abbrev pub PutBehind : List ℕ → ℕ → List ℕ → ℕ → List ℕ → Type 0
+PutBehind ws done was count new = (count ≡ done + length ws) × (new ≡ put was (4 * done) (bytesOf ws))
+
 -- where each variable's kept dependents begin, and, last, where they end
 pub record StartsOf (vs : List ℕ) (us : List Unknown) (starts : List ℕ) : Type 0 where
   pub start : (v : ℕ) → v ≤ length vs → getD starts v 0 ≡ length (each (keptDeps vs us) (take v vs))
+
+-- Model m of an open file, and the numbers, plus 1 or 0, of its variables by name.
+pub record Numbered (f : List ℕ) (s : Sections) (m : ℕ) (numbers : List ℕ) : Type 0 where
+  pub opened : Open f s
+  pub model : m < s .counts .models
+  pub numbered : Numbers (rosterIn f s m) numbers
+  pub long : length numbers ≡ mostNames
+
+-- Room for the kept dependents of all variables and for their starts, the first of which is 0.
+pub record DepsRoom (out starts : List ℕ) : Type 0 where
+  pub bytes : 4 * mostDeps ≤ length out
+  pub long : length starts ≡ mostVariables + 1
+  pub first : getD starts 0 0 ≡ 0

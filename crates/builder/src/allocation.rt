@@ -1,52 +1,5 @@
-// `allocate_stmts`: the fate of every flattened statement, by its role and by pairing.
-ghost use mathlib.Core.Path.{_≡_};
-ghost use Prim.Native.Nat.{ℕ, _≤_, _<_};
-ghost use lib.Dec.{eqb};
-ghost use lib.ListN.{length};
-ghost use Rattle.functions.specs.Lists.{times};
-ghost use Rattle.ast.specs.Bytes.{put};
-ghost use Rattle.ast.specs.Encode.{encode};
-ghost use Rattle.area.specs.Sections.{stmtsAt};
-ghost use Rattle.builder.specs.Allocating.{Flattened, TablesLong};
-ghost use Rattle.builder.specs.Root.{pairedCount, rolesBy, lackingBy, fatedBy};
-use super::allocate::roles;
-use super::fated::write_fates;
-use super::pairing::lacking;
-use super::pairing::left_count;
-use area::sections::Sizes;
-
-// How many statements are left, and how many states lack an equation.
-pub struct Left {
-    pub stmts: usize,
-    pub states: usize,
-}
-
-// All states are paired where as many statements are left, otherwise none.
-fn paired(left: usize, states: usize) -> usize
-    ensures { λ r. ⌜ r ≡ pairedCount left states ⌝ }
-{
-    if left == states { states } else { 0 }
-}
-
-pub fn allocate_stmts(
-    own: &mut [u8],
-    z: Sizes,
-    numbers: &[u32],
-    starts: &[u32],
-    indexes: &[u32],
-    rates: &[u8],
-    lower: f64,
-) -> Left
-    requires { ⌜ ((names : ℕ) × Flattened names (now own) z) × TablesLong z (now numbers) (now indexes) × (129 ≤ length (now rates)) × (z .vars < length (now starts)) ⌝ }
-    ensures { λ r. ⌜ (r .stmts ≡ times (eqb 0) (rolesBy (now (own .entry)) z (now (numbers .entry)) (now (indexes .entry)) (now (rates .entry)) lower)) × (r .states ≡ length (lackingBy (now (own .entry)) z (now (numbers .entry)) (now (indexes .entry)) (now (rates .entry)) lower (now (starts .entry)))) × (now (own .exit) ≡ put (now (own .entry)) (stmtsAt z) (encode (fatedBy (now (own .entry)) z (now (numbers .entry)) (now (indexes .entry)) (now (rates .entry)) lower (now (starts .entry))))) ⌝ }
-{
-    let role = roles(own, z, numbers, indexes, rates, lower);
-    let left = left_count(&role, z.stmts);
-    let queue = lacking(&role, z.stmts, starts, z.vars);
-    let states = queue.states;
-    write_fates(own, z, &role, &states, paired(left, queue.count));
-    Left {
-        stmts: left,
-        states: queue.count,
-    }
-}
+// Allocation: the role of each statement, the states that lack an equation, and the fates.
+pub mod fates;
+pub mod pairing;
+pub mod roles;
+pub mod statements;

@@ -9,18 +9,19 @@ ghost use Rattle.definitions.specs.Build.{answerOfModel, told, resultArea};
 ghost use Rattle.builder.specs.Tables.{Classes, Callees};
 ghost use Rattle.builder.specs.Descent.{RowsIn};
 ghost use Rattle.builder.specs.Root.{answeredAs, usedIn, bytesIn, fittedIn};
-use super::filling::Answered;
-use super::filling::fill;
-use super::laying::blank;
-use super::laying::few_rows;
-use super::laying::no_rows;
-use super::measure::Measured;
-use super::measure::measure;
-use super::models::callees;
-use super::models::find_root;
-use super::names::classes;
-use super::numbers::FEW_MODELS;
-use super::numbers::NO_ROOT;
+use crate::answer::Answered;
+use crate::answer::Extent;
+use crate::answer::fill;
+use crate::extent::measure::Measured;
+use crate::extent::measure::measure;
+use crate::flattening::laid::blank;
+use crate::flattening::laid::few_rows;
+use crate::flattening::laid::no_rows;
+use crate::models::called::callees;
+use crate::models::called::find_root;
+use crate::names::classes;
+use crate::numbers::FEW_MODELS;
+use crate::numbers::NO_ROOT;
 use area::layout::HIGH;
 use area::layout::MOST_BYTES;
 use area::lent::clear;
@@ -42,19 +43,32 @@ fn answer_with(
     m: usize,
     own: &mut [u8],
 ) -> Answered
-    requires { ⌜ Open (now f) s × (m < s .counts .models) × (Classes (fileIn (now f) s .names) (now kinds) × (length (now kinds) ≡ 256) × Callees (now f) s (now calls)) × ((256 * s .counts .models ≤ length (now rows)) × RowsIn (now f) s (now rows)) × (length (now own) ≡ 55384) ⌝ }
-    ensures { λ a. ⌜ (answeredAs a (now (own .exit)) ≡ bytesIn (answerOfModel (fileIn (now (f .entry)) s) m)) × (usedIn a ≤ 55384) ⌝ }
+    requires { ⌜ Open (now f) s
+        × (m < s .counts .models)
+        × (Classes (fileIn (now f) s .names) (now kinds) × (length (now kinds) ≡ 256) × Callees (now f) s (now calls))
+        × ((256 * s .counts .models ≤ length (now rows)) × RowsIn (now f) s (now rows))
+        × (length (now own) ≡ 55384) ⌝ }
+    ensures { λ a. ⌜ (answeredAs a (now (own .exit)) ≡ bytesIn (answerOfModel (fileIn (now (f .entry)) s) m))
+        × (usedIn a ≤ 55384) ⌝ }
 {
     match measure(f, s, kinds, calls, rows, m) {
         Measured::Refused(number) => Answered::Refused(number),
-        Measured::Sized(i, q, n) => fill(f, s, kinds, calls, rows, m, own, i, q, n),
+        Measured::Sized(i, q, n) => {
+            let extent = Extent {
+                instances: i,
+                stmts: q,
+                nodes: n,
+            };
+            fill(f, s, kinds, calls, rows, m, own, extent)
+        }
     }
 }
 
 // The answer of model m.
 fn answer(f: &[u8], s: Sections, m: usize, own: &mut [u8]) -> Answered
     requires { ⌜ Open (now f) s × (m < s .counts .models) × (length (now own) ≡ 55384) ⌝ }
-    ensures { λ a. ⌜ (answeredAs a (now (own .exit)) ≡ bytesIn (answerOfModel (fileIn (now (f .entry)) s) m)) × (usedIn a ≤ 55384) ⌝ }
+    ensures { λ a. ⌜ (answeredAs a (now (own .exit)) ≡ bytesIn (answerOfModel (fileIn (now (f .entry)) s) m))
+        × (usedIn a ≤ 55384) ⌝ }
 {
     let kinds = classes(f, s);
     let calls = callees(f, s);
@@ -69,7 +83,9 @@ fn answer(f: &[u8], s: Sections, m: usize, own: &mut [u8]) -> Answered
 // A refusal, or the answer handed out.
 fn hand_over(a: Answered, own: &[u8], area: &mut [u8]) -> u64
     requires { ⌜ (length (now own) ≡ 55384) × (usedIn a ≤ 55384) ⌝ }
-    ensures { λ r. ⌜ (r ≡ told (fittedIn (length (now (area .entry))) (answeredAs a (now (own .entry))))) × (now (area .exit) ≡ resultArea (length (now (area .entry))) (fittedIn (length (now (area .entry))) (answeredAs a (now (own .entry))))) ⌝ }
+    ensures { λ r. ⌜ (r ≡ told (fittedIn (length (now (area .entry))) (answeredAs a (now (own .entry)))))
+        × (now (area .exit) ≡ resultArea (length (now (area .entry)))
+        (fittedIn (length (now (area .entry))) (answeredAs a (now (own .entry))))) ⌝ }
 {
     match a {
         Answered::Refused(number) => refuse(area, number),
@@ -80,7 +96,9 @@ fn hand_over(a: Answered, own: &[u8], area: &mut [u8]) -> u64
 // The same where the answer stands at the front of the area.
 fn keep(a: Answered, area: &mut [u8]) -> u64
     requires { ⌜ (usedIn a ≤ 55384) × (55384 ≤ length (now area)) ⌝ }
-    ensures { λ r. ⌜ (r ≡ told (fittedIn (length (now (area .entry))) (answeredAs a (now (area .entry))))) × (now (area .exit) ≡ resultArea (length (now (area .entry))) (fittedIn (length (now (area .entry))) (answeredAs a (now (area .entry))))) ⌝ }
+    ensures { λ r. ⌜ (r ≡ told (fittedIn (length (now (area .entry))) (answeredAs a (now (area .entry)))))
+        × (now (area .exit) ≡ resultArea (length (now (area .entry)))
+        (fittedIn (length (now (area .entry))) (answeredAs a (now (area .entry))))) ⌝ }
 {
     match a {
         Answered::Refused(number) => refuse(area, number),
@@ -94,7 +112,10 @@ fn keep(a: Answered, area: &mut [u8]) -> u64
 // The build of model m in an area too short for some answers: the answer is written apart.
 fn build_apart(file: &[u8], s: Sections, m: usize, area: &mut [u8]) -> u64
     requires { ⌜ Open (now file) s × (m < s .counts .models) ⌝ }
-    ensures { λ r. ⌜ (r ≡ told (fittedIn (length (now (area .entry))) (bytesIn (answerOfModel (fileIn (now (file .entry)) s) m)))) × (now (area .exit) ≡ resultArea (length (now (area .entry))) (fittedIn (length (now (area .entry))) (bytesIn (answerOfModel (fileIn (now (file .entry)) s) m)))) ⌝ }
+    ensures { λ r. ⌜ (r ≡ told (fittedIn (length (now (area .entry)))
+        (bytesIn (answerOfModel (fileIn (now (file .entry)) s) m))))
+        × (now (area .exit) ≡ resultArea (length (now (area .entry)))
+        (fittedIn (length (now (area .entry))) (bytesIn (answerOfModel (fileIn (now (file .entry)) s) m)))) ⌝ }
 {
     let mut own = blank();
     let a = answer(file, s, m, &mut own);
@@ -104,7 +125,10 @@ fn build_apart(file: &[u8], s: Sections, m: usize, area: &mut [u8]) -> u64
 // The build of model m in an area long enough for every answer: the answer is written at its front.
 fn build_within(file: &[u8], s: Sections, m: usize, area: &mut [u8]) -> u64
     requires { ⌜ Open (now file) s × (m < s .counts .models) × (55384 ≤ length (now area)) ⌝ }
-    ensures { λ r. ⌜ (r ≡ told (fittedIn (length (now (area .entry))) (bytesIn (answerOfModel (fileIn (now (file .entry)) s) m)))) × (now (area .exit) ≡ resultArea (length (now (area .entry))) (fittedIn (length (now (area .entry))) (bytesIn (answerOfModel (fileIn (now (file .entry)) s) m)))) ⌝ }
+    ensures { λ r. ⌜ (r ≡ told (fittedIn (length (now (area .entry)))
+        (bytesIn (answerOfModel (fileIn (now (file .entry)) s) m))))
+        × (now (area .exit) ≡ resultArea (length (now (area .entry)))
+        (fittedIn (length (now (area .entry))) (bytesIn (answerOfModel (fileIn (now (file .entry)) s) m)))) ⌝ }
 {
     let a = answer(file, s, m, &mut area[..MOST_BYTES]);
     keep(a, area)
@@ -113,7 +137,9 @@ fn build_within(file: &[u8], s: Sections, m: usize, area: &mut [u8]) -> u64
 // The build of an open file.
 fn build_opened(file: &[u8], s: Sections, root: &[u8], area: &mut [u8]) -> u64
     requires { ⌜ Open (now file) s × (openFile (now file) ≡ opened (fileIn (now file) s)) ⌝ }
-    ensures { λ r. ⌜ (r ≡ told (definition.build (now (file .entry)) (now (root .entry)) (length (now (area .entry))))) × (now (area .exit) ≡ resultArea (length (now (area .entry))) (definition.build (now (file .entry)) (now (root .entry)) (length (now (area .entry))))) ⌝ }
+    ensures { λ r. ⌜ (r ≡ told (definition.build (now (file .entry)) (now (root .entry)) (length (now (area .entry)))))
+        × (now (area .exit) ≡ resultArea (length (now (area .entry)))
+        (definition.build (now (file .entry)) (now (root .entry)) (length (now (area .entry))))) ⌝ }
 {
     let m = find_root(file, s, root);
     if m == 0 {
@@ -128,7 +154,9 @@ fn build_opened(file: &[u8], s: Sections, root: &[u8], area: &mut [u8]) -> u64
 // The number in the low 32 bits, 0 or a refusal's, and the bytes used in the high ones.
 #[no_mangle]
 pub extern "C" fn build(file: &[u8], root: &[u8], area: &mut [u8]) -> u64
-    ensures { λ r. ⌜ (r ≡ told (definition.build (now (file .entry)) (now (root .entry)) (length (now (area .entry))))) × (now (area .exit) ≡ resultArea (length (now (area .entry))) (definition.build (now (file .entry)) (now (root .entry)) (length (now (area .entry))))) ⌝ }
+    ensures { λ r. ⌜ (r ≡ told (definition.build (now (file .entry)) (now (root .entry)) (length (now (area .entry)))))
+        × (now (area .exit) ≡ resultArea (length (now (area .entry)))
+        (definition.build (now (file .entry)) (now (root .entry)) (length (now (area .entry))))) ⌝ }
 {
     match open(file) {
         Opened::Refused(number) => refuse(area, number),

@@ -7,8 +7,8 @@ ghost use lib.Dec.{eqb, leb, ltb};
 ghost use lib.ListN.{length, take, drop, getD};
 ghost use Rattle.functions.specs.Lists.{sameText};
 ghost use Rattle.ast.specs.Opens.{Open, fileIn};
-ghost use Rattle.definitions.specs.Names.{textOf};
-ghost use Rattle.builder.specs.Tables.{deciding, classOf, Classes, ruleNumber, numbered, RuleNumbers};
+ghost use Rattle.definitions.specs.Names.{textOf, timeName};
+ghost use Rattle.builder.specs.Tables.{deciding, classOf, timeClass, lastReserved, firstBuiltIn, otherClass, Classes, ruleNumber, numbered, RuleNumbers};
 ghost use Rattle.builder.specs.Stored.{storedTexts, storedPlaces};
 use ast::layout::MOST_NAMES;
 use ast::layout::NAME_LENGTH;
@@ -83,7 +83,7 @@ fn stored_places() -> [usize; 19]
 
 // Whether a name is text i, by the two tables.
 fn is_text(name: &[u8], texts: &[u8], places: &[usize], i: usize) -> bool
-    requires { ⌜ (now texts ≡ storedTexts) × (now places ≡ storedPlaces) × (i < 18) ⌝ }
+    requires { ⌜ (now texts ≡ storedTexts) × (now places ≡ storedPlaces) × (i < otherClass) ⌝ }
     ensures { λ r. ⌜ r ≡ sameText (now (name .entry)) (getD deciding i []) ⌝ }
 {
     is_part(name, texts, places[i], places[i + 1])
@@ -106,19 +106,19 @@ pub fn class_of(name: &[u8]) -> u8
 }
 
 pub fn is_time(class: u8) -> bool
-    ensures { λ r. ⌜ r ≡ eqb class 0 ⌝ }
+    ensures { λ r. ⌜ r ≡ eqb class timeClass ⌝ }
 {
     class == TIME
 }
 
 pub fn is_reserved(class: u8) -> bool
-    ensures { λ r. ⌜ r ≡ leb class 5 ⌝ }
+    ensures { λ r. ⌜ r ≡ leb class lastReserved ⌝ }
 {
     class <= LAST_RESERVED
 }
 
 pub fn is_built_in(class: u8) -> bool
-    ensures { λ r. ⌜ r ≡ (leb 8 class && ltb class 18) ⌝ }
+    ensures { λ r. ⌜ r ≡ (leb firstBuiltIn class && ltb class otherClass) ⌝ }
 {
     (FIRST_BUILT_IN <= class) & (class < OTHER)
 }
@@ -145,6 +145,21 @@ pub fn classes(f: &[u8], s: Sections) -> [u8; MOST_NAMES]
         n += 1;
     }
     out
+}
+
+// The number, plus 1, of the first name that is t, or 0.
+pub fn time_name(f: &[u8], s: Sections, classes: &[u8; MOST_NAMES]) -> usize
+    requires { ⌜ Open (now f) s × Classes (fileIn (now f) s .names) (now classes) ⌝ }
+    ensures { λ r. ⌜ r ≡ timeName (fileIn (now (f .entry)) s .names) ⌝ }
+{
+    let mut n = 0;
+    while n < s.counts.names {
+        if is_time(classes[n]) {
+            return n + 1;
+        }
+        n += 1;
+    }
+    0
 }
 
 // The number of a rule.

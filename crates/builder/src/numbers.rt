@@ -55,6 +55,9 @@ pub const NEXT_DIAGONAL: usize = 33;
 // A row of replacements by name for each model.
 pub const ROWS: usize = 8192;
 
+// Of a table of where the dependents of each variable begin, and, last, where they end.
+pub const STARTS: usize = 130;
+
 // The same of so few models that a short table does.
 pub const FEW_MODELS: usize = 2;
 

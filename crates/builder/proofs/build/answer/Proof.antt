@@ -1,5 +1,5 @@
 use native.Mathlib.Omega.{arith}
-use Rattle.builder.proofs.Replacing.{zeros-in}
+use Rattle.builder.proofs.laws.Replacing.{zeros-in}
 use borrow.Author.Needs.{needs}
 use Rattle.builder.proofs.build.answer.Statement.{statement}
 use Rattle.builder.proofs.build.answer.Tie as tie

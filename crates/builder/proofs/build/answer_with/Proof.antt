@@ -1,6 +1,6 @@
 use mathlib.Core.Path.{sym, ap, _∙_}
 use Rattle.builder.specs.Root.{bytesIn}
-use Rattle.builder.proofs.Answers.{measured-refused, measured-sized, given-refused, used-refused}
+use Rattle.builder.proofs.laws.Answers.{measured-refused, measured-sized, given-refused, used-refused}
 use borrow.Author.Needs.{needs}
 use Rattle.builder.proofs.build.answer_with.Statement.{statement}
 use Rattle.builder.proofs.build.answer_with.Tie as tie
@@ -19,7 +19,7 @@ fill-requires c κs =
     let measure = c .before .before .before .before .before .before .before .measure in
     let z = measured-sized _ _ _ _ _ _ (c .before .before .before .i .given .1) (measure .ensures .0) in
     let p = c .before .before .before .before .before .before .before .before .before .before .before .before .pre in
-    (record { opened = p .0; classes = p .2 .0; callees = p .2 .2 }, p .2 .1, p .1, (measure .ensures .1, measure .ensures .2), p .4, (z .0, z .1, z .2, z .3))
+    (record { opened = p .0; classes = p .2 .0; callees = p .2 .2 }, (p .2 .1, p .1), (measure .ensures .1 .long, measure .ensures .1 .fit), p .4, record { instances = z .0; stmts = z .1; nodes = z .2; small = z .3 })
 
 same-length : tie.Need-same-length
 same-length c = search needs

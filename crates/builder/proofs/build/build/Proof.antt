@@ -2,7 +2,7 @@ use mathlib.Core.Path.{sym, ap, _∙_}
 use lib.ListN.{length}
 use Rattle.definitions.specs.Build.{told, resultArea}
 use Rattle.ast.proofs.Passed.{opens-refused, opens-file}
-use Rattle.builder.proofs.Answers.{built-refused}
+use Rattle.builder.proofs.laws.Answers.{built-refused}
 use borrow.Author.Needs.{needs}
 use Rattle.builder.proofs.build.build.Statement.{statement}
 use Rattle.builder.proofs.build.build.Tie as tie

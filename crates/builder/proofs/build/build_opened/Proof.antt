@@ -2,8 +2,8 @@ use mathlib.Core.Path.{sym, ap, _∙_}
 use native.Mathlib.Omega.{arith}
 use lib.ListN.{length}
 use Rattle.definitions.specs.Build.{told, resultArea}
-use Rattle.builder.proofs.Finding.{root-below}
-use Rattle.builder.proofs.Answers.{place-of, place-none, built-none, built-at}
+use Rattle.builder.proofs.laws.Finding.{root-below}
+use Rattle.builder.proofs.laws.Answers.{place-of, place-none, built-none, built-at}
 use borrow.Author.Needs.{needs}
 use Rattle.builder.proofs.build.build_opened.Statement.{statement}
 use Rattle.builder.proofs.build.build_opened.Tie as tie

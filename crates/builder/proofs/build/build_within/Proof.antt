@@ -1,6 +1,6 @@
 use mathlib.Core.Path.{sym, _∙_}
 use lib.Seq.{length-take-le}
-use Rattle.builder.proofs.Answers.{given-within}
+use Rattle.builder.proofs.laws.Answers.{given-within}
 use borrow.Author.Needs.{needs}
 use Rattle.builder.proofs.build.build_within.Statement.{statement}
 use Rattle.builder.proofs.build.build_within.Tie as tie

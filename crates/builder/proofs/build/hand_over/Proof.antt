@@ -3,7 +3,7 @@ use Prim.Native.Nat.{_≤_}
 use native.Mathlib.Omega.{arith}
 use lib.ListN.{length}
 use Rattle.definitions.specs.Build.{told, resultArea}
-use Rattle.builder.proofs.Answers.{hands-refused, hands-used, used-is}
+use Rattle.builder.proofs.laws.Answers.{hands-refused, hands-used, used-is}
 use borrow.Author.Needs.{needs}
 use Rattle.builder.proofs.build.hand_over.Statement.{statement}
 use Rattle.builder.proofs.build.hand_over.Tie as tie

@@ -3,7 +3,7 @@ use native.Mathlib.Omega.{arith}
 use lib.ListN.{length}
 use Rattle.definitions.specs.Build.{told, resultArea}
 use Rattle.area.proofs.HandedOut.{kept}
-use Rattle.builder.proofs.Answers.{hands-refused, hands-used, used-is}
+use Rattle.builder.proofs.laws.Answers.{hands-refused, hands-used, used-is}
 use borrow.Author.Needs.{needs}
 use Rattle.builder.proofs.build.keep.Statement.{statement}
 use Rattle.builder.proofs.build.keep.Tie as tie

@@ -4,7 +4,7 @@ use native.Mathlib.Omega.{arith}
 use borrow.Author.Needs.{needs}
 use lib.ListN.{drop}
 use Rattle.builder.specs.Tables.{deciding, classFrom, classOf}
-use Rattle.builder.proofs.Classes.{class-here, class-end}
+use Rattle.builder.proofs.laws.Classes.{class-here, class-end}
 use Rattle.builder.proofs.names.class_of.Statement.{statement}
 use Rattle.builder.proofs.names.class_of.Tie as tie
 

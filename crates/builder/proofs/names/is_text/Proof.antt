@@ -1,7 +1,7 @@
 use mathlib.Core.Path.{ap, _∙_}
 use native.Mathlib.Omega.{arith}
 use Rattle.functions.specs.Lists.{sameText}
-use Rattle.builder.proofs.Classes.{text-read, text-asked, text-word}
+use Rattle.builder.proofs.laws.Classes.{text-read, text-asked, text-word}
 use borrow.Author.Needs.{needs}
 use Rattle.builder.proofs.names.is_text.Statement.{statement}
 use Rattle.builder.proofs.names.is_text.Tie as tie

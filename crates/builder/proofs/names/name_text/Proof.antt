@@ -1,6 +1,6 @@
 use native.Mathlib.Omega.{arith}
 use Rattle.ast.proofs.Opened.{ranges}
-use Rattle.builder.proofs.Open.{name-within, name-part}
+use Rattle.builder.proofs.laws.Open.{name-within, name-part}
 use borrow.Author.Needs.{needs}
 use Rattle.builder.proofs.names.name_text.Statement.{statement}
 use Rattle.builder.proofs.names.name_text.Tie as tie

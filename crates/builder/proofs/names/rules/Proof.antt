@@ -4,8 +4,8 @@ use native.Mathlib.Omega.{arith}
 use borrow.Author.Needs.{needs}
 use Rattle.ast.specs.Opens.{fileIn}
 use Rattle.definitions.specs.Names.{textOf}
-use Rattle.builder.proofs.Filled.{Filled, filled-none, filled-more}
-use Rattle.builder.proofs.Open.{names-long}
+use Rattle.builder.proofs.laws.Filled.{Filled, filled-none, filled-more}
+use Rattle.builder.proofs.laws.Open.{names-long}
 use Rattle.functions.specs.Rules.{ruleOf}
 use Rattle.builder.specs.Tables.{ruleNumber}
 use Rattle.builder.proofs.names.rules.Statement.{statement}

@@ -1,0 +1,47 @@
+// `allocate_stmts`: the fate of every flattened statement, by its role and by pairing.
+ghost use mathlib.Core.Path.{_≡_};
+ghost use Prim.Native.Nat.{ℕ, _≤_, _<_};
+ghost use lib.Dec.{eqb};
+ghost use lib.ListN.{length};
+ghost use Rattle.functions.specs.Lists.{times};
+ghost use Rattle.ast.specs.Bytes.{put};
+ghost use Rattle.ast.specs.Encode.{encode};
+ghost use Rattle.area.specs.Sections.{stmtsAt};
+ghost use Rattle.builder.specs.Allocating.{Flattened, Numbered};
+ghost use Rattle.builder.specs.Root.{pairedCount, rolesBy, lackingBy, fatedBy};
+use crate::allocation::fates::write_fates;
+use crate::allocation::pairing::lacking;
+use crate::allocation::pairing::left_count;
+use crate::allocation::roles::roles;
+use area::sections::Sizes;
+
+// How many statements are left, and how many states lack an equation.
+pub struct Left {
+    pub stmts: usize,
+    pub states: usize,
+}
+
+// All states are paired where as many statements are left, otherwise none.
+fn paired(left: usize, states: usize) -> usize
+    ensures { λ r. ⌜ r ≡ pairedCount left states ⌝ }
+{
+    if left == states { states } else { 0 }
+}
+
+pub fn allocate_stmts(own: &mut [u8], z: Sizes, numbers: &[u32], lower: f64) -> Left
+    requires { ⌜ ((names : ℕ) × Flattened names (now own) z) × Numbered (now own) z (now numbers) ⌝ }
+    ensures { λ r. ⌜ (r .stmts ≡ times (eqb 0) (rolesBy (now (own .entry)) z (now (numbers .entry)) lower))
+        × (r .states ≡ length (lackingBy (now (own .entry)) z (now (numbers .entry)) lower))
+        × (now (own .exit) ≡ put (now (own .entry)) (stmtsAt z)
+        (encode (fatedBy (now (own .entry)) z (now (numbers .entry)) lower))) ⌝ }
+{
+    let role = roles(own, z, numbers, lower);
+    let left = left_count(&role, z.stmts);
+    let queue = lacking(&role, own, z);
+    let states = queue.states;
+    write_fates(own, z, &role, &states, paired(left, queue.count));
+    Left {
+        stmts: left,
+        states: queue.count,
+    }
+}

@@ -1,0 +1,99 @@
+// Whether a root model can be built, and how big its answer is: refusals 6 to 9.
+ghost use mathlib.Core.Path.{_≡_};
+ghost use Prim.Native.Nat.{_<_};
+ghost use Rattle.ast.specs.Opens.{fileIn};
+ghost use Rattle.builder.specs.Checking as checking;
+ghost use Rattle.builder.specs.Descent.{RowsAt, Linked};
+ghost use Rattle.builder.specs.Root.{forbiddenOf, sizeOf, measureOf, measuredAs};
+use crate::extent::counts::flat_nodes;
+use crate::extent::counts::flat_stmts;
+use crate::extent::counts::instances;
+use crate::models::reached::cyclic;
+use crate::models::reached::overfull;
+use crate::models::reached::reach;
+use crate::models::reached::self_listed;
+use crate::numbers::ARGUMENT_BEYOND;
+use crate::numbers::MODEL_CYCLE;
+use crate::numbers::OVER_MOST;
+use crate::numbers::SELF_LISTED_UNKNOWN;
+use area::layout::MOST_INSTANCES;
+use ast::layout::MOST_NAMES;
+use ast::layout::MOST_NODES;
+use ast::layout::MOST_STMTS;
+use ast::sections::Sections;
+
+// A refusal's number, or the numbers of instances, flattened statements and flattened nodes.
+pub enum Measured {
+    Refused(u32),
+    Sized(usize, usize, usize),
+}
+
+// Refusals 6, 7 and 8, or 0.
+fn forbidden(
+    f: &[u8],
+    s: Sections,
+    classes: &[u8; MOST_NAMES],
+    calls: &[u8; MOST_STMTS],
+    m: usize,
+) -> u32
+    requires { ⌜ checking.Called (now f) s (now classes) (now calls) × (m < s .counts .models) ⌝ }
+    ensures { λ r. ⌜ r ≡ forbiddenOf (fileIn (now (f .entry)) s) m ⌝ }
+{
+    let table = reach(f, s, calls);
+    if cyclic(f, s, &table, m) {
+        return MODEL_CYCLE;
+    }
+    if self_listed(f, s, classes, &table, m) {
+        return SELF_LISTED_UNKNOWN;
+    }
+    if overfull(f, s, calls, &table, m) {
+        return ARGUMENT_BEYOND;
+    }
+    0
+}
+
+// Refusal 9, or the sizes.
+fn size(f: &[u8], s: Sections, calls: &[u8; MOST_STMTS], rows: &mut [u32], m: usize) -> Measured
+    requires { ⌜ Linked (now f) s (now calls)
+        × (m < s .counts .models)
+        × RowsAt (now f) s (now rows) (s .counts .models) ⌝ }
+    ensures { λ r. ⌜ (measuredAs r ≡ sizeOf (fileIn (now (f .entry)) s) m)
+        × RowsAt (now (f .entry)) s (now (rows .exit)) (s .counts .models) ⌝ }
+{
+    let k = s.counts.models;
+    let i = instances(f, s, calls, k, m, MOST_INSTANCES + 1);
+    if MOST_INSTANCES < i {
+        return Measured::Refused(OVER_MOST);
+    }
+    let q = flat_stmts(f, s, calls, k, m, MOST_STMTS + 1);
+    if MOST_STMTS < q {
+        return Measured::Refused(OVER_MOST);
+    }
+    let n = flat_nodes(f, s, calls, rows, k, m, 0, MOST_NODES + 1);
+    if MOST_NODES < n {
+        return Measured::Refused(OVER_MOST);
+    }
+    Measured::Sized(i, q, n)
+}
+
+// Refusals 6 to 9, or the sizes.
+pub fn measure(
+    f: &[u8],
+    s: Sections,
+    classes: &[u8; MOST_NAMES],
+    calls: &[u8; MOST_STMTS],
+    rows: &mut [u32],
+    m: usize,
+) -> Measured
+    requires { ⌜ checking.Called (now f) s (now classes) (now calls)
+        × (m < s .counts .models)
+        × RowsAt (now f) s (now rows) (s .counts .models) ⌝ }
+    ensures { λ r. ⌜ (measuredAs r ≡ measureOf (fileIn (now (f .entry)) s) m)
+        × RowsAt (now (f .entry)) s (now (rows .exit)) (s .counts .models) ⌝ }
+{
+    let number = forbidden(f, s, classes, calls, m);
+    if number != 0 {
+        return Measured::Refused(number);
+    }
+    size(f, s, calls, rows, m)
+}

@@ -1,0 +1,121 @@
+// The parts of an answer that come straight from the file: nodes, and statements' records without fates.
+ghost use mathlib.Core.Path.{_≡_};
+ghost use Prim.Native.Nat.{ℕ, _+_, _*_, _≤_};
+ghost use lib.ListN.{length, getD};
+ghost use Rattle.functions.specs.Lists.{each, sumOf};
+ghost use Rattle.ast.specs.Tree.{flatSize};
+ghost use Rattle.ast.specs.Bytes.{put};
+ghost use Rattle.ast.specs.Encode.{flatNodes, encode};
+ghost use Rattle.ast.specs.Opens.{fileIn};
+ghost use Rattle.definitions.specs.Numbers.{mostNames, mostStmts, mostModels, mostBytes};
+ghost use Rattle.builder.specs.Descent.{RowsAt};
+ghost use Rattle.builder.specs.Unfated.{unfated};
+ghost use Rattle.builder.specs.Root.{flatsOf};
+ghost use Rattle.builder.specs.Laying.{Laying};
+use crate::flattening::nodes::write_nodes;
+use crate::flattening::records::Done;
+use crate::flattening::records::write_stmts;
+use crate::numbers::FEW_ROWS;
+use crate::numbers::ROWS;
+use area::layout::HEADER_BYTES;
+use area::layout::MOST_BYTES;
+use ast::layout::MOST_STMTS;
+use ast::layout::NODE_BYTES;
+use ast::sections::Sections;
+
+// No replacements, for 32 models in one another.
+pub fn no_rows() -> [u32; ROWS]
+    ensures { λ r. ⌜ (length r ≡ mostNames * mostModels) × ((n : ℕ) → getD r n 0 ≡ 0) ⌝ }
+{
+    [0u32; ROWS]
+}
+
+// The same for 2 models.
+pub fn few_rows() -> [u32; FEW_ROWS]
+    ensures { λ r. ⌜ (length r ≡ mostNames * 2) × ((n : ℕ) → getD r n 0 ≡ 0) ⌝ }
+{
+    [0u32; FEW_ROWS]
+}
+
+// An answer of the builder's own.
+pub fn blank() -> [u8; MOST_BYTES]
+    ensures { λ r. ⌜ length r ≡ mostBytes ⌝ }
+{
+    [0u8; MOST_BYTES]
+}
+
+// Writes the nodes behind the header.
+fn lay_nodes(
+    f: &[u8],
+    s: Sections,
+    calls: &[u8; MOST_STMTS],
+    rows: &mut [u32],
+    m: usize,
+    own: &mut [u8],
+)
+    requires { ⌜ Laying (now f) s (now calls) (now rows) m × (length (now own) ≡ mostBytes) ⌝ }
+    ensures { λ _. ⌜ (now (own .exit) ≡ put (now (own .entry)) 40
+        (encode (each flatNodes (flatsOf (fileIn (now (f .entry)) s) m))))
+        × RowsAt (now (f .entry)) s (now (rows .exit)) (s .counts .models) ⌝ }
+{
+    write_nodes(
+        f,
+        s,
+        calls,
+        rows,
+        s.counts.models,
+        m,
+        0,
+        &mut own[HEADER_BYTES..],
+        0,
+    );
+}
+
+// Writes the statements' records, without fates, at a place.
+fn lay_stmts(
+    f: &[u8],
+    s: Sections,
+    calls: &[u8; MOST_STMTS],
+    rows: &mut [u32],
+    m: usize,
+    own: &mut [u8],
+    at: usize,
+)
+    requires { ⌜ Laying (now f) s (now calls) (now rows) m × (at + 32 * mostStmts ≤ length (now own)) ⌝ }
+    ensures { λ _. ⌜ now (own .exit) ≡ put (now (own .entry)) at
+        (encode (unfated 0 (flatsOf (fileIn (now (f .entry)) s) m))) ⌝ }
+{
+    let none = Done { stmts: 0, nodes: 0 };
+    write_stmts(
+        f,
+        s,
+        calls,
+        rows,
+        s.counts.models,
+        m,
+        0,
+        &mut own[at..],
+        none,
+    );
+}
+
+// Writes the nodes, n of them, and the statements' records.
+pub fn lay_flats(
+    f: &[u8],
+    s: Sections,
+    calls: &[u8; MOST_STMTS],
+    rows: &mut [u32],
+    m: usize,
+    own: &mut [u8],
+    n: usize,
+)
+    requires { ⌜ Laying (now f) s (now calls) (now rows) m
+        × (n ≡ sumOf flatSize (flatsOf (fileIn (now f) s) m))
+        × (length (now own) ≡ mostBytes) ⌝ }
+    ensures { λ _. ⌜ now (own .exit) ≡ put (put (now (own .entry)) 40
+        (encode (each flatNodes (flatsOf (fileIn (now (f .entry)) s) m)))) (40 + 32 * n)
+        (encode (unfated 0 (flatsOf (fileIn (now (f .entry)) s) m))) ⌝ }
+{
+    lay_nodes(f, s, calls, rows, m, own);
+    lay_stmts(f, s, calls, rows, m, own, HEADER_BYTES + NODE_BYTES * n);
+}
