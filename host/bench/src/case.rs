@@ -1,11 +1,10 @@
 //! What is measured: tree files with their root names, each built once in a row.
 
+use area::layout::MOST_BYTES;
+use area::Sections;
 use generate::Case;
 use treefile::source::Source;
 use treefile::File;
-
-/// The bytes of the largest answer; every build is lent an area as long.
-pub const MOST: usize = 55_384;
 
 /// A class of files, measured together.
 pub struct Class {
@@ -30,20 +29,18 @@ impl Class {
     /// What the files and their answers hold, summed up.
     pub fn sizes(&self) -> Sizes {
         let mut sizes = Sizes::default();
-        let mut area = vec![0; MOST];
+        let mut area = vec![0; MOST_BYTES];
         for case in &self.cases {
-            builder_sys::build(&case.bytes, &case.root, &mut area);
-            let header = |k: usize| {
-                let word = area[4 * k..].first_chunk().expect("a header");
-                u32::from_le_bytes(*word) as usize
-            };
+            let returned = builder_sys::build(&case.bytes, &case.root, &mut area);
+            let answer = Sections::read(&area[..builder_sys::used(returned) as usize]);
+            let counts = answer.map_or([0; 6], |answer| answer.counts());
             let file = File::open(&case.bytes).unwrap_or_default();
             sizes.bytes += case.bytes.len();
             sizes.stmts += file.stmts.len();
             sizes.nodes += file.nodes.len();
-            sizes.flat_nodes += header(0);
-            sizes.flat_stmts += header(1);
-            sizes.instances += header(5);
+            sizes.flat_nodes += counts[0];
+            sizes.flat_stmts += counts[1];
+            sizes.instances += counts[5];
         }
         sizes
     }

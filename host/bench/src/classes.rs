@@ -1,7 +1,8 @@
 //! The classes of files whose speed is wanted, and the two series by which growth is seen.
 
-use crate::case::{Class, MOST};
+use crate::case::Class;
 use crate::models;
+use area::layout::MOST_BYTES;
 use generate::prng::Random;
 use generate::{blowups, limits, Case};
 use oracle::{deep, judge, Answer};
@@ -42,7 +43,7 @@ pub fn labelled(label: &str) -> Class {
 
 /// Random files, by seeds from 1 on: those whose build is accepted and on which the original ends.
 fn mixed() -> Class {
-    let ends = |case: &Case| match judge(&case.bytes, &case.root, MOST) {
+    let ends = |case: &Case| match judge(&case.bytes, &case.root, MOST_BYTES) {
         Ok(judged) => matches!(judged.answer, Answer::Area(_)) && !judged.endless,
         Err(_) => false,
     };

@@ -10,7 +10,8 @@ mod stack;
 mod tables;
 mod timing;
 
-use case::{Class, MOST};
+use area::layout::MOST_BYTES;
+use case::Class;
 use compare::Series;
 use oracle::deep;
 use std::process::ExitCode;
@@ -90,7 +91,7 @@ fn stacks() {
 fn only(label: &str, passes: &str) -> Result<(), String> {
     let passes: u32 = passes.parse().map_err(|_| USAGE.to_string())?;
     let class = classes::labelled(label);
-    let mut area = vec![0; MOST];
+    let mut area = vec![0; MOST_BYTES];
     for _ in 0..passes {
         for case in &class.cases {
             timing::library(case, &mut area);

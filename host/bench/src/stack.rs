@@ -1,7 +1,7 @@
 //! How much stack a build uses: it runs on a thread whose stack is lent to it, filled with a pattern, and what was
 //! overwritten is looked at afterwards.
 
-use crate::case::MOST;
+use area::layout::MOST_BYTES;
 use generate::Case;
 use std::ffi::{c_int, c_ulong, c_void};
 use std::ptr;
@@ -58,7 +58,7 @@ fn overwritten(cases: &[Case]) -> usize {
     let stack = &mut memory[low..low + SIZE];
     let mut work = Work {
         cases,
-        area: vec![0; MOST],
+        area: vec![0; MOST_BYTES],
     };
     run_on(stack, &mut work);
     let untouched = stack.iter().take_while(|byte| **byte == PATTERN).count();

@@ -1,6 +1,7 @@
 //! The two builders in turn on the same bytes.
 
-use crate::case::{Class, MOST};
+use crate::case::Class;
+use area::layout::MOST_BYTES;
 use generate::Case;
 use report::Step;
 use std::time::{Duration, Instant};
@@ -39,7 +40,7 @@ impl Measured {
 
 /// Measures a class: library, Rust, library, Rust, and so on.
 pub fn measure(class: &Class) -> Measured {
-    let mut area = vec![0xa5; MOST];
+    let mut area = vec![0xa5; MOST_BYTES];
     let tried = (0..5).map(|_| turn(class, 1, |case| library(case, &mut area)));
     let one = tried.map(|times| times.iter().sum::<Duration>()).min();
     let passes = (TURN.as_nanos() / one.unwrap_or_default().as_nanos().max(1)).clamp(1, 1_000);

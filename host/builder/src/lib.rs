@@ -26,6 +26,9 @@ pub use read::Broken;
 pub use records::{Bounds, Equation, Error, Fate, Node, NodeKind, Span, Statement, Variable};
 pub use refusal::{Mender, Refusal};
 
+/// The version, the same as `BUILDER_VERSION` of the C header.
+pub const VERSION: &str = env!("CARGO_PKG_VERSION");
+
 /// Builds into an area of the greatest length that an answer can have, and reads it.
 pub fn build(file: &[u8], root: &[u8]) -> Result<Answer, Refusal> {
     let mut area = vec![0; layout::MOST_BYTES];
@@ -37,9 +40,8 @@ pub fn build(file: &[u8], root: &[u8]) -> Result<Answer, Refusal> {
 /// where the build is refused, zeros only, whatever it held before.
 pub fn build_into(file: &[u8], root: &[u8], area: &mut [u8]) -> Result<usize, Refusal> {
     let told = builder_sys::build(file, root, area);
-    let (number, used) = (told as u32, (told >> 32) as usize);
-    match number {
-        0 => Ok(used),
-        _ => Err(Refusal::of_number(number).expect("a refusal has a number from 1 to 10")),
+    match builder_sys::number(told) {
+        0 => Ok(builder_sys::used(told) as usize),
+        number => Err(Refusal::of_number(number).expect("a refusal has a number from 1 to 10")),
     }
 }

@@ -63,11 +63,8 @@ fn zeros_behind_an_answer_and_nothing_beyond_the_area() {
         .chain(&around[900..])
         .all(|b| *b == 0xAA));
     assert!(around[100 + used..900].iter().all(|b| *b == 0));
-    let words: Vec<u32> = around[100..100 + 24]
-        .chunks(4)
-        .map(|b| u32::from_le_bytes(b.try_into().unwrap()))
-        .collect();
-    assert_eq!(words, [6, 2, 2, 1, 0, 1]);
+    let answer = area::Sections::read(&around[100..100 + used]).expect("an answer");
+    assert_eq!(answer.counts(), [6, 2, 2, 1, 0, 1]);
 }
 
 #[test]

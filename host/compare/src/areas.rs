@@ -1,12 +1,11 @@
 //! One case with areas of several lengths: what each call has to give follows from the answer.
 
 use crate::lend::{lend, lend_nothing, Given};
-use crate::place;
+use area::layout::MOST_BYTES;
+use area::Sections;
 use generate::prng::Random;
 use record::Case;
 
-/// The bytes of the largest answer.
-const MOST: usize = 55_384;
 /// The refusal of an area that is shorter than the answer.
 const SHORT: u32 = 1;
 
@@ -16,7 +15,11 @@ pub fn check(case: &Case, seed: u64) -> Result<u64, String> {
     let mut random = Random::new(seed);
     let mut lengths = match case.number {
         0 => around(case.area.len(), &mut random),
-        _ => vec![MOST, random.below(MOST + 100), random.between(1, 40)],
+        _ => vec![
+            MOST_BYTES,
+            random.below(MOST_BYTES + 100),
+            random.between(1, 40),
+        ],
     };
     lengths.push(0);
     for length in &lengths {
@@ -32,7 +35,7 @@ fn around(exact: usize, random: &mut Random) -> Vec<usize> {
     let longer = match random.below(3) {
         0 => exact + random.between(1, 8),
         1 => exact + random.between(1, 4_096),
-        _ => MOST + random.between(1, 200),
+        _ => MOST_BYTES + random.between(1, 200),
     };
     vec![exact, longer, exact - 1, random.below(exact)]
 }
@@ -53,7 +56,12 @@ fn same(case: &Case, given: &Given) -> Result<(), String> {
     }
     let due = answer.iter().chain(std::iter::repeat(&0));
     match given.area.iter().zip(due).position(|(a, b)| a != b) {
-        Some(at) => fail(format!("{} differs", place::of(at, answer))),
+        Some(at) => fail(format!("{} differs", place(at, answer))),
         None => Ok(()),
     }
+}
+
+/// Where a byte of the area that is to hold this answer stands, in words.
+fn place(at: usize, answer: &[u8]) -> String {
+    Sections::read(answer).map_or_else(|| format!("byte {at}"), |answer| answer.place(at))
 }

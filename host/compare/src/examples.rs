@@ -1,7 +1,7 @@
 //! The examples of document 01. Their answers are written out there, so no judge is needed.
 
 use crate::lend::{lend, Given};
-use crate::read::read;
+use area::{Area, Sections};
 use generate::prng::Random;
 use treefile::examples::{Example, ALL, P1};
 use treefile::{File, Name};
@@ -26,7 +26,7 @@ fn as_written(example: &Example, given: &Given) -> Result<(), String> {
         return Ok(());
     }
     let used = given.area.get(..given.used);
-    let (area, _) = used.and_then(read).ok_or("no answer")?;
+    let area = Area::of(&used.and_then(Sections::read).ok_or("no answer")?);
     let errors: Vec<u32> = area.errors.iter().map(|error| error.kind).collect();
     let fates: Vec<u32> = area.stmts.iter().map(|stmt| stmt.fate).collect();
     if (&errors[..], &fates[..]) != (example.errors, example.fates) {

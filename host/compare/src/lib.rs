@@ -5,8 +5,6 @@ mod areas;
 pub mod examples;
 mod failing;
 mod lend;
-mod place;
-mod read;
 mod report;
 mod series;
 mod shrink;

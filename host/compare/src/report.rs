@@ -1,6 +1,6 @@
 //! An answer put into the form in which a run of the original is reported.
 
-use oracle::area::{fate, Area, AreaError, AreaVariable};
+use area::{fate, Area, AreaError, AreaVariable};
 use report::{Built, Condition, Error, Flat, Report, Taken, Variable};
 use treefile::records::{node, stmt};
 use treefile::Node;

@@ -1,18 +1,20 @@
 //! An answer against the original as it is, with its own map: errors sorted, variables by name.
 
-use crate::read::read;
 use crate::report::report;
-use oracle::area::MOST_LISTED;
+use area::layout::MOST_LISTED;
+use area::{Area, Section, Sections};
 use oracle::{report_unmodified, same_up_to_order, Run};
 use report::{Error, Outcome, Report};
 use treefile::File;
 
 /// Compares an accepted build's answer. False where the original would not end or the build is far over a most.
 pub fn compare(file: &File, root: &[u8], answer: &[u8]) -> Result<bool, String> {
-    let (area, counted) = read(answer).ok_or("the answer's sections do not fill it")?;
+    let sections = Sections::read(answer).ok_or("the answer's sections do not fill it")?;
     match report_unmodified(file, root)? {
         Run::Ended(Outcome::Built(mut theirs)) => {
+            let area = Area::of(&sections);
             let mut own = report(&area).ok_or("a number of the answer does not fit")?;
+            let counted = sections.counts()[Section::Errors as usize];
             let all_listed = counted.max(theirs.built.errors.len()) <= MOST_LISTED;
             alike(&mut own, all_listed);
             alike(&mut theirs, all_listed);

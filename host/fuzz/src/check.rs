@@ -1,10 +1,11 @@
 //! One case: its calls, and what has to hold of each.
 
 use crate::features;
-use crate::lend::{Bench, Given, AREA, MOST};
+use crate::lend::{Bench, Given, AREA};
 use crate::pages::Side;
 use crate::shape;
-use crate::words::Answer;
+use area::layout::MOST_BYTES;
+use area::Sections;
 use generate::prng::Random;
 use generate::Case;
 use treefile::File;
@@ -30,7 +31,7 @@ pub struct Seen {
 /// accepted one that is a byte short; checks what each call gives.
 pub fn check(bench: &mut Bench, case: &Case, random: &mut Random) -> Result<Seen, String> {
     let side = *random.pick(&[Side::Front, Side::Back]);
-    let given = bench.build(case, random.between(MOST, AREA), side)?;
+    let given = bench.build(case, random.between(MOST_BYTES, AREA), side)?;
     returned(&given)?;
     let number = given.number;
     let answer = given.area[..given.used].to_vec();
@@ -41,7 +42,7 @@ pub fn check(bench: &mut Bench, case: &Case, random: &mut Random) -> Result<Seen
             0 => 0,
             1 => 1,
             2 => random.below(64),
-            _ => random.below(MOST),
+            _ => random.below(MOST_BYTES),
         };
         let again = bench.build(case, length, side.other())?;
         returned(&again)?;
@@ -57,7 +58,7 @@ pub fn check(bench: &mut Bench, case: &Case, random: &mut Random) -> Result<Seen
             features: features::of_refusal(case, number),
         });
     }
-    let words = Answer::read(&answer).ok_or("the answer's sections do not fill it")?;
+    let words = Sections::read(&answer).ok_or("the answer's sections do not fill it")?;
     let names = file.map_or(0, |file| file.names.len());
     shape::check(&words, names)?;
     let again = bench.build(case, answer.len(), side.other())?;
@@ -85,7 +86,7 @@ fn returned(given: &Given) -> Result<(), String> {
     if number > LAST {
         return Err(format!("the number {number}"));
     }
-    if used > length.min(MOST) || (number != 0) != (used == 0) {
+    if used > length.min(MOST_BYTES) || (number != 0) != (used == 0) {
         return Err(format!("{used} bytes used of {length}, number {number}"));
     }
     match given.area[used..].iter().position(|byte| *byte != 0) {

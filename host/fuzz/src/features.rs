@@ -1,7 +1,7 @@
 //! What an answer shows, as numbers; the answer is one whose shape was checked. A case that shows a number for the first
 //! time is worth keeping.
 
-use crate::words::Answer;
+use area::Sections;
 use generate::Case;
 use treefile::records::TRAILER;
 
@@ -46,7 +46,7 @@ pub fn of_refusal(case: &Case, number: u32) -> Vec<u64> {
 }
 
 /// What an answer shows: counts by powers of two, errors and fates, and the forms of variables and of statements.
-pub fn of_answer(answer: &Answer) -> Vec<u64> {
+pub fn of_answer(answer: &Sections) -> Vec<u64> {
     let mut found = Vec::new();
     for (i, count) in answer.counts().into_iter().enumerate() {
         found.push(feature(Group::Count, [i as u32, power(count), 0, 0]));
@@ -59,7 +59,7 @@ pub fn of_answer(answer: &Answer) -> Vec<u64> {
 }
 
 /// Each kind of error and each fate by how many there are, kinds in pairs, and which fates come with how many kinds.
-fn errors_and_fates(answer: &Answer, found: &mut Vec<u64>) {
+fn errors_and_fates(answer: &Sections, found: &mut Vec<u64>) {
     let mut kinds = [0; 18];
     answer.errors().for_each(|e| kinds[e[0] as usize] += 1);
     let mut fates = [0; 5];

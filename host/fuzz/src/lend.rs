@@ -4,8 +4,6 @@ use crate::pages::{Pages, Side};
 use generate::prng::Random;
 use generate::Case;
 
-/// The bytes of the largest answer.
-pub const MOST: usize = 55_384;
 /// The longest file, root name and area that are lent.
 pub const FILE: usize = 96 << 10;
 pub const ROOT: usize = 8 << 10;

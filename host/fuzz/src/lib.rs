@@ -16,7 +16,6 @@ mod shape;
 mod sys;
 #[cfg(test)]
 mod tests;
-mod words;
 
 pub use figures::Figures;
 pub use lend::Bench;

@@ -1,26 +1,24 @@
 //! What every answer keeps, whatever was built: the layout of an area, and what its records say of one another.
 
-use crate::words::Answer;
+use area::fate::{CONDITION, HELD, LEFT_OVER, REPLACED};
+use area::layout::{MOSTS, MOST_INSTANCES};
+use area::Sections;
 use treefile::records::{node, stmt};
 
-/// The mosts of nodes, statements, variables, dependents and instances.
-const MOSTS: [(usize, usize, &str); 5] = [
-    (0, 1024, "nodes"),
-    (1, 256, "statements"),
-    (2, 129, "variables"),
-    (3, 1024, "dependents"),
-    (5, 1024, "instances"),
+/// Counts that have a most, by their places in the header. Errors have none, since all are counted.
+const COUNTS: [(usize, usize, &str); 5] = [
+    (0, MOSTS[0], "nodes"),
+    (1, MOSTS[1], "statements"),
+    (2, MOSTS[2], "variables"),
+    (3, MOSTS[3], "dependents"),
+    (5, MOST_INSTANCES, "instances"),
 ];
-const CONDITION: u32 = 1;
-const HELD: u32 = 2;
-const REPLACED: u32 = 3;
-const LEFT_OVER: u32 = 4;
 /// Errors that bear no name: a positional argument behind a keyword (twice), under- and overdetermined.
 const NAMELESS: [u32; 4] = [4, 10, 14, 15];
 
 /// Checks an answer to a file with so many names; an error says what is wrong.
-pub fn check(answer: &Answer, names: usize) -> Result<(), String> {
-    for (at, most, what) in MOSTS {
+pub fn check(answer: &Sections, names: usize) -> Result<(), String> {
+    for (at, most, what) in COUNTS {
         let count = answer.counts()[at];
         holds(count <= most, || format!("{count} {what}"))?;
     }
@@ -44,7 +42,7 @@ fn holds(holds: bool, what: impl Fn() -> String) -> Result<(), String> {
 }
 
 /// Every node's fields are those of its kind, and its size is what it and its children come to.
-fn nodes(answer: &Answer, names: usize) -> Result<(), String> {
+fn nodes(answer: &Sections, names: usize) -> Result<(), String> {
     let all: Vec<&[u32]> = answer.nodes().collect();
     for (i, n) in all.iter().enumerate() {
         let (kind, name, op, size) = (n[0], n[1] as usize, n[2], n[3] as usize);
@@ -74,7 +72,7 @@ fn nodes(answer: &Answer, names: usize) -> Result<(), String> {
 }
 
 /// The trees fill the nodes in order; each fate fits what the statement's variable holds.
-fn stmts(answer: &Answer, names: usize) -> Result<(), String> {
+fn stmts(answer: &Sections, names: usize) -> Result<(), String> {
     let nodes: Vec<&[u32]> = answer.nodes().collect();
     let variables: Vec<&[u32]> = answer.variables().collect();
     let mut total = 0;
@@ -109,7 +107,7 @@ fn stmts(answer: &Answer, names: usize) -> Result<(), String> {
 }
 
 /// The runs fill the dependents in order; state, time index, time-dependence and what is held follow from the rest.
-fn variables(answer: &Answer, names: usize) -> Result<(), String> {
+fn variables(answer: &Sections, names: usize) -> Result<(), String> {
     let dependents = answer.dependents();
     let count = answer.counts()[2];
     let stmts: Vec<&[u32]> = answer.stmts().collect();
@@ -174,7 +172,7 @@ fn reaching(runs: &[&[u32]]) -> Vec<bool> {
     reached
 }
 
-fn errors(answer: &Answer, names: usize) -> Result<(), String> {
+fn errors(answer: &Sections, names: usize) -> Result<(), String> {
     for (i, e) in answer.errors().enumerate() {
         let kind = (1..=17).contains(&e[0]) && e[1] <= e[2];
         let name = match NAMELESS.contains(&e[0]) {
@@ -188,7 +186,7 @@ fn errors(answer: &Answer, names: usize) -> Result<(), String> {
 
 /// Without errors every state holds a statement, none is left over, and a state that holds a rate equation has an initial
 /// condition while one that holds an equation has none.
-fn clean(answer: &Answer) -> Result<(), String> {
+fn clean(answer: &Sections) -> Result<(), String> {
     let stmts: Vec<&[u32]> = answer.stmts().collect();
     let left = stmts.iter().position(|s| s[6] == LEFT_OVER);
     holds(left.is_none(), || {

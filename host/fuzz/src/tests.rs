@@ -1,10 +1,11 @@
 //! A spoiled answer is noticed, changes of a file hang on the seed alone, and lengths are not cut to 32 bits.
 
-use crate::lend::{Bench, MOST};
+use crate::lend::Bench;
 use crate::mutate::mutate;
 use crate::pages::{Pages, Side};
-use crate::words::Answer;
 use crate::{check, features, shape};
+use area::layout::MOST_BYTES;
+use area::Sections;
 use generate::prng::Random;
 use generate::Case;
 use treefile::examples::{P1, P2, P3};
@@ -24,7 +25,7 @@ fn case(text: &str) -> Case {
 
 fn answer(case: &Case) -> Vec<u8> {
     let mut bench = Bench::new(1);
-    let given = bench.build(case, MOST, Side::Back).unwrap();
+    let given = bench.build(case, MOST_BYTES, Side::Back).unwrap();
     assert_eq!(given.number, 0);
     given.area[..given.used].to_vec()
 }
@@ -33,7 +34,7 @@ fn answer(case: &Case) -> Vec<u8> {
 fn passes(answer: &[u8], word: usize, value: u32, names: usize) -> bool {
     let mut spoiled = answer.to_vec();
     spoiled[4 * word..4 * word + 4].copy_from_slice(&value.to_le_bytes());
-    Answer::read(&spoiled).is_some_and(|words| shape::check(&words, names).is_ok())
+    Sections::read(&spoiled).is_some_and(|words| shape::check(&words, names).is_ok())
 }
 
 #[test]
@@ -93,7 +94,7 @@ fn spoiled_errors_are_noticed() {
 
 #[test]
 fn other_answers_show_other_features() {
-    let shown = |text| features::of_answer(&Answer::read(&answer(&case(text))).unwrap());
+    let shown = |text| features::of_answer(&Sections::read(&answer(&case(text))).unwrap());
     assert_eq!(shown(P1), shown(P1));
     assert!(shown(P3).iter().any(|feature| !shown(P1).contains(feature)));
 }
@@ -117,7 +118,7 @@ fn changes_hang_on_the_seed_and_meet_every_refusal_of_the_layout() {
 #[test]
 fn lengths_are_not_cut() {
     let Case { bytes, root, .. } = case(P1);
-    let mut area = vec![1; MOST];
+    let mut area = vec![1; MOST_BYTES];
     let mut pages = Pages::new(FOUR_GIB + bytes.len());
     let place = pages.place(FOUR_GIB + bytes.len(), Side::Front);
     let long = &mut pages.all()[place];

@@ -1,9 +1,9 @@
 //! From the original's report to the answer area.
 
-use crate::area::{fate, Area, AreaError, AreaStmt, AreaVariable};
 use crate::check;
 use crate::plan::Plan;
 use crate::variables::{reaches_time, time_bounds};
+use area::{fate, Area, AreaError, AreaStmt, AreaVariable};
 use report::{Report, Taken};
 use treefile::{File, Node, Stmt};
 

@@ -1,8 +1,8 @@
 //! The whole answer to a build, from the original wherever it can give it.
 
-use crate::area::Area;
 use crate::plan::{prospect, Plan, Prospect};
 use crate::{assemble, deep, origins};
+use area::Area;
 use report::{Outcome, Panic, Report, Request, Spans};
 use treefile::File;
 

@@ -2,7 +2,6 @@
 //! the form of document 01. Refusals that stand for panics and endless descents are decided by that document's own
 //! conditions, and each is checked against what the original does.
 
-pub mod area;
 mod assemble;
 mod check;
 mod compare;

@@ -1,7 +1,7 @@
 //! Errors with the names that document 01 lists. A second run, in which each span says its record, tells where an error
 //! comes from; the names found there must agree with those in the messages.
 
-use crate::area::AreaError;
+use area::AreaError;
 use report::{Error, Origin};
 use treefile::records::{domain, node, stmt};
 use treefile::{File, Span};

@@ -4,6 +4,7 @@ use crate::compare::{report_unmodified, same_up_to_order, Run};
 use crate::judge::{judge, Answer, Judged};
 use crate::measure::Sizes;
 use crate::plan::{prospect, Prospect};
+use area::layout::MOST_LISTED;
 use report::{Outcome, Panic};
 use std::collections::BTreeMap;
 use std::fmt;
@@ -94,7 +95,7 @@ impl Tally {
         if kinds.is_empty() {
             self.add("build", "clean");
         }
-        if kinds.len() > crate::area::MOST_LISTED {
+        if kinds.len() > MOST_LISTED {
             self.add("build", "over 256 errors");
         }
         kinds.sort();

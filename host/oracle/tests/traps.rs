@@ -2,8 +2,8 @@
 
 mod common;
 
+use ::area::Area;
 use common::{area, errors, fates, judge, refusal};
-use oracle::area::Area;
 use oracle::Answer;
 
 /// Text, kinds of errors, fates.

@@ -11,8 +11,6 @@ pub const SEED: u64 = 1;
 const SEEDS: u64 = 4_000;
 /// The largest file.
 pub const MOST_BYTES: usize = 1_500;
-/// The bytes of the largest answer.
-const ROOM: usize = 55_384;
 /// How many generated cases are kept.
 const GENERATED: usize = 330;
 /// How many cases are damaged, and how many of the damaged files are kept of each.
@@ -111,7 +109,7 @@ fn calls(times: usize, levels: usize, first: &str, last: &str) -> String {
 }
 
 fn shown(file: Vec<u8>, root: Vec<u8>) -> Shown {
-    let judged = oracle::judge(&file, &root, ROOM)
+    let judged = oracle::judge(&file, &root, area::layout::MOST_BYTES)
         .unwrap_or_else(|error| panic!("cross-check failed: {error}"));
     let case = Case::of(file, root, judged.answer).unwrap_or_else(|reason| panic!("{reason}"));
     let number = case.number;

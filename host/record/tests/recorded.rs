@@ -1,5 +1,6 @@
 //! The stored records are those that would be recorded now.
 
+use area::{Area, Sections};
 use record::{builds, layout, read, write, Case};
 
 /// Recorded cases are the input of the program that runs them.
@@ -7,7 +8,7 @@ fn stored(name: &str) -> Vec<u8> {
     let place = match name {
         "builds.cases" => "../crates/replay/stdin",
         "layout.cases" => "../crates/layout_cases/stdin",
-        _ => "recorded/README.md",
+        _ => "record/README.md",
     };
     let path = format!("{}/../{place}", env!("CARGO_MANIFEST_DIR"));
     std::fs::read(&path).unwrap_or_else(|error| panic!("{path}: {error}"))
@@ -49,19 +50,37 @@ fn recorded_builds_show_everything() {
     assert!((2..=10).all(|number| refused(number) >= 3));
     let mut errors = [0; 18];
     let mut fates = [0; 5];
-    for case in cases.iter().filter(|case| case.number == 0) {
-        count(case, &mut errors, &mut fates);
+    for case in accepted(&bytes) {
+        count(&case, &mut errors, &mut fates);
     }
     assert!(errors[1..].iter().all(|count| *count >= 3), "{errors:?}");
     assert!(fates[1..].iter().all(|count| *count >= 3), "{fates:?}");
 }
 
+/// What the records of a recorded answer are written as is that answer.
+#[test]
+fn recorded_answers_are_read_and_written() {
+    for (i, case) in accepted(&stored("builds.cases")).iter().enumerate() {
+        let sections = Sections::read(&case.area).unwrap_or_else(|| panic!("case {i}"));
+        let area = Area::of(&sections);
+        if sections.counts()[4] == area.errors.len() {
+            assert!(area.to_bytes() == case.area, "case {i}");
+        }
+    }
+}
+
+fn accepted(pack: &[u8]) -> Vec<Case> {
+    let cases = read(pack).into_iter();
+    cases.filter(|case| case.number == 0).collect()
+}
+
 /// Adds the listed errors' kinds and the statements' fates of an answer.
 fn count(case: &Case, errors: &mut [u32; 18], fates: &mut [u32; 5]) {
-    let word = |at: usize| u32::from_le_bytes(case.area[at..at + 4].try_into().unwrap()) as usize;
-    let [nodes, stmts, variables, dependents, listed] = [0, 1, 2, 3, 4].map(|i| word(4 * i));
-    let stmts_at = 40 + 32 * nodes;
-    let errors_at = stmts_at + 32 * stmts + 48 * variables + 4 * dependents;
-    (0..stmts).for_each(|s| fates[word(stmts_at + 32 * s + 24)] += 1);
-    (0..listed.min(256)).for_each(|e| errors[word(errors_at + 16 * e)] += 1);
+    let answer = Area::of(&Sections::read(&case.area).expect("an answer"));
+    for error in answer.errors {
+        errors[error.kind as usize] += 1;
+    }
+    for stmt in answer.stmts {
+        fates[stmt.fate as usize] += 1;
+    }
 }

@@ -1,5 +1,5 @@
 //! The C header against the library: every number that it names against the definitions, the Rust names and what is read
-//! in answers, and its prototype against the source.
+//! in answers, its prototype against the source, and its version against the crate's and the changes'.
 
 mod area;
 mod by_hand;
@@ -8,7 +8,7 @@ mod places;
 mod sources;
 mod typed;
 
-use sources::{text, Definitions, Header};
+use sources::{newest_change, text, version, Definitions, Header};
 
 /// A name of the header that no check asks for fails here.
 #[test]
@@ -21,6 +21,13 @@ fn every_number_of_the_header() {
     numbers::kinds_and_fates(&header, &defined);
     places::every_place(&header);
     assert_eq!(header.not_asked_for(), [""; 0], "names that nothing tests");
+}
+
+/// The header, the crate and the newest heading of the changes say one version.
+#[test]
+fn one_version() {
+    assert_eq!(version(), builder::VERSION);
+    assert_eq!(newest_change(), builder::VERSION);
 }
 
 /// A slice of the source is a pointer and a length of the header, in the same order.

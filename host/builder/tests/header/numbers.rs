@@ -123,6 +123,29 @@ pub fn area(header: &Header, defined: &Definitions) {
     ];
     let in_words = |(name, number, definition)| (name, number as u64, definition);
     check(header, defined, &ties.map(in_words));
+    judge(header);
+}
+
+/// The same as the judge's reader has them.
+fn judge(header: &Header) {
+    use area::layout::{HEADER_WORDS, MOSTS, MOST_BYTES, MOST_INSTANCES, RECORD_WORDS};
+    for section in area::Section::ALL {
+        let record = section.record().to_uppercase();
+        let i = section as usize;
+        let words = header.place(&format!("{record}_WORDS"));
+        assert_eq!(words, RECORD_WORDS[i], "{record}");
+        let listed = if record == "ERROR" { "LISTED_" } else { "" };
+        let most = header.place(&format!("MOST_{listed}{record}S"));
+        assert_eq!(most, MOSTS[i], "{record}");
+        assert_eq!(header.place(&format!("HEADER_{record}S")), i);
+    }
+    assert_eq!(header.place("HEADER_WORDS"), HEADER_WORDS);
+    assert_eq!(header.place("MOST_INSTANCES"), MOST_INSTANCES);
+    assert_eq!(header.place("MOST_BYTES"), MOST_BYTES);
+    let fates = ["INITIAL_CONDITION", "HELD", "REPLACED", "LEFT_OVER"];
+    let fates = fates.map(|fate| header.number(&format!("FATE_{fate}")) as u32);
+    use area::fate::{CONDITION, HELD, LEFT_OVER, REPLACED};
+    assert_eq!(fates, [CONDITION, HELD, REPLACED, LEFT_OVER]);
 }
 
 /// The longest answer has all of its mosts.

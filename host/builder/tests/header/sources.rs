@@ -10,6 +10,8 @@ const MACROS: [&str; 3] = [
     "#define BUILDER_NUMBER(told) ((uint32_t)(told))",
     "#define BUILDER_USED(told) ((uint32_t)((told) >> 32))",
 ];
+/// What stands before the version, which is the one text that the header defines.
+const VERSION: &str = "#define BUILDER_VERSION ";
 /// Where the definitions have their numbers; each has one place.
 const DEFINITIONS: [&str; 2] = [
     "crates/ast/specs/FileNumbers.antt",
@@ -39,7 +41,8 @@ impl Header {
         let text = text("include/builder.h");
         assert!(!text.contains("undef"));
         let defines = text.lines().filter(|line| line.contains("define"));
-        for line in defines.filter(|line| !MACROS.contains(line)) {
+        let is_number = |line: &&str| !MACROS.contains(line) && !line.starts_with(VERSION);
+        for line in defines.filter(is_number) {
             let parts = line.split_whitespace().collect::<Vec<_>>();
             let ["#define", name, number, ..] = parts[..] else {
                 panic!("{line}");
@@ -72,6 +75,26 @@ impl Header {
         let names = self.numbers.keys().filter(|name| !asked.contains(*name));
         names.map(String::as_str).collect()
     }
+}
+
+/// The version that the header defines.
+pub fn version() -> String {
+    let header = text("include/builder.h");
+    let versions = header.lines().filter_map(|line| line.strip_prefix(VERSION));
+    let versions: Vec<&str> = versions.collect();
+    assert_eq!(versions.len(), 1, "{versions:?}");
+    versions[0].trim_matches('"').to_string()
+}
+
+/// The newest version that has a heading in CHANGELOG.md: `## [1.2.3] - DATE`, behind `## [Unreleased]`.
+pub fn newest_change() -> String {
+    let changes = text("CHANGELOG.md");
+    let mut headings = changes.lines().filter_map(|line| {
+        let (version, _) = line.strip_prefix("## [")?.split_once(']')?;
+        Some(version.to_string())
+    });
+    assert_eq!(headings.next().as_deref(), Some("Unreleased"));
+    headings.next().expect("a version")
 }
 
 /// The `name = number` lines of the definitions.

@@ -1,7 +1,7 @@
 //! Small cases in the text form, and the oracle's answer to them.
 #![allow(dead_code)]
 
-use oracle::area::Area;
+use area::Area;
 use oracle::{Answer, Judged};
 
 /// More than any answer needs.
