@@ -8,7 +8,7 @@ use native.Mathlib.Nat.{add-zero}
 use lib.Dec.{ltb}
 use lib.ListN.{length, take, length-append}
 use borrow.Author.Tests.{lt-ltb, le-ltb}
-use Rattle.functions.specs.Lists.{each, unless}
+use Rattle.functions.specs.Lists.{each}
 use Rattle.ast.specs.Words.{bytes4, bytesOf}
 use Rattle.ast.specs.Bytes.{front, put}
 use Rattle.ast.specs.Encode.{encode}
@@ -115,12 +115,3 @@ module _ {es xs ys : List Error} (e : Joins es xs ys) where
   pub room-then : {d : List ℕ} {n : ℕ} (d′ : List ℕ) (r : ℕ) → Room d n es → Lists d n xs r d′ → Room d′ r ys
   room-then {d} {n} d′ r h p =
       record { long = omega (arith, h .long, ap length (p .1), length-listed d n xs (h .long)); few = omega (arith, h .few, p .0, length-append xs ys, ap length (e .is)) }
-
--- an error that is listed unless a test passes
-pub lists-unless : (b : Bool) (e : Error) (d d′ : List ℕ) (n r : ℕ) → b ≡ false → Lists d n (e ∷ []) r d′ → Lists d n (unless b e) r d′
-unfolding unless
-lists-unless b e d d′ n r h p = rw h p
-
-pub lists-passed : (b : Bool) (e : Error) (d : List ℕ) (n : ℕ) → b ≡ true → Lists d n (unless b e) n d
-unfolding unless
-lists-passed b e d n h = rw h (lists-none d n)

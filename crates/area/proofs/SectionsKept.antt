@@ -8,7 +8,7 @@ use lib.ListN.{length, take, drop, length-drop}
 use lib.Seq.{take-take, take-nil}
 use Rattle.ast.specs.Words.{words, records, section}
 
-drop-take : {A : Type 0} (a k : ℕ) (l : List A) → a ≤ k → drop a (take k l) ≡ take (k - a) (drop a l)
+pub drop-take : {A : Type 0} (a k : ℕ) (l : List A) → a ≤ k → drop a (take k l) ≡ take (k - a) (drop a l)
 drop-take zero k l h = let e : k - 0 ≡ k = omega arith in rw e refl
 drop-take (suc a) zero l h = absurd (omega arith)
 drop-take (suc a) (suc k) [] h = sym (take-nil (suc k - suc a))

@@ -8,7 +8,7 @@ use lib.ListN.{length}
 use Rattle.ast.specs.Tree.{Span}
 use Rattle.ast.specs.Words.{bytesOf}
 use Rattle.ast.specs.Bytes.{put}
-use Rattle.definitions.specs.Numbers.{mostListed}
+use Rattle.definitions.specs.Numbers.{mostListed, errorLength}
 use Rattle.definitions.specs.Variables as definitions
 use Rattle.definitions.specs.Variables.{error}
 use Rattle.definitions.specs.Answer.{errorWords}
@@ -19,9 +19,13 @@ use Rattle.area.specs.declared.errors.Found.the-variants as is
 abbrev pub spanned : ℕ → ℕ → Span
 spanned a b = record { from = a; to = b }
 
+-- all errors that are listed, in bytes
+abbrev pub listLength : ℕ
+listLength = 4 * errorLength * mostListed
+
 -- The area with an error listed behind n of them, if it is among the first 256.
 unfoldable pub putError : List ℕ → ℕ → definitions.Error → List ℕ
-putError d n e = cond (ltb n mostListed) (put d (16 * n) (bytesOf (errorWords e))) d
+putError d n e = cond (ltb n mostListed) (put d (4 * errorLength * n) (bytesOf (errorWords e))) d
 
 -- The area with errors listed behind n of them.
 unfoldable pub listed : List ℕ → ℕ → List definitions.Error → List ℕ
@@ -34,7 +38,7 @@ Lists d n es r d′ = (r ≡ n + length es) × (d′ ≡ listed d n es)
 
 -- The area d has room for 256 errors, and the errors es behind n of them can be counted.
 pub record Room (d : List ℕ) (n : ℕ) (es : List definitions.Error) : Type 0 where
-  pub long : 4096 ≤ length d
+  pub long : listLength ≤ length d
   pub few : n + length es < 2 ^ 40
 
 -- Each case of what a test finds: no error, or one.

@@ -1,7 +1,8 @@
 -- The sections of an answer area behind its header: nodes, statements, variables, dependents, errors, without gaps.
 use Prim.Native.Nat.{ℕ, _+_, _*_, _≤_}
+use mathlib.Core.Path.{_≡_}
 use mathlib.Core.List.{List, [], map}
-use lib.ListN.{take, drop, getD}
+use lib.ListN.{length, take, drop, getD, set}
 use Rattle.ast.specs.Words.{section, wordOf}
 use Rattle.definitions.specs.Numbers.{mostNodes, mostStmts, mostVariables, mostDeps, headerLength, nodeLength, stmtLength, variableLength, depLength}
 use Rattle.area.specs.declared.sections.Sizes.{Sizes}
@@ -18,8 +19,12 @@ pub record Small (z : Sizes) : Type 0 where
 abbrev pub nodesAt : ℕ
 nodesAt = 4 * headerLength
 
+-- behind n nodes
+abbrev pub nodesEnd : ℕ → ℕ
+nodesEnd n = nodesAt + 4 * nodeLength * n
+
 unfoldable pub stmtsAt : Sizes → ℕ
-stmtsAt z = nodesAt + 4 * nodeLength * z .nodes
+stmtsAt z = nodesEnd (z .nodes)
 
 unfoldable pub varsAt : Sizes → ℕ
 varsAt z = stmtsAt z + 4 * stmtLength * z .stmts
@@ -44,6 +49,17 @@ module _ (b : List ℕ) (z : Sizes) where
 
   abbrev pub areaVars : List (List ℕ)
   areaVars = section variableLength (z .vars) (varsAt z) b
+
+-- The records with x as word k of record i.
+unfoldable pub withWord : List (List ℕ) → ℕ → ℕ → ℕ → List (List ℕ)
+withWord rs i k x = set rs i (set (getD rs i []) k x)
+
+-- The area b with these records of variables, and all else as it was, is b′.
+pub record VarsAre (z : Sizes) (b : List ℕ) (rs : List (List ℕ)) (b′ : List ℕ) : Type 0 where
+  pub front : take (varsAt z) b′ ≡ take (varsAt z) b
+  pub behind : drop (depsAt z) b′ ≡ drop (depsAt z) b
+  pub long : length b′ ≡ length b
+  pub records : areaVars b′ z ≡ rs
 
 -- word k of each record
 unfoldable pub column : ℕ → List (List ℕ) → List ℕ

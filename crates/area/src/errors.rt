@@ -5,8 +5,9 @@ ghost use Prim.Native.Nat.{_+_, _*_, _^_, min, _≤_, _<_};
 ghost use lib.ListN.{length};
 ghost use Rattle.ast.specs.Words.{bytesOf};
 ghost use Rattle.ast.specs.Bytes.{put};
+ghost use Rattle.definitions.specs.Numbers.{mostListed, errorLength};
 ghost use Rattle.definitions.specs.Variables.{error};
-ghost use Rattle.area.specs.Listing.{spanned, Lists, foundAs};
+ghost use Rattle.area.specs.Listing.{spanned, listLength, Lists, foundAs};
 use super::layout::ERROR_BYTES;
 use super::layout::ERRORS_BYTES;
 use super::layout::MOST_LISTED;
@@ -20,14 +21,14 @@ pub enum Found {
 
 // A list without errors.
 pub fn no_errors() -> [u8; ERRORS_BYTES]
-    ensures { λ r. ⌜ length r ≡ 4096 ⌝ }
+    ensures { λ r. ⌜ length r ≡ listLength ⌝ }
 {
     [0u8; ERRORS_BYTES]
 }
 
 // Puts four words at a place.
 fn put_words(out: &mut [u8], at: usize, kind: u32, from: u32, to: u32, name: u32)
-    requires { ⌜ at + 16 ≤ length (now out) ⌝ }
+    requires { ⌜ at + 4 * errorLength ≤ length (now out) ⌝ }
     ensures { λ _. ⌜ now (out .exit) ≡ put (now (out .entry)) at (bytesOf (kind ∷ from ∷ to ∷ name ∷ [])) ⌝ }
 {
     put_word(out, at, kind);
@@ -38,7 +39,7 @@ fn put_words(out: &mut [u8], at: usize, kind: u32, from: u32, to: u32, name: u32
 
 // Lists an error behind `count` of them and gives their new number.
 pub fn put_error(out: &mut [u8], count: usize, kind: u32, from: u32, to: u32, name: u32) -> usize
-    requires { ⌜ (4096 ≤ length (now out)) × (count < 2 ^ 40) ⌝ }
+    requires { ⌜ (listLength ≤ length (now out)) × (count < 2 ^ 40) ⌝ }
     ensures { λ r. ⌜ Lists (now (out .entry)) count (error kind (spanned from to) name ∷ []) r (now (out .exit)) ⌝ }
 {
     if MOST_LISTED <= count {
@@ -50,7 +51,7 @@ pub fn put_error(out: &mut [u8], count: usize, kind: u32, from: u32, to: u32, na
 
 // Lists what is found behind `count` errors and gives their new number.
 pub fn list(out: &mut [u8], count: usize, found: Found) -> usize
-    requires { ⌜ (4096 ≤ length (now out)) × (count < 2 ^ 40) ⌝ }
+    requires { ⌜ (listLength ≤ length (now out)) × (count < 2 ^ 40) ⌝ }
     ensures { λ r. ⌜ Lists (now (out .entry)) count (foundAs found) r (now (out .exit)) ⌝ }
 {
     match found {
@@ -61,7 +62,7 @@ pub fn list(out: &mut [u8], count: usize, found: Found) -> usize
 
 // The bytes of those among `count` errors that are listed.
 pub fn errors_length(count: usize) -> usize
-    ensures { λ r. ⌜ (r ≡ 16 * min count 256) × (r ≤ 4096) ⌝ }
+    ensures { λ r. ⌜ (r ≡ 4 * errorLength * min count mostListed) × (r ≤ listLength) ⌝ }
 {
     if count < MOST_LISTED {
         return ERROR_BYTES * count;

@@ -36,6 +36,14 @@ pub const VAR_STATE: usize = 1;
 
 pub const VAR_TIME_INDEX: usize = 2;
 
+pub const VAR_FIRST_DEP: usize = 3;
+
+pub const VAR_DEPS: usize = 4;
+
+pub const VAR_HELD: usize = 5;
+
+pub const VAR_INITIAL: usize = 6;
+
 pub const VAR_TIMED: usize = 7;
 
 // The fates of statements.
@@ -69,14 +77,10 @@ pub const INSTANCES_AT: usize = 20;
 
 pub const TIME_AT: usize = 24;
 
-// Bytes within a record: the fate and its variable in a statement's; the held statement, the count of initial conditions and the bounds in a variable's.
+// Bytes within a record: the fate and its variable in a statement's, the bounds in a variable's.
 pub const FATE_AT: usize = 24;
 
 pub const VARIABLE_AT: usize = 28;
-
-pub const HELD_AT: usize = 20;
-
-pub const INITIAL_AT: usize = 24;
 
 pub const BOUNDS_AT: usize = 32;
 

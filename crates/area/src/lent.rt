@@ -4,8 +4,10 @@ ghost use mathlib.Core.List.{_++_};
 ghost use Prim.Native.Nat.{_+_, _-_, _*_, _^_, min, _≤_, _<_};
 ghost use lib.ListN.{length, take, replicate};
 ghost use Rattle.ast.specs.Bytes.{front, put};
+ghost use Rattle.definitions.specs.Numbers.{mostListed, errorLength};
 ghost use Rattle.definitions.specs.Build.{refusal, fitted, told, resultArea};
 ghost use Rattle.area.specs.Sections.{Small, errorsAt};
+ghost use Rattle.area.specs.Listing.{listLength};
 use super::errors::errors_length;
 use super::layout::HIGH;
 use super::layout::SHORT_AREA;
@@ -38,9 +40,9 @@ fn copy(own: &[u8], n: usize, area: &mut [u8])
 
 // Copies the errors that are listed, of `count` in all, to their section.
 pub fn put_errors(area: &mut [u8], z: Sizes, errors: &[u8], count: usize)
-    requires { ⌜ Small z × (errorsAt z + 4096 ≤ length (now area)) × (4096 ≤ length (now errors)) ⌝ }
+    requires { ⌜ Small z × (errorsAt z + listLength ≤ length (now area)) × (listLength ≤ length (now errors)) ⌝ }
     ensures { λ _. ⌜ now (area .exit) ≡ put (now (area .entry)) (errorsAt z)
-        (take (16 * min count 256) (now (errors .entry))) ⌝ }
+        (take (4 * errorLength * min count mostListed) (now (errors .entry))) ⌝ }
 {
     let at = errors_at(z);
     copy(errors, errors_length(count), &mut area[at..]);

@@ -1,6 +1,8 @@
 // The sections of an answer area: how many records each has, and the byte at which each begins behind the header and the nodes.
 ghost use mathlib.Core.Path.{_≡_};
-ghost use Rattle.area.specs.Sections.{Small, stmtsAt, varsAt, depsAt, errorsAt};
+ghost use Prim.Native.Nat.{_≤_};
+ghost use Rattle.definitions.specs.Numbers.{mostNodes};
+ghost use Rattle.area.specs.Sections.{Small, nodesEnd, stmtsAt, varsAt, depsAt, errorsAt};
 use super::layout::HEADER_BYTES;
 use super::layout::STMT_BYTES;
 use super::layout::VAR_BYTES;
@@ -14,11 +16,19 @@ pub struct Sizes {
     pub deps: usize,
 }
 
+// Behind n nodes.
+pub fn nodes_end(n: usize) -> usize
+    requires { ⌜ n ≤ mostNodes ⌝ }
+    ensures { λ r. ⌜ r ≡ nodesEnd n ⌝ }
+{
+    HEADER_BYTES + NODE_BYTES * n
+}
+
 pub fn stmts_at(z: Sizes) -> usize
     requires { ⌜ Small z ⌝ }
     ensures { λ r. ⌜ r ≡ stmtsAt z ⌝ }
 {
-    HEADER_BYTES + NODE_BYTES * z.nodes
+    nodes_end(z.nodes)
 }
 
 pub fn vars_at(z: Sizes) -> usize

@@ -4,6 +4,7 @@ ghost use mathlib.Core.List.{[]};
 ghost use Prim.Native.Nat.{_+_, _<_};
 ghost use lib.ListN.{getD};
 ghost use Rattle.ast.specs.Words.{floatFrom};
+ghost use Rattle.ast.specs.FileNumbers.{unknownLength};
 ghost use Rattle.ast.specs.Records.{domainOf};
 ghost use Rattle.ast.specs.Numbers.{DomainRead};
 ghost use Rattle.ast.specs.Opens.{Open, contentsIn};
@@ -21,7 +22,7 @@ use super::sections::Sections;
 
 // The 64 bits at word k of unknown i.
 pub fn unknown_bits(f: &[u8], s: Sections, i: usize, k: usize) -> u64
-    requires { ⌜ Open (now f) s × (i < s .counts .unknowns) × (k + 1 < 10) ⌝ }
+    requires { ⌜ Open (now f) s × (i < s .counts .unknowns) × (k + 1 < unknownLength) ⌝ }
     ensures { λ r. ⌜ r ≡ floatFrom (getD (contentsIn (now (f .entry)) s .unknowns) i []) k ⌝ }
 {
     let low = unknown(f, s, i, k);

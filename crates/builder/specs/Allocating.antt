@@ -3,21 +3,21 @@ use Prim.Native.Nat.{ℕ, zero, suc, _+_, _-_, _*_, _≤_, _<_}
 use mathlib.Core.Path.{_≡_}
 use mathlib.Core.Logic.{_⊎_}
 use mathlib.Core.Bool.{Bool, true, false, cond, _&&_}
-use mathlib.Core.List.{List, [], _∷_, _++_, map}
+use mathlib.Core.List.{List, [], _∷_, map}
 use mathlib.Core.Option.{Option, none, some}
 use lib.Dec.{eqb, leb}
-use lib.ListN.{length, take, drop, getD}
+use lib.ListN.{length, getD}
 use lib.Ieee.{Float, eq}
 use Rattle.functions.specs.Lists.{unless, plusOne, flag, _>>=_}
 use Rattle.ast.specs.Tree.{Span, Expr, name, number, binary, unary, call, Args, Flat, equation, rate, count}
 use Rattle.ast.specs.Words.{wordOf, spanFrom}
 use Rattle.ast.specs.Numbers.{numberOf}
 use Rattle.ast.specs.Nodes.{kindAt, nameAt, opAt, sizeAt, spanAt, bitsAt, treeAt, isExpr, nodesFit}
-use Rattle.definitions.specs.Numbers.{mostNames, nameNotFound, wrongStart, rateInvalid}
+use Rattle.definitions.specs.Numbers.{mostNames, stmtLength, callKind, equationKind, rateKind, nameNotFound, wrongStart, rateInvalid}
 use Rattle.definitions.specs.Variables.{Error, error, Bounds, at, timeIndex}
 use Rattle.definitions.specs.Check.{Scope, lookup}
 use Rattle.definitions.specs.Roles.{Start, argAt, numberIn, takesRate}
-use Rattle.area.specs.Sections.{Small, depsAt, areaNodes, areaStmts, areaStmt, areaVars, column}
+use Rattle.area.specs.Sections.{Small, nodesEnd, stmtsAt, depsAt, areaNodes, areaStmts, areaStmt, areaVars, column}
 use Rattle.area.specs.declared.sections.Sizes.{Sizes}
 use Rattle.builder.specs.declared.allocation.roles.Start as found
 use Rattle.builder.specs.declared.allocation.roles.Start.the-variants.{Nothing, Short, Number}
@@ -39,14 +39,14 @@ module _ (b : List ℕ) (z : Sizes) where
 
 -- An area with the nodes and statements of a flattened model, where there are `names` names.
 pub record Flattened (names : ℕ) (b : List ℕ) (z : Sizes) : Type 0 where
-  pub long : 40 + 32 * z .nodes + 32 * z .stmts ≤ length b
+  pub long : nodesEnd (z .nodes) + 4 * stmtLength * z .stmts ≤ length b
   pub small : Small z
-  pub few : names ≤ 256
+  pub few : names ≤ mostNames
   pub nodes : nodesFit names (areaNodes b z) (z .nodes) ≡ true
-  pub kind : (i : ℕ) → i < z .stmts → (wordOf (areaStmt b z i) 0 ≡ 1) ⊎ (wordOf (areaStmt b z i) 0 ≡ 2)
+  pub kind : (i : ℕ) → i < z .stmts → (wordOf (areaStmt b z i) 0 ≡ equationKind) ⊎ (wordOf (areaStmt b z i) 0 ≡ rateKind)
   pub right : (i : ℕ) → i < z .stmts → (wordOf (areaStmt b z i) 3 < z .nodes) × (isExpr (areaNodes b z) (wordOf (areaStmt b z i) 3) ≡ true)
-  pub left : (i : ℕ) → i < z .stmts → wordOf (areaStmt b z i) 0 ≡ 1 → (wordOf (areaStmt b z i) 2 < z .nodes) × (isExpr (areaNodes b z) (wordOf (areaStmt b z i) 2) ≡ true)
-  pub name : (i : ℕ) → i < z .stmts → wordOf (areaStmt b z i) 0 ≡ 2 → wordOf (areaStmt b z i) 1 < names
+  pub left : (i : ℕ) → i < z .stmts → wordOf (areaStmt b z i) 0 ≡ equationKind → (wordOf (areaStmt b z i) 2 < z .nodes) × (isExpr (areaNodes b z) (wordOf (areaStmt b z i) 2) ≡ true)
+  pub name : (i : ℕ) → i < z .stmts → wordOf (areaStmt b z i) 0 ≡ rateKind → wordOf (areaStmt b z i) 1 < names
 
 -- ---- the variables of an area by number
 
@@ -197,4 +197,29 @@ StartFits z (Number v a) = (v < z .vars) × (1 ≤ a) × (a < z .nodes)
 unfoldable pub CallFits : List (List ℕ) → ℕ → found.Start → Type 0
 CallFits ns i Nothing = Unit {0}
 CallFits ns i Short = Unit {0}
-CallFits ns i (Number v a) = nameAt ns i < 256
+CallFits ns i (Number v a) = nameAt ns i < mostNames
+
+module _ (b : List ℕ) (z : Sizes) where
+  -- A call at a node of a flattened model's area, which has an argument number i.
+  pub record ArgIn (call i : ℕ) : Type 0 where
+    pub flattened : (names : ℕ) × Flattened names b z
+    pub within : call < z .nodes
+    pub kind : kindAt (areaNodes b z) call ≡ callKind
+    pub few : i < opAt (areaNodes b z) call
+
+  -- An argument's node, behind its expression's, and the node of its call, whose name there is.
+  pub record NumberIn (arg call : ℕ) : Type 0 where
+    pub small : Small z
+    pub long : stmtsAt z ≤ length b
+    pub behind : 1 ≤ arg
+    pub arg-within : arg < z .nodes
+    pub within : call < z .nodes
+    pub named : nameAt (areaNodes b z) call < mostNames
+
+  -- The node of a left side, and an answer for it that fits.
+  pub record StartIn (call : ℕ) (start : found.Start) : Type 0 where
+    pub small : Small z
+    pub long : stmtsAt z ≤ length b
+    pub within : call < z .nodes
+    pub fits : StartFits z start
+    pub calls : CallFits (areaNodes b z) call start

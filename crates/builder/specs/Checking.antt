@@ -15,7 +15,7 @@ use Rattle.ast.specs.Records.{rightTop, spanOfStmt, unknownOf, stmtOf}
 use Rattle.ast.specs.Opens.{Open, contentsIn, fileIn}
 use Rattle.ast.specs.declared.sections.Nodes.{Nodes}
 use Rattle.ast.specs.declared.sections.Sections.{Sections}
-use Rattle.definitions.specs.Numbers.{mostNames, nameNotFound, submodelMissing}
+use Rattle.definitions.specs.Numbers.{mostNames, mostModels, callKind, nameNotFound, submodelMissing}
 use Rattle.definitions.specs.Variables.{Error, error}
 use Rattle.definitions.specs.Check.{Scope, lookup, depNames, dependentErrors, variableErrors, callErrors}
 use Rattle.definitions.specs.Flatten.{modelAt, scopeOf, stmtErrors, errorsOf}
@@ -83,7 +83,7 @@ pub record ExprIn (names : ℕ) (b : List ℕ) (ns : Nodes) (i : ℕ) : Type 0 w
 pub record CallIn (names : ℕ) (b : List ℕ) (ns : Nodes) (i : ℕ) : Type 0 where
   pub formed : Formed names b ns
   pub within : i < ns .count
-  pub call : kindAt (nodesIn ns b) i ≡ 5
+  pub call : kindAt (nodesIn ns b) i ≡ callKind
 
 pub record ArgsIn (names : ℕ) (b : List ℕ) (ns : Nodes) (r : Run) : Type 0 where
   pub formed : Formed names b ns
@@ -135,7 +135,7 @@ pub record TablesRead (f : List ℕ) (s : Sections) (cs rs ts : List ℕ) : Type
 -- Statement q, with a depth of k models below it.
 pub record StmtAt (s : Sections) (q k : ℕ) : Type 0 where
   pub within : q < s .counts .stmts
-  pub deep : k ≤ 32
+  pub deep : k ≤ mostModels
 
 -- Unknown u, and the classes of the names.
 pub record UnknownIn (f : List ℕ) (s : Sections) (cs : List ℕ) (u : ℕ) : Type 0 where

@@ -7,6 +7,7 @@ use lib.ListN.{length, take, getD}
 use Rattle.ast.specs.Tree.{Flat}
 use Rattle.ast.specs.Subst.{Replacements}
 use Rattle.ast.specs.Nodes.{kindAt, opAt, sizeAt, isExpr, argsBefore}
+use Rattle.ast.specs.NodesIn.{nodeBytes}
 use Rattle.ast.specs.Records.{kindOfStmt, stmtOf}
 use Rattle.ast.specs.Levels.{throughFlat}
 use Rattle.ast.specs.Rows.{levelsOf, RowsFit}
@@ -82,4 +83,4 @@ module _ (f : List ℕ) (s : Sections) where
 -- There is room for n nodes behind those done, in an area of so many bytes.
 pub record NodesFit (done n long : ℕ) : Type 0 where
   pub few : done + n ≤ mostNodes
-  pub fit : 32 * (done + n) ≤ long
+  pub fit : nodeBytes * (done + n) ≤ long

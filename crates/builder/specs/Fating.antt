@@ -1,15 +1,14 @@
 -- The fates of statements by numbers, as the code writes them into words 6 and 7 of the statements' records.
-use Prim.Native.Nat.{ℕ, _-_, _/_, _%_, _≤_, _<_}
-use mathlib.Core.Path.{_≡_}
+use Prim.Native.Nat.{ℕ, _-_, _/_, _%_, _≤_}
 use mathlib.Core.Bool.{Bool, cond, _&&_}
 use mathlib.Core.List.{List, [], _∷_, _++_}
 use lib.Dec.{eqb}
-use lib.ListN.{length, take, drop, getD}
-use Rattle.functions.specs.Lists.{member, place, placeFrom, plusOne, times}
+use lib.ListN.{length, take, drop}
+use Rattle.functions.specs.Lists.{member}
 use Rattle.ast.specs.Words.{wordOf}
 use Rattle.area.specs.Sections.{Small, varsAt}
 use Rattle.area.specs.declared.sections.Sizes.{Sizes}
-use Rattle.definitions.specs.Numbers.{initialFate, heldFate, replacedFate, leftOverFate, mostVariables}
+use Rattle.definitions.specs.Numbers.{initialFate, heldFate, replacedFate, leftOverFate}
 
 -- A statement that is left holds the queue's first state, or is left over.
 unfoldable pub leftIn : List ℕ → ℕ × ℕ
@@ -57,23 +56,3 @@ fated (r ∷ rs) (x ∷ xs) = withFate r x ∷ fated rs xs
 -- a record of this fate and variable
 unfoldable pub isFated : ℕ → ℕ → List ℕ → Bool
 isFated fate v r = eqb (wordOf r 6) fate && eqb (wordOf r 7) v
-
--- ---- in tables of the variables
-
--- Of the statements' records `rs` from number i on: the first that each variable holds plus 1 or 0, its first initial condition plus 1 or 0, and how many it has.
-pub record FatesFrom (i : ℕ) (rs : List (List ℕ)) (held first conditions : List ℕ) : Type 0 where
-  pub held-long : length held ≡ mostVariables
-  pub first-long : length first ≡ mostVariables
-  pub conditions-long : length conditions ≡ mostVariables
-  pub held-of : (v : ℕ) → v < mostVariables → getD held v 0 ≡ plusOne (placeFrom i (isFated heldFate v) (drop i rs))
-  pub first-of : (v : ℕ) → v < mostVariables → getD first v 0 ≡ plusOne (placeFrom i (isFated initialFate v) (drop i rs))
-  pub conditions-of : (v : ℕ) → v < mostVariables → getD conditions v 0 ≡ times (isFated initialFate v) (drop i rs)
-
--- Of all of them.
-pub record FatesIn (rs : List (List ℕ)) (held first conditions : List ℕ) : Type 0 where
-  pub held-long : length held ≡ mostVariables
-  pub first-long : length first ≡ mostVariables
-  pub conditions-long : length conditions ≡ mostVariables
-  pub held-of : (v : ℕ) → v < mostVariables → getD held v 0 ≡ plusOne (place (isFated heldFate v) rs)
-  pub first-of : (v : ℕ) → v < mostVariables → getD first v 0 ≡ plusOne (place (isFated initialFate v) rs)
-  pub conditions-of : (v : ℕ) → v < mostVariables → getD conditions v 0 ≡ times (isFated initialFate v) rs

@@ -10,6 +10,10 @@ use Rattle.definitions.specs.Numbers.{mostNodes, mostStmts}
 use Rattle.builder.specs.Descent.{Linked, RowsAt}
 use Rattle.builder.specs.Root.{flatsOf}
 
+-- so few models that a short table of rows does
+abbrev pub fewModels : ℕ
+fewModels = 2
+
 -- Model m of the open file, with a row for each model; its flattened statements and their nodes are few enough for an area.
 pub record Laying (f : List ℕ) (s : Sections) (calls rows : List ℕ) (m : ℕ) : Type 0 where
   pub linked : Linked f s calls

@@ -10,6 +10,7 @@ pub mod Unfated
 pub mod Bounding
 pub mod Fating
 pub mod VarRecords
+pub mod Reaching
 pub mod Starting
 pub mod Root
 pub mod Laying

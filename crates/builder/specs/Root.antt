@@ -1,26 +1,25 @@
 -- What a build works out of a root model, step by step: the sizes, the tables of its variables, and the parts of the area that are written.
-use Prim.Native.Nat.{ℕ, _*_, _^_, _≤_, _<_}
+use Prim.Native.Nat.{ℕ, _+_, _*_, _^_, _≤_, _<_}
 use mathlib.Core.Path.{_≡_}
-use mathlib.Core.Bool.{false, cond, _||_}
+use mathlib.Core.Bool.{false, cond}
 use mathlib.Core.List.{List, [], _++_, map}
 use lib.Dec.{eqb}
-use lib.ListN.{length, take, drop, getD}
+use lib.ListN.{length, take, getD}
 use lib.Ieee.{Float}
-use Rattle.functions.specs.Lists.{each, sumOf, plusOne, flag, times}
+use Rattle.functions.specs.Lists.{each, sumOf, times}
 use Rattle.ast.specs.Tree.{File, Flat, flatSize}
 use Rattle.ast.specs.Words.{bytesOf}
-use Rattle.ast.specs.Bytes.{put}
 use Rattle.ast.specs.Encode.{flatNodes, encode}
 use Rattle.ast.specs.Opens.{Open, fileIn}
 use Rattle.ast.specs.declared.sections.Sections.{Sections}
 use Rattle.definitions.specs.Flatten as definition
 use Rattle.ast.specs.declared.numbers.Bounds as floats
 use Rattle.builder.specs.Bounding.{Floating}
-use Rattle.definitions.specs.Numbers.{mostInstances, modelCycle, selfListedUnknown, argumentBeyond, overMost}
-use Rattle.definitions.specs.Variables.{Error, Bounds, at, timeIndex, timeDependent, timeBounds}
+use Rattle.definitions.specs.Numbers.{mostNames, mostNodes, mostStmts, mostDeps, mostInstances, mostBytes, modelCycle, selfListedUnknown, argumentBeyond, overMost}
+use Rattle.definitions.specs.Variables.{Error, Bounds, at, timeBounds}
 use Rattle.definitions.specs.Check.{Scope}
 use Rattle.definitions.specs.Flatten.{modelAt, scopeOf, flatten, errorsOf, instances, cyclic, selfListed, overfull}
-use Rattle.definitions.specs.Roles.{Role, roleOf, takesRate}
+use Rattle.definitions.specs.Roles.{Role, roleOf}
 use Rattle.definitions.specs.Allocate.{Fate, fatesOf, pairedStates, countErrors}
 use Rattle.definitions.specs.Answer.{Answer, answerBytes, flatRecords, variableRecords}
 use Rattle.definitions.specs.Build.{Result, refusal, accepted, answerFrom, tooBig, fitted}
@@ -33,6 +32,7 @@ use Rattle.builder.specs.Fating as fating
 use Rattle.builder.specs.Allocating.{flatsIn, Flattened, Numbered, namesIn, statesIn, indexesIn, ratesIn, roleBy, roleErrorsBy}
 use Rattle.builder.specs.Starting.{startingIn, Righted}
 use Rattle.builder.specs.Checking as checking
+use Rattle.builder.specs.Descent.{RowsIn}
 use Rattle.area.specs.declared.sections.Sizes.{Sizes}
 use Rattle.builder.specs.declared.extent.measure.Measured as measured
 use Rattle.builder.specs.declared.extent.measure.Measured.the-variants.{Refused, Sized}
@@ -95,21 +95,39 @@ pub record ExtentOf (f : File) (m i q n : ℕ) : Type 0 where
   pub nodes : n ≡ sumOf flatSize (flatsOf f m)
   pub small : tooBig f m (flatsOf f m) ≡ false
 
+-- What the answer of model m is worked out from: the classes of the names, the submodel calls, rows for as many models as there are, and an area of the
+-- most bytes.
+pub record Sources (f : List ℕ) (s : Sections) (classes calls rows : List ℕ) (m : ℕ) (own : List ℕ) : Type 0 where
+  pub called : checking.Called f s classes calls
+  pub classes-long : length classes ≡ mostNames
+  pub model : m < s .counts .models
+  pub rows-long : mostNames * s .counts .models ≤ length rows
+  pub rows-in : RowsIn f s rows
+  pub long : length own ≡ mostBytes
+
 -- ---- the root's variables
 
--- Where the variables' dependents begin and, last, where they end; and whether they reach t.
-pub record TablesOf (c : Scope) (starts reach : List ℕ) : Type 0 where
-  pub starts-long : length starts ≡ 130
-  pub reach-long : length reach ≡ 129
-  pub start : (v : ℕ) → v ≤ length (c .vars) → getD starts v 0 ≡ length (each (λ x. x .deps) (take v (c .vars)))
-  pub reached : (v : ℕ) → v < length (c .vars) → (eqb v 0 || eqb (getD reach v 0) 1) ≡ timeDependent (c .vars) v
+-- An area with room for the variables of every model behind n nodes and q statements.
+pub record VarsRoom (n q : ℕ) (b : List ℕ) : Type 0 where
+  pub nodes : n ≤ mostNodes
+  pub stmts : q ≤ mostStmts
+  pub long : length b ≡ mostBytes
 
--- tables without entries
-pub record NoTables (starts reach : List ℕ) : Type 0 where
-  pub starts-long : length starts ≡ 130
-  pub reach-long : length reach ≡ 129
-  pub no-start : getD starts 0 0 ≡ 0
-  pub no-mark : (v : ℕ) → getD reach v 0 ≡ 0
+-- An area in which the variables' records have their names, with room for all dependents behind them.
+pub record VarsNamed (f : File) (m : ℕ) (z : Sizes) (b : List ℕ) : Type 0 where
+  pub small : Small z
+  pub vars : z .vars ≡ length (scopeAt f m .vars)
+  pub long : depsAt z + 4 * mostDeps ≤ length b
+  pub named : (v : ℕ) → v < z .vars → getD (namesIn b z) v 0 ≡ at (scopeAt f m .vars) v .name
+
+-- Variable v is the next to be written into an area, behind `done` dependents: its record has its name.
+pub record VarNext (f : File) (m : ℕ) (z : Sizes) (b : List ℕ) (v done : ℕ) : Type 0 where
+  pub small : Small z
+  pub vars : z .vars ≡ length (scopeAt f m .vars)
+  pub long : depsAt z + 4 * mostDeps ≤ length b
+  pub below : v < z .vars
+  pub named : getD (namesIn b z) v 0 ≡ at (scopeAt f m .vars) v .name
+  pub few : done + length (at (scopeAt f m .vars) v .deps) ≤ mostDeps
 
 -- The sizes of the answer's sections.
 pub record SizesOf (f : File) (m : ℕ) (z : Sizes) : Type 0 where
@@ -147,14 +165,17 @@ pub record PartsLaid (f : File) (m : ℕ) (z : Sizes) (rs vs : List (List ℕ)) 
   pub vars : part (varsAt z) (48 * z .vars) b ≡ encode vs
   pub deps : part (depsAt z) (4 * z .deps) b ≡ bytesOf (each (λ x. x .deps) (scopeAt f m .vars))
 
--- The variables laid into an area `b` whose sizes but for the dependents are those of z: the sizes then, and the area with the variables' records and,
--- behind them, their dependents.
-pub record VarsLaid (f : File) (m : ℕ) (z : Sizes) (b : List ℕ) (r : Sizes) (b′ : List ℕ) : Type 0 where
-  pub nodes : r .nodes ≡ z .nodes
-  pub stmts : r .stmts ≡ z .stmts
+-- The variables laid into an area `b` behind n nodes and q statements: the sizes then, and the area with the variables' records and, behind them, their
+-- dependents, all before them as it was.
+pub record VarsLaid (f : File) (m n q : ℕ) (b : List ℕ) (r : Sizes) (b′ : List ℕ) : Type 0 where
+  pub nodes : r .nodes ≡ n
+  pub stmts : r .stmts ≡ q
   pub vars : r .vars ≡ length (scopeAt f m .vars)
   pub deps : r .deps ≡ length (each (λ x. x .deps) (scopeAt f m .vars))
-  pub laid : b′ ≡ put (put b (depsAt r) (bytesOf (each (λ x. x .deps) (scopeAt f m .vars)))) (varsAt r) (encode (unheldRecords (scopeAt f m .vars)))
+  pub long : length b′ ≡ length b
+  pub before : take (varsAt r) b′ ≡ take (varsAt r) b
+  pub records : part (varsAt r) (48 * r .vars) b′ ≡ encode (unheldRecords (scopeAt f m .vars))
+  pub listed : part (depsAt r) (4 * r .deps) b′ ≡ bytesOf (each (λ x. x .deps) (scopeAt f m .vars))
 
 -- before fates are known, with them, and with what each variable holds
 abbrev pub Unfated : File → ℕ → Sizes → List ℕ → Type 0

@@ -1,16 +1,20 @@
 -- Errors 16 and 17 over the records of an area: `rs` are the statements' records with their fates, `ns` the nodes, `model` is the root's span.
-use Prim.Native.Nat.{ℕ, zero, suc, _+_, _-_, _≤_, _<_}
+use mathlib.Core.Path.{_≡_}
+use Prim.Native.Nat.{ℕ, zero, suc, _-_, _≤_, _<_, _+_, _^_}
 use mathlib.Core.Bool.{cond}
 use mathlib.Core.List.{List, [], _∷_, _++_}
 use lib.Dec.{eqb}
 use lib.ListN.{length, getD}
-use Rattle.functions.specs.Lists.{place, plusOne}
+use Rattle.functions.specs.Lists.{place, plusOne, times}
 use Rattle.ast.specs.Tree.{Span}
+use Rattle.ast.specs.Opens.{Open}
+use Rattle.ast.specs.declared.sections.Sections.{Sections}
 use Rattle.ast.specs.Words.{wordOf}
 use Rattle.ast.specs.Nodes.{spanAt}
-use Rattle.definitions.specs.Numbers.{noInitialCondition, algebraicInitialCondition}
+use Rattle.definitions.specs.Numbers.{initialFate, heldFate, noInitialCondition, algebraicInitialCondition}
 use Rattle.definitions.specs.Variables.{Error, error}
-use Rattle.area.specs.Sections.{Small, depsAt, areaStmt}
+use Rattle.area.specs.Listing.{listLength}
+use Rattle.area.specs.Sections.{Small, depsAt, areaStmts, areaStmt, areaVars, column}
 use Rattle.builder.specs.Fating.{isFated}
 use Rattle.area.specs.declared.sections.Sizes.{Sizes}
 
@@ -35,8 +39,19 @@ module _ (model : Span) (ns rs : List (List ℕ)) where
   startingIn names zero = []
   startingIn names (suc n) = startingIn names n ++ stateErrorsIn (getD names n 0) n
 
--- An area with the variables' records, where each statement's right side is a node.
+-- An area with the variables' records, where each statement's right side is a node and each variable's record says what it holds: the statement plus 1 or 0, and how
+-- many initial conditions it has.
 pub record Righted (b : List ℕ) (z : Sizes) : Type 0 where
   pub small : Small z
   pub long : depsAt z ≤ length b
   pub right : (i : ℕ) → i < z .stmts → wordOf (areaStmt b z i) 3 < z .nodes
+  pub held : (v : ℕ) → v < z .vars → getD (column 5 (areaVars b z)) v 0 ≡ plusOne (place (isFated heldFate v) (areaStmts b z))
+  pub initial : (v : ℕ) → v < z .vars → getD (column 6 (areaVars b z)) v 0 ≡ times (isFated initialFate v) (areaStmts b z)
+
+-- What errors 16 and 17 of root model m are found from, and room to list them behind `count` errors: one for each variable at the most.
+pub record Conditions (f : List ℕ) (s : Sections) (m : ℕ) (b : List ℕ) (z : Sizes) (out : List ℕ) (count : ℕ) : Type 0 where
+  pub opened : Open f s
+  pub model : m < s .counts .models
+  pub righted : Righted b z
+  pub long : listLength ≤ length out
+  pub few : count + z .vars < 2 ^ 40

@@ -7,7 +7,7 @@ use Rattle.functions.specs.Lists.{sumOf}
 use Rattle.ast.specs.Tree.{Flat, equation, rate, size, flatSize}
 use Rattle.ast.specs.Bytes.{put}
 use Rattle.ast.specs.Encode.{encode}
-use Rattle.definitions.specs.Numbers.{mostNodes, mostStmts, equationKind, rateKind}
+use Rattle.definitions.specs.Numbers.{mostNodes, mostStmts, stmtLength, equationKind, rateKind}
 
 -- Kind, name, left, right, span, and 0 for fate and variable. Its trees, left before right, begin at node `first`.
 unfoldable pub unfatedWords : ℕ → Flat → List ℕ
@@ -20,9 +20,9 @@ unfated first (q ∷ qs) = unfatedWords first q ∷ unfated (first + flatSize q)
 
 -- There is room for the records of statements behind those done, in an area of so many bytes.
 abbrev pub RecordsFit : ℕ → ℕ → ℕ → List Flat → Type 0
-RecordsFit stmts nodes long qs = (stmts + length qs ≤ mostStmts) × (nodes + sumOf flatSize qs ≤ mostNodes) × (32 * (stmts + length qs) ≤ long)
+RecordsFit stmts nodes long qs = (stmts + length qs ≤ mostStmts) × (nodes + sumOf flatSize qs ≤ mostNodes) × (4 * stmtLength * (stmts + length qs) ≤ long)
 
 -- The records of statements are written behind those done: the counts of statements and nodes and the area, before and after.
 abbrev pub Recorded : ℕ → ℕ → List ℕ → ℕ → ℕ → List ℕ → List Flat → Type 0
 Recorded stmts nodes out stmts′ nodes′ out′ qs =
-    (stmts′ ≡ stmts + length qs) × (nodes′ ≡ nodes + sumOf flatSize qs) × (out′ ≡ put out (32 * stmts) (encode (unfated nodes qs)))
+    (stmts′ ≡ stmts + length qs) × (nodes′ ≡ nodes + sumOf flatSize qs) × (out′ ≡ put out (4 * stmtLength * stmts) (encode (unfated nodes qs)))

@@ -1,63 +1,52 @@
--- The variables' records and the header, from the tables that the code works them out of.
+-- The variables' records and the header.
 use mathlib.Core.Path.{_≡_}
-use Prim.Native.Nat.{ℕ, zero, suc, _+_, _-_, _*_, _^_, _≤_, _<_}
-use mathlib.Core.Bool.{Bool, cond, _||_}
+use Prim.Native.Nat.{ℕ, suc, _+_, _-_, _^_, _≤_, _<_}
+use mathlib.Core.Bool.{Bool, cond}
 use mathlib.Core.List.{List, [], _∷_, _++_}
 use mathlib.Core.Option.{none}
 use lib.Dec.{eqb, ltb}
 use lib.ListN.{length, take, drop, getD}
-use Rattle.functions.specs.Lists.{flag, plusOne, place, times}
+use Rattle.functions.specs.Lists.{flag, plusOne, placeFrom, place, times}
 use Rattle.ast.specs.Tree.{Unknown}
+use Rattle.ast.specs.Opens.{Open, fileIn}
+use Rattle.ast.specs.declared.sections.Sections.{Sections}
+use Rattle.ast.specs.declared.numbers.Bounds as floats
+use Rattle.area.specs.Sections.{Small, depsAt, areaStmts, areaVars, column, VarsAre}
 use Rattle.area.specs.declared.sections.Sizes.{Sizes}
+use Rattle.definitions.specs.Numbers.{initialFate, heldFate}
 use Rattle.definitions.specs.Variables.{Variable, Bounds, fromZero, unbounded, lastBounds, lastTime, isState, timeIndex, timeDependent}
-use Rattle.builder.specs.VariableTables.{nextIn}
+use Rattle.definitions.specs.Flatten.{modelAt}
 use Rattle.definitions.specs.Answer.{boundsWords}
+use Rattle.builder.specs.Bounding.{Floating}
 use Rattle.builder.specs.Fating.{isFated}
 use Rattle.builder.specs.declared.variables.records.Lead.{Lead}
 
--- Of each variable its name plus 1, where its dependents begin and the next one's do, and 1 where it reaches t; `deps` are the dependents' bytes.
-pub record VarTables (n : ℕ) (names firsts reach deps : List ℕ) : Type 0 where
-  pub names-long : n ≤ length names
-  pub firsts-long : n < length firsts
-  pub reach-long : n ≤ length reach
-  pub rises : (v : ℕ) → v < n → getD firsts v 0 ≤ getD firsts (v + 1) 0
-  pub within : (v : ℕ) → v < n → 4 * getD firsts (v + 1) 0 ≤ length deps
-  pub few : (v : ℕ) → v < n → getD firsts (v + 1) 0 < 2 ^ 32
+-- the variable t
+unfoldable pub isTime : ℕ → Bool
+isTime v = eqb v 0
 
 -- The words of a variable in front of its bounds, from `first` up to `end` being its dependents: it holds nothing yet.
 unfoldable pub leadWords : ℕ → ℕ → ℕ → ℕ → Bool → List ℕ
 leadWords name first end index time = name ∷ flag (ltb first end) ∷ index ∷ first ∷ (end - first) ∷ 0 ∷ 0 ∷ flag time ∷ []
 
--- A record's lead says these of variable v.
-pub record LeadOf (l : Lead) (names firsts reach deps : List ℕ) (v : ℕ) : Type 0 where
-  pub name : l .name ≡ getD names v 0
-  pub first : l .first ≡ getD firsts v 0
-  pub end : l .end ≡ getD firsts (v + 1) 0
-  pub index : l .index ≡ plusOne (lastTime 0 none (nextIn firsts deps v))
-  pub time : l .time ≡ (eqb v 0 || eqb (getD reach v 0) 1)
+-- A record's lead says these of variable v: `deps` are its dependents, from `first` up to `end` among all, and t alone is known to be time-dependent.
+pub record LeadOf (l : Lead) (v name first end : ℕ) (deps : List ℕ) : Type 0 where
+  pub name-of : l .name ≡ name
+  pub first-of : l .first ≡ first
+  pub end-of : l .end ≡ end
+  pub index-of : l .index ≡ plusOne (lastTime 0 none deps)
+  pub time-of : l .time ≡ isTime v
 
 -- The bounds of variable v, of a name: the variable t's are 0 and infinity.
 unfoldable pub varBounds : List (List ℕ) → List Unknown → ℕ → ℕ → Bounds
 varBounds texts us v name = cond (eqb v 0) fromZero (lastBounds texts name unbounded us)
 
-module _ (texts : List (List ℕ)) (us : List Unknown) (names firsts reach deps : List ℕ) where
-  -- variable v
-  unfoldable pub varWords : ℕ → List ℕ
-  varWords v =
-      leadWords (getD names v 0) (getD firsts v 0) (getD firsts (v + 1) 0) (plusOne (lastTime 0 none (nextIn firsts deps v))) (eqb v 0 || eqb (getD reach v 0) 1)
-      ++ boundsWords (varBounds texts us v (getD names v 0))
+-- ---- the answer's variables before it is known what they hold, time-dependent where `timed` says so
 
-  -- the first n of them
-  unfoldable pub varRecords : ℕ → List (List ℕ)
-  varRecords zero = []
-  varRecords (suc n) = varRecords n ++ varWords n ∷ []
-
--- ---- the answer's variables before it is known what they hold
-
-module _ (all : List Variable) where
+module _ (timed : ℕ → Bool) where
   unfoldable pub unheldWords : ℕ → ℕ → Variable → List ℕ
   unheldWords i first v =
-      (v .name ∷ flag (isState v) ∷ plusOne (timeIndex v) ∷ first ∷ length (v .deps) ∷ 0 ∷ 0 ∷ flag (timeDependent all i) ∷ [])
+      (v .name ∷ flag (isState v) ∷ plusOne (timeIndex v) ∷ first ∷ length (v .deps) ∷ 0 ∷ 0 ∷ flag (timed i) ∷ [])
       ++ boundsWords (v .bounds)
 
   -- from variable i on, whose first dependent is `first`
@@ -66,7 +55,11 @@ module _ (all : List Variable) where
   unheldFrom i first (v ∷ vs) = unheldWords i first v ∷ unheldFrom (suc i) (first + length (v .deps)) vs
 
 unfoldable pub unheldRecords : List Variable → List (List ℕ)
-unheldRecords vs = unheldFrom vs 0 0 vs
+unheldRecords vs = unheldFrom (timeDependent vs) 0 0 vs
+
+-- before it is known which of them reach t: of t alone it is said that it is time-dependent
+unfoldable pub untimedRecords : List Variable → List (List ℕ)
+untimedRecords vs = unheldFrom isTime 0 0 vs
 
 -- ---- what a variable holds, in words 5 and 6 of its record
 
@@ -81,6 +74,37 @@ heldIn rs v = (plusOne (place (isFated 2 v) rs), times (isFated 1 v) rs)
 unfoldable pub heldFrom : List (List ℕ) → ℕ → List (List ℕ) → List (List ℕ)
 heldFrom rs v [] = []
 heldFrom rs v (w ∷ ws) = withHeld w (heldIn rs v) ∷ heldFrom rs (suc v) ws
+
+-- An area in which the variables' records hold nothing yet.
+pub record NothingHeld (z : Sizes) (b : List ℕ) : Type 0 where
+  pub small : Small z
+  pub long : depsAt z ≤ length b
+  pub held : (v : ℕ) → v < z .vars → getD (column 5 (areaVars b z)) v 0 ≡ 0
+  pub initial : (v : ℕ) → v < z .vars → getD (column 6 (areaVars b z)) v 0 ≡ 0
+
+-- An area in which they hold what the statements from number i on give them.
+pub record HeldBehind (z : Sizes) (i : ℕ) (b : List ℕ) : Type 0 where
+  pub small : Small z
+  pub long : depsAt z ≤ length b
+  pub held : (v : ℕ) → v < z .vars → getD (column 5 (areaVars b z)) v 0 ≡ plusOne (placeFrom i (isFated heldFate v) (drop i (areaStmts b z)))
+  pub initial : (v : ℕ) → v < z .vars → getD (column 6 (areaVars b z)) v 0 ≡ times (isFated initialFate v) (drop i (areaStmts b z))
+
+-- The area b with other words 5 and 6 in the variables' records, and all else as it was, is b′.
+pub record HeldChanged (z : Sizes) (b b′ : List ℕ) : Type 0 where
+  pub changed : VarsAre z b (areaVars b′ z) b′
+  pub kept : (k : ℕ) → (k ≡ 5 → ⊥) → (k ≡ 6 → ⊥) → column k (areaVars b′ z) ≡ column k (areaVars b z)
+
+-- What the header of an answer is written from: model m of an open file, an area with the records of its variables, the first of which is t, counts that
+-- are words, and time's bounds as floats.
+pub record Headed (f : List ℕ) (s : Sections) (m i errors : ℕ) (z : Sizes) (time : floats.Bounds) (b : List ℕ) : Type 0 where
+  pub opened : Open f s
+  pub model : m < s .counts .models
+  pub small : Small z
+  pub some : 0 < z .vars
+  pub long : depsAt z ≤ length b
+  pub counted : errors < 2 ^ 32
+  pub instances : i < 2 ^ 32
+  pub timed : Floating (lastBounds (fileIn f s .names) (getD (column 0 (areaVars b z)) 0 0) fromZero (modelAt (fileIn f s) m .unknowns)) time
 
 -- The header of an answer of these sizes.
 unfoldable pub headWords : Sizes → ℕ → ℕ → Bounds → List ℕ

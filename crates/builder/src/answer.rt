@@ -1,16 +1,15 @@
 // An answer written whole into an area of 55,384 bytes.
 ghost use mathlib.Core.Path.{_≡_};
 ghost use mathlib.Core.Bool.{cond};
-ghost use Prim.Native.Nat.{_*_, _≤_, _<_};
+ghost use Prim.Native.Nat.{_≤_};
 ghost use lib.ListN.{length, take};
 ghost use Rattle.ast.specs.Opens.{fileIn};
-ghost use Rattle.definitions.specs.Numbers.{shortLeftSide};
+ghost use Rattle.definitions.specs.Numbers.{mostBytes, shortLeftSide};
 ghost use Rattle.definitions.specs.Allocate.{leftCount, lacking};
 ghost use Rattle.definitions.specs.Answer.{answerBytes};
 ghost use Rattle.definitions.specs.Build.{refusal, accepted, anyShort};
-ghost use Rattle.builder.specs.Descent.{RowsIn};
-ghost use Rattle.builder.specs.Checking as checking;
-ghost use Rattle.builder.specs.Root.{flatsOf, scopeAt, rolesAt, answerAt, ExtentOf, Rooted, Unfated, Held, answeredAs, usedIn, bytesIn};
+ghost use Rattle.builder.specs.Root.{flatsOf, scopeAt, rolesAt, answerAt, ExtentOf, Sources, Rooted, Unfated, Held, answeredAs, usedIn, bytesIn};
+use crate::allocation::held::write_held;
 use crate::allocation::roles::any_short;
 use crate::allocation::statements::Left;
 use crate::allocation::statements::allocate_stmts;
@@ -22,7 +21,6 @@ use crate::root::Root;
 use crate::variables::bounds::time_bounds;
 use crate::variables::laid::lay_vars;
 use crate::variables::records::write_header;
-use crate::variables::records::write_held;
 use area::errors::errors_length;
 use area::errors::no_errors;
 use area::layout::VAR_NAME;
@@ -54,7 +52,7 @@ fn finish(
     classes: &[u8; MOST_NAMES],
     calls: &[u8; MOST_STMTS],
     own: &mut [u8],
-    numbers: &[u32],
+    numbers: &[u16],
     root: Root,
     left: Left,
 ) -> usize
@@ -65,7 +63,7 @@ fn finish(
         × (left .states ≡ length (lacking (scopeAt (fileIn (now f) s) (root .model) .vars)
         (rolesAt (fileIn (now f) s) (root .model))))) ⌝ }
     ensures { λ u. ⌜ (take u (now (own .exit)) ≡ answerBytes (answerAt (fileIn (now (f .entry)) s) (root .model)))
-        × (u ≤ 55384) ⌝ }
+        × (u ≤ mostBytes) ⌝ }
 {
     let mut errors = no_errors();
     let count = all_errors(f, s, classes, calls, own, numbers, root, left, &mut errors);
@@ -81,14 +79,14 @@ fn write_answer(
     classes: &[u8; MOST_NAMES],
     calls: &[u8; MOST_STMTS],
     own: &mut [u8],
-    numbers: &[u32],
+    numbers: &[u16],
     root: Root,
 ) -> usize
     requires { ⌜ Rooted (now f) s (now classes) (now calls) (now numbers) (root .model) (root .instances) (root .sizes)
         (root .time)
         × Unfated (fileIn (now f) s) (root .model) (root .sizes) (now own) ⌝ }
     ensures { λ u. ⌜ (take u (now (own .exit)) ≡ answerBytes (answerAt (fileIn (now (f .entry)) s) (root .model)))
-        × (u ≤ 55384) ⌝ }
+        × (u ≤ mostBytes) ⌝ }
 {
     let left = allocate_stmts(own, root.sizes, numbers, root.time.lower);
     write_held(own, root.sizes);
@@ -102,7 +100,7 @@ fn answer_laid(
     classes: &[u8; MOST_NAMES],
     calls: &[u8; MOST_STMTS],
     own: &mut [u8],
-    numbers: &[u32],
+    numbers: &[u16],
     root: Root,
 ) -> Answered
     requires { ⌜ Rooted (now f) s (now classes) (now calls) (now numbers) (root .model) (root .instances) (root .sizes)
@@ -112,7 +110,7 @@ fn answer_laid(
         (cond (anyShort (scopeAt (fileIn (now (f .entry)) s) (root .model))
         (flatsOf (fileIn (now (f .entry)) s) (root .model))) (refusal shortLeftSide)
         (accepted (answerAt (fileIn (now (f .entry)) s) (root .model)))))
-        × (usedIn a ≤ 55384) ⌝ }
+        × (usedIn a ≤ mostBytes) ⌝ }
 {
     if any_short(own, root.sizes, numbers) {
         return Answered::Refused(SHORT_LEFT_SIDE);
@@ -126,20 +124,17 @@ pub fn fill(
     s: Sections,
     classes: &[u8; MOST_NAMES],
     calls: &[u8; MOST_STMTS],
-    rows: &mut [u32],
+    rows: &mut [u16],
     m: usize,
     own: &mut [u8],
     extent: Extent,
 ) -> Answered
-    requires { ⌜ checking.Called (now f) s (now classes) (now calls)
-        × ((length (now classes) ≡ 256) × (m < s .counts .models))
-        × ((256 * s .counts .models ≤ length (now rows)) × RowsIn (now f) s (now rows))
-        × (length (now own) ≡ 55384)
+    requires { ⌜ Sources (now f) s (now classes) (now calls) (now rows) m (now own)
         × ExtentOf (fileIn (now f) s) m (extent .instances) (extent .stmts) (extent .nodes) ⌝ }
     ensures { λ a. ⌜ (answeredAs a (now (own .exit)) ≡ bytesIn
         (cond (anyShort (scopeAt (fileIn (now (f .entry)) s) m) (flatsOf (fileIn (now (f .entry)) s) m))
         (refusal shortLeftSide) (accepted (answerAt (fileIn (now (f .entry)) s) m))))
-        × (usedIn a ≤ 55384) ⌝ }
+        × (usedIn a ≤ mostBytes) ⌝ }
 {
     let mut numbers = no_marks();
     lay_flats(f, s, calls, rows, m, own, extent.nodes);

@@ -1,14 +1,14 @@
 // `build`: from a tree file and a root name to an answer area.
 ghost use mathlib.Core.Path.{_≡_};
-ghost use Prim.Native.Nat.{_*_, _≤_, _<_};
+ghost use Prim.Native.Nat.{_≤_, _<_};
 ghost use lib.ListN.{length};
 ghost use Rattle.ast.specs.Opens.{Open, fileIn};
 ghost use Rattle.ast.specs.File.{openFile, opened};
+ghost use Rattle.definitions.specs.Numbers.{mostBytes};
 ghost use Rattle.definitions.specs.Build as definition;
 ghost use Rattle.definitions.specs.Build.{answerOfModel, told, resultArea};
-ghost use Rattle.builder.specs.Tables.{Classes, Callees};
-ghost use Rattle.builder.specs.Descent.{RowsIn};
-ghost use Rattle.builder.specs.Root.{answeredAs, usedIn, bytesIn, fittedIn};
+ghost use Rattle.builder.specs.Laying.{fewModels};
+ghost use Rattle.builder.specs.Root.{Sources, answeredAs, usedIn, bytesIn, fittedIn};
 use crate::answer::Answered;
 use crate::answer::Extent;
 use crate::answer::fill;
@@ -39,17 +39,13 @@ fn answer_with(
     s: Sections,
     kinds: &[u8; MOST_NAMES],
     calls: &[u8; MOST_STMTS],
-    rows: &mut [u32],
+    rows: &mut [u16],
     m: usize,
     own: &mut [u8],
 ) -> Answered
-    requires { ⌜ Open (now f) s
-        × (m < s .counts .models)
-        × (Classes (fileIn (now f) s .names) (now kinds) × (length (now kinds) ≡ 256) × Callees (now f) s (now calls))
-        × ((256 * s .counts .models ≤ length (now rows)) × RowsIn (now f) s (now rows))
-        × (length (now own) ≡ 55384) ⌝ }
+    requires { ⌜ Sources (now f) s (now kinds) (now calls) (now rows) m (now own) ⌝ }
     ensures { λ a. ⌜ (answeredAs a (now (own .exit)) ≡ bytesIn (answerOfModel (fileIn (now (f .entry)) s) m))
-        × (usedIn a ≤ 55384) ⌝ }
+        × (usedIn a ≤ mostBytes) ⌝ }
 {
     match measure(f, s, kinds, calls, rows, m) {
         Measured::Refused(number) => Answered::Refused(number),
@@ -64,25 +60,36 @@ fn answer_with(
     }
 }
 
-// The answer of model m.
+// The answer of model m, in a file of many models or of few. Two functions, each called where an answer is wanted, so that a build of few models does not
+// have the long table of rows on its stack.
 fn answer(f: &[u8], s: Sections, m: usize, own: &mut [u8]) -> Answered
-    requires { ⌜ Open (now f) s × (m < s .counts .models) × (length (now own) ≡ 55384) ⌝ }
+    requires { ⌜ Open (now f) s × (m < s .counts .models) × (length (now own) ≡ mostBytes) ⌝ }
     ensures { λ a. ⌜ (answeredAs a (now (own .exit)) ≡ bytesIn (answerOfModel (fileIn (now (f .entry)) s) m))
-        × (usedIn a ≤ 55384) ⌝ }
+        × (usedIn a ≤ mostBytes) ⌝ }
 {
     let kinds = classes(f, s);
     let calls = callees(f, s);
-    if s.counts.models <= FEW_MODELS {
-        let mut rows = few_rows();
-        return answer_with(f, s, &kinds, &calls, &mut rows, m, own);
-    }
     let mut rows = no_rows();
+    answer_with(f, s, &kinds, &calls, &mut rows, m, own)
+}
+
+fn answer_few(f: &[u8], s: Sections, m: usize, own: &mut [u8]) -> Answered
+    requires { ⌜ Open (now f) s
+        × (m < s .counts .models)
+        × (length (now own) ≡ mostBytes)
+        × (s .counts .models ≤ fewModels) ⌝ }
+    ensures { λ a. ⌜ (answeredAs a (now (own .exit)) ≡ bytesIn (answerOfModel (fileIn (now (f .entry)) s) m))
+        × (usedIn a ≤ mostBytes) ⌝ }
+{
+    let kinds = classes(f, s);
+    let calls = callees(f, s);
+    let mut rows = few_rows();
     answer_with(f, s, &kinds, &calls, &mut rows, m, own)
 }
 
 // A refusal, or the answer handed out.
 fn hand_over(a: Answered, own: &[u8], area: &mut [u8]) -> u64
-    requires { ⌜ (length (now own) ≡ 55384) × (usedIn a ≤ 55384) ⌝ }
+    requires { ⌜ (length (now own) ≡ mostBytes) × (usedIn a ≤ mostBytes) ⌝ }
     ensures { λ r. ⌜ (r ≡ told (fittedIn (length (now (area .entry))) (answeredAs a (now (own .entry)))))
         × (now (area .exit) ≡ resultArea (length (now (area .entry)))
         (fittedIn (length (now (area .entry))) (answeredAs a (now (own .entry))))) ⌝ }
@@ -95,7 +102,7 @@ fn hand_over(a: Answered, own: &[u8], area: &mut [u8]) -> u64
 
 // The same where the answer stands at the front of the area.
 fn keep(a: Answered, area: &mut [u8]) -> u64
-    requires { ⌜ (usedIn a ≤ 55384) × (55384 ≤ length (now area)) ⌝ }
+    requires { ⌜ (usedIn a ≤ mostBytes) × (mostBytes ≤ length (now area)) ⌝ }
     ensures { λ r. ⌜ (r ≡ told (fittedIn (length (now (area .entry))) (answeredAs a (now (area .entry)))))
         × (now (area .exit) ≡ resultArea (length (now (area .entry)))
         (fittedIn (length (now (area .entry))) (answeredAs a (now (area .entry))))) ⌝ }
@@ -118,18 +125,26 @@ fn build_apart(file: &[u8], s: Sections, m: usize, area: &mut [u8]) -> u64
         (fittedIn (length (now (area .entry))) (bytesIn (answerOfModel (fileIn (now (file .entry)) s) m)))) ⌝ }
 {
     let mut own = blank();
+    if s.counts.models <= FEW_MODELS {
+        let a = answer_few(file, s, m, &mut own);
+        return hand_over(a, &own, area);
+    }
     let a = answer(file, s, m, &mut own);
     hand_over(a, &own, area)
 }
 
 // The build of model m in an area long enough for every answer: the answer is written at its front.
 fn build_within(file: &[u8], s: Sections, m: usize, area: &mut [u8]) -> u64
-    requires { ⌜ Open (now file) s × (m < s .counts .models) × (55384 ≤ length (now area)) ⌝ }
+    requires { ⌜ Open (now file) s × (m < s .counts .models) × (mostBytes ≤ length (now area)) ⌝ }
     ensures { λ r. ⌜ (r ≡ told (fittedIn (length (now (area .entry)))
         (bytesIn (answerOfModel (fileIn (now (file .entry)) s) m))))
         × (now (area .exit) ≡ resultArea (length (now (area .entry)))
         (fittedIn (length (now (area .entry))) (bytesIn (answerOfModel (fileIn (now (file .entry)) s) m)))) ⌝ }
 {
+    if s.counts.models <= FEW_MODELS {
+        let a = answer_few(file, s, m, &mut area[..MOST_BYTES]);
+        return keep(a, area);
+    }
     let a = answer(file, s, m, &mut area[..MOST_BYTES]);
     keep(a, area)
 }

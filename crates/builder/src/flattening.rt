@@ -1,4 +1,4 @@
-// Flattening: in place of a submodel statement its model's own statements, with replacements; their nodes and records.
+// Flattening: in place of a submodel statement its model's own statements, with replacements. In the order of a build: laid, nodes, replacements, records.
 pub mod laid;
 pub mod nodes;
 pub mod records;

@@ -1,5 +1,6 @@
-// The root's variables: who they are, their dependents and bounds, and their records in the area.
+// The root's variables and their records in the area. In the order of a build: laid, roster, records, bounds, reaching.
 pub mod bounds;
 pub mod laid;
+pub mod reaching;
 pub mod records;
 pub mod roster;

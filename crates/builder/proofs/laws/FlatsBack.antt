@@ -23,9 +23,8 @@ use Rattle.definitions.specs.Roles.{roleOf}
 use Rattle.definitions.specs.Allocate.{Fate}
 use Rattle.definitions.specs.Answer.{fateNumber, fateVariable, flatWords, flatRecords}
 use Rattle.builder.specs.Unfated.{unfatedWords, unfated}
-use Rattle.area.specs.Sections.{Small, stmtsAt, varsAt, depsAt, areaNodes, areaStmts, areaVars, part}
+use Rattle.area.specs.Sections.{Small, stmtsAt, varsAt, areaNodes, areaStmts, areaStmt, areaVars, part}
 use Rattle.builder.specs.Allocating.{flatAt, flatsIn, Flattened}
-use Rattle.builder.specs.Starting.{Righted}
 use Rattle.builder.specs.Root.{flatsOf, scopeAt, timeAt, rolesAt, fatesAt, SizesOf, PartsLaid}
 use Rattle.area.specs.declared.sections.Sizes.{Sizes}
 use Rattle.definitions.proofs.Lengths.{length-flat-nodes, nodes-wide, count-nodes, length-fates}
@@ -269,16 +268,9 @@ module _ (F : File) (m : ℕ) where
     pub fated-stmts : PartsLaid F m z fatedRecords vs b → areaStmts b z ≡ fatedRecords
     fated-stmts a = stmts-told F m z _ vs b k a fates-tell
 
-    -- room for the variables, and right sides that are nodes
-    pub righted : PartsLaid F m z fatedRecords vs b → Righted b z
-    unfolding depsAt varsAt stmtsAt
-    righted a =
-        let c = k .small in
-        record {
-          small = c;
-          long = omega (arith, a .long, c .nodes, c .stmts, c .vars);
-          right = λ i h. rw (fated-stmts a) (right-below (z .nodes) 0 (flatsOf F m) _ fates-tell (omega (arith, k .nodes)) i (omega (arith, k .stmts)));
-        }
+    -- right sides are nodes
+    pub right-sides : PartsLaid F m z fatedRecords vs b → (i : ℕ) → i < z .stmts → wordOf (areaStmt b z i) 3 < z .nodes
+    right-sides a i h = rw (fated-stmts a) (right-below (z .nodes) 0 (flatsOf F m) _ fates-tell (omega (arith, k .nodes)) i (omega (arith, k .stmts)))
 
 module _ (f : List ℕ) (s : Sections) (m : ℕ) (z : Sizes) (vs : List (List ℕ)) (b : List ℕ) (o : Open f s) (k : SizesOf (fileIn f s) m z) where
   module _ (rs : List (List ℕ)) (a : PartsLaid (fileIn f s) m z rs vs b) (t : Tells 0 (flatsOf (fileIn f s) m) rs) where

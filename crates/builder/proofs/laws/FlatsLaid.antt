@@ -80,8 +80,8 @@ module _ (f : List ℕ) (s : Sections) (rows : List ℕ) (m : ℕ) where
 
 -- room for the records behind the nodes
 pub room-behind : (d d′ : List ℕ) (qs : List Flat) (n : ℕ) → d′ ≡ put d 40 (encode (each flatNodes qs)) → sumOf flatSize qs ≤ 1024 → n ≡ sumOf flatSize qs → length d ≡ 55384
-    → 40 + 32 * n + 8192 ≤ length d′
-room-behind d d′ qs n e h g l =
+    → (at : ℕ) → at ≡ 40 + 32 * n → at + 8192 ≤ length d′
+room-behind d d′ qs n e h g l at ea =
     let z : length (encode (each flatNodes qs)) ≡ 32 * sumOf flatSize qs = length-flats qs in
     let p : length d′ ≡ length d = ap length e ∙ length-put d (encode (each flatNodes qs)) 40 (omega (arith, z, h, l)) in
-    omega (arith, p, h, g, l)
+    omega (arith, p, h, g, l, ea)

@@ -1,15 +1,14 @@
 -- Words put one run after the other behind those there are: the kept dependents of an unknown, of a name and of all variables.
 use mathlib.Core.Path.{_≡_, refl, sym, ap, _∙_}
-use mathlib.Core.Bool.{Bool, true, false, cond}
+use mathlib.Core.Bool.{cond}
 use mathlib.Core.List.{List, [], _∷_, _++_, append-nil, map}
 use mathlib.Core.Option.{Option, none, some}
 use Prim.Native.Nat.{ℕ, zero, suc, _+_, _-_, _*_, _≤_, _<_}
 use native.Mathlib.Numerals.{add-one, sub-one}
 use native.Mathlib.Omega.{arith}
-use borrow.Author.Tests.{ltb-true, ltb-false}
-use lib.Dec.{eqb, ltb}
-use lib.ListN.{length, take, drop, getD, set, length-append, take-append-drop}
-use lib.Seq.{take-suc, take-all, getD-set-same, getD-set-other}
+use lib.Dec.{eqb}
+use lib.ListN.{length, take, drop, getD, length-append, take-append-drop}
+use lib.Seq.{take-suc, take-all}
 use Rattle.functions.specs.Lists.{each, plusOne, toList}
 use Rattle.ast.specs.Tree.{Unknown}
 use Rattle.ast.specs.Words.{bytesOf}
@@ -54,10 +53,6 @@ module _ {A : Type 0} (g : A → List ℕ) (xs : List A) where
       -- the length stays
       pub runs-length : length d ≡ length d₀
       runs-length = ap length (r .bytes) ∙ length-put d₀ (bytesOf (each g (take i xs))) (4 * done) (rw length-bytes (omega (arith, each-fits i)))
-
-      -- no more than all are put
-      pub runs-few : total ≤ done + length (each g xs)
-      runs-few = omega (arith, r .sum, each-fits i)
 
       -- there is room for the next
       pub runs-room : (o x : A) → i < length xs → x ≡ getD xs i o → 4 * (total + length (g x)) ≤ length d
@@ -116,23 +111,6 @@ ofNamed vs v u = cond (eqb (suc (u .name)) v) (each (λ d. toList (numberOf vs d
 pub named-kept : (vs table : List ℕ) (v : ℕ) (u : Unknown) → Numbers vs table → ((j : ℕ) → j < length (u .deps) → getD (u .deps) j 0 < 256) → cond (eqb (suc (u .name)) v) (keptBy table (u .deps)) [] ≡ ofNamed vs v u
 unfolding ofNamed
 named-kept vs table v u n h = ap (λ (ds : List ℕ). cond (eqb (suc (u .name)) v) ds []) (kept-numbered vs table (u .deps) n h)
-
--- ---- where the runs start
-
--- the first starts at 0
-pub starts-first : (vs : List ℕ) (g : ℕ → List ℕ) (starts : List ℕ) → getD starts 0 0 ≡ 0 → (j : ℕ) → j ≤ 0 → getD starts j 0 ≡ length (each g (take j vs))
-unfolding each
-starts-first vs g starts e zero h = e
-starts-first vs g starts e (suc j) h = absurd (omega arith)
-
--- and each where the one before ends
-pub starts-next : (vs : List ℕ) (g : ℕ → List ℕ) (starts : List ℕ) (v total : ℕ) → v + 1 < length starts → total ≡ length (each g (take (v + 1) vs))
-    → ((j : ℕ) → j ≤ v → getD starts j 0 ≡ length (each g (take j vs))) → (j : ℕ) → j ≤ v + 1 → getD (set starts (v + 1) total) j 0 ≡ length (each g (take j vs))
-starts-next vs g starts v total l e h j k = go (ltb j (v + 1)) refl
-  where
-    go : (b : Bool) → ltb j (v + 1) ≡ b → getD (set starts (v + 1) total) j 0 ≡ length (each g (take j vs))
-    go true t = let q : j < v + 1 = ltb-true j (v + 1) t in getD-set-other starts (v + 1) j total 0 (λ z. omega arith) ∙ h j (omega arith)
-    go false t = let q : v + 1 ≡ j = omega (arith, ltb-false j (v + 1) t) in rw (← q) (getD-set-same starts (v + 1) total 0 l ∙ e)
 
 -- ---- all kept dependents of a model
 

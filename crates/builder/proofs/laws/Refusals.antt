@@ -8,15 +8,17 @@ use native.Mathlib.Omega.{arith}
 use native.Mathlib.Numerals.{sub-one}
 use borrow.Author.Tests.{ne-eqb}
 use lib.Dec.{leb, eqb}
-use lib.ListN.{length, take, drop, getD}
-use Rattle.functions.specs.Lists.{member, plusOne, reaches}
+use lib.ListN.{length, getD}
+use Rattle.functions.specs.Lists.{any, member, plusOne, reaches}
 use Rattle.ast.specs.Tree.{Span, Expr, Args, snoc, count, Stmt, own, submodel, File}
 use Rattle.ast.specs.Nodes.{nameAt, opAt, sizeAt, argsFit, nodesFit, argsBefore}
 use Rattle.ast.proofs.Fitting.{last-arg}
 use Rattle.ast.proofs.Trees.{args-more, args-none}
 use Rattle.ast.proofs.Sizes.{count-before}
-use Rattle.definitions.specs.Flatten.{argsBeyond, modelNamed, modelAt, submodels, reached, anyReached, listsItself, stmtBeyond, subBeyond}
+use Rattle.definitions.specs.Numbers.{modelCycle, selfListedUnknown, argumentBeyond}
+use Rattle.definitions.specs.Flatten.{argsBeyond, modelNamed, modelAt, submodels, reached, anyReached, cyclic, selfListed, overfull, listsItself, stmtBeyond, subBeyond}
 use Rattle.builder.specs.Tables.{Classes, calleeOf, Callees, Reaching}
+use Rattle.builder.specs.Rounds.{isReason, anyReason}
 use Rattle.ast.specs.Words.{wordOf}
 use Rattle.ast.specs.Records.{unknownOf, rightTop, stmtOf}
 use Rattle.ast.specs.Opens.{Open, contentsIn, fileIn}
@@ -46,6 +48,42 @@ module _ (f : File) (root : ℕ) (p : ℕ → Bool) where
   reached-done zero h = refl
   reached-done (suc m) h = absurd (omega arith)
 
+-- ---- refusals 6, 7 and 8, by the models that are a reason
+
+module _ (f : File) (refusal m : ℕ) where
+  -- one model, by the refusal's number
+  pub reason-cycle : refusal ≡ modelCycle → isReason f refusal m ≡ reached f m m
+  unfolding isReason
+  reason-cycle e = rw e refl
+
+  pub reason-listed : refusal ≡ selfListedUnknown → isReason f refusal m ≡ any (listsItself f) (modelAt f m .unknowns)
+  unfolding isReason
+  reason-listed e = rw e refl
+
+  pub reason-beyond : (refusal ≡ modelCycle → ⊥) → (refusal ≡ selfListedUnknown → ⊥) → isReason f refusal m ≡ any (stmtBeyond f) (modelAt f m .stmts)
+  unfolding isReason
+  reason-beyond a b = rw (ne-eqb refusal modelCycle a, ne-eqb refusal selfListedUnknown b) refl
+
+module _ (f : File) (root : ℕ) where
+  -- all models
+  pub cyclic-reason : cyclic f root ≡ anyReason f root modelCycle
+  unfolding cyclic anyReason isReason
+  cyclic-reason = refl
+
+  pub self-listed-reason : selfListed f root ≡ anyReason f root selfListedUnknown
+  unfolding selfListed anyReason isReason
+  self-listed-reason = refl
+
+  pub overfull-reason : overfull f root ≡ anyReason f root argumentBeyond
+  unfolding overfull anyReason isReason
+  overfull-reason = refl
+
+module _ (f : List ℕ) (s : Sections) (o : Open f s) (root refusal : ℕ) where
+  -- over all models that the file counts
+  pub reason-counted : anyReason (fileIn f s) root refusal ≡ anyReached (fileIn f s) root (isReason (fileIn f s) refusal) (s .counts .models)
+  unfolding anyReason
+  reason-counted = ap (anyReached (fileIn f s) root (isReason (fileIn f s) refusal)) (long f s o .file-models)
+
 -- ---- what the table of models reached says
 
 module _ (f : List ℕ) (s : Sections) (o : Open f s) (t : List ℕ) (h : Reaching (fileIn f s) (s .counts .models) (s .counts .models) t) where
@@ -64,15 +102,15 @@ module _ (f : List ℕ) (s : Sections) (o : Open f s) (t : List ℕ) (h : Reachi
 
 -- by its record's words
 pub lists-itself-is : (f : List ℕ) (s : Sections) → Open f s → (t : List ℕ) → Classes (fileIn f s .names) t → (u : ℕ) → u < s .counts .unknowns
-    → (name first count : ℕ) → name ≡ wordOf (getD (contentsIn f s .unknowns) u []) 0 → first ≡ wordOf (getD (contentsIn f s .unknowns) u []) 1 → count ≡ wordOf (getD (contentsIn f s .unknowns) u []) 2
-    → ((eqb (getD t name 0) 0 || not (leb (getD t name 0) 5)) && member name (take count (drop first (contentsIn f s .deps))))
+    → (name : ℕ) → name ≡ wordOf (getD (contentsIn f s .unknowns) u []) 0
+    → ((eqb (getD t name 0) 0 || not (leb (getD t name 0) 5)) && member name (unknownOf (contentsIn f s .deps) (getD (contentsIn f s .unknowns) u []) .deps))
     ≡ listsItself (fileIn f s) (unknownOf (contentsIn f s .deps) (getD (contentsIn f s .unknowns) u []))
 unfolding listsItself unknownOf
-lists-itself-is f s o t h u l name first count en ef ec =
+lists-itself-is f s o t h u l name en =
     let r = getD (contentsIn f s .unknowns) u [] in
     let names = fileIn f s .names in
     let b : wordOf r 0 < length names = omega (arith, unknown-is f s o u l .name-below, long f s o .file-names) in
-    rw (en, ef, ec, h .class (wordOf r 0) b, class-time names (wordOf r 0), class-reserved names (wordOf r 0))
+    rw (en, h .class (wordOf r 0) b, class-time names (wordOf r 0), class-reserved names (wordOf r 0))
 
 -- ---- positional arguments beyond, from the last argument down
 

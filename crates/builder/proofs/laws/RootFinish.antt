@@ -5,33 +5,32 @@ use Prim.Native.Nat.{ℕ, _+_, _*_, _^_, min, _≤_, _<_}
 use native.Mathlib.Omega.{arith}
 use lib.Dec.{eqb}
 use lib.ListN.{length, take, getD, length-append}
-use lib.Ieee.{Float}
 use Rattle.ast.specs.Numbers.{numberOf}
 use Rattle.functions.specs.Lists.{times}
 use Rattle.ast.specs.Words.{bytesOf}
 use Rattle.ast.specs.Bytes.{put}
 use Rattle.ast.specs.Encode.{encode}
-use Rattle.ast.specs.Opens.{Open, fileIn}
+use Rattle.ast.specs.Opens.{fileIn}
 use Rattle.ast.specs.declared.numbers.Bounds as declared
 use Rattle.ast.specs.declared.sections.Sections.{Sections}
 use Rattle.definitions.specs.Variables.{Bounds, fromZero, lastBounds}
-use Rattle.definitions.specs.Flatten.{modelAt, errorsOf}
+use Rattle.definitions.specs.Flatten.{modelAt}
 use Rattle.definitions.specs.Allocate.{lacking, leftCount}
 use Rattle.definitions.specs.Answer.{variableRecords, answerBytes, nodeCount, depsOf}
 use Rattle.definitions.specs.Build.{answerFrom}
-use Rattle.area.specs.Sections.{Small, stmtsAt, varsAt, depsAt, errorsAt, areaStmts, areaVars, column}
+use Rattle.area.specs.Sections.{Small, stmtsAt, varsAt, errorsAt, areaStmts, areaVars, column}
 use Rattle.area.specs.Listing.{Lists}
 use Rattle.area.specs.declared.sections.Sizes.{Sizes}
 use Rattle.builder.specs.Bounding.{floats, Floating}
 use Rattle.builder.specs.Allocating.{namesIn, Flattened, Numbered}
-use Rattle.builder.specs.VarRecords.{unheldRecords, heldFrom, headWords}
+use Rattle.builder.specs.VarRecords.{unheldRecords, heldFrom, NothingHeld, Headed, headWords}
 use Rattle.builder.specs.Root.{flatsOf, scopeAt, timeAt, rolesAt, fatesAt, answerAt, Known, Rooted, Unfated, Fated, Held, Erring, rolesBy, lackingBy, fatedBy, errorsBy}
 use Rattle.builder.proofs.laws.VarAnswers.{head-is}
-use Rattle.builder.proofs.laws.VarColumns.{unheld-columns, held-columns, Columns}
-use Rattle.builder.proofs.laws.FlatsBack.{section-read, unfated-flattened, fated-flattened, righted}
+use Rattle.builder.proofs.laws.VarColumns.{unheld-columns, held-columns, unheld-held, unheld-initial, Columns}
+use Rattle.builder.proofs.laws.FlatsBack.{section-read, unfated-flattened, fated-flattened}
 use Rattle.builder.proofs.laws.ErrorsOpen.{errors-few}
 use Rattle.builder.proofs.laws.RootShort.{read, numbered, vars-room, some-var, first-bounds}
-use Rattle.builder.proofs.laws.RootTies.{left-tie, states-tie, fated-tie, held-tie, errors-tie}
+use Rattle.builder.proofs.laws.RootTies.{left-tie, states-tie, fated-tie, held-tie, righted, errors-tie}
 use Rattle.builder.proofs.laws.RootWritten.{fates-written, held-written, length-copied, vars-copied, answer-written, room}
 use Rattle.definitions.proofs.ErrorCount.{length-roles, length-counts, length-starting}
 
@@ -75,8 +74,16 @@ module _ (f : List ℕ) (s : Sections) (classes calls numbers : List ℕ) (m i :
 
   -- ---- what the variables hold
 
-  pub held-needs : (b : List ℕ) → Fated (fileIn f s) m z b → Small z × (depsAt z ≤ length b)
-  held-needs b u = (k .sizes .small, vars-room f s m classes numbers z k _ _ b u unheld)
+  pub held-needs : (b : List ℕ) → Fated (fileIn f s) m z b → NothingHeld z b
+  held-needs b u =
+      let vs = scopeAt (fileIn f s) m .vars in
+      let e = read f s m classes numbers z k _ _ b u unheld in
+      record {
+        small = k .sizes .small;
+        long = vars-room f s m classes numbers z k _ _ b u unheld;
+        held = λ v l. ap (λ (rs : List (List ℕ)). getD (column 5 rs) v 0) e ∙ unheld-held vs v;
+        initial = λ v l. ap (λ (rs : List (List ℕ)). getD (column 6 rs) v 0) e ∙ unheld-initial vs v;
+      }
 
   pub held-is : (b b₁ : List ℕ) → Fated (fileIn f s) m z b → b₁ ≡ put b (varsAt z) (encode (heldFrom (areaStmts b z) 0 (areaVars b z))) → Held (fileIn f s) m z b₁
   held-is b b₁ u e =
@@ -89,7 +96,7 @@ module _ (f : List ℕ) (s : Sections) (classes calls numbers : List ℕ) (m i :
   errors-needs b u = record {
     called = t .called;
     model = k .model;
-    righted = righted (fileIn f s) m z _ b (k .sizes) u;
+    righted = righted f s m classes numbers z k b u;
     flattened = (s .counts .names, fated-flattened f s m z _ b (k .is-open) (k .sizes) u);
     numbered = numbered f s m classes numbers z k _ _ b u held;
     few = omega (arith, errors-few f s (k .is-open) i m (t .instances) (t .few));
@@ -136,10 +143,19 @@ module _ (f : List ℕ) (s : Sections) (classes calls numbers : List ℕ) (m i :
       bounds : lastBounds (fileIn f s .names) (getD (namesIn b₁ z) 0 0) fromZero (modelAt (fileIn f s) m .unknowns) ≡ timeAt (fileIn f s) m
       bounds = ap (λ (n : ℕ). lastBounds (fileIn f s .names) n fromZero (modelAt (fileIn f s) m .unknowns)) names-stay ∙ first-bounds f s m classes numbers z k _ _ b u held
 
-      pub header-needs : (Open f s × (m < s .counts .models)) × (Small z × (0 < z .vars) × (depsAt z ≤ length b₁)) × ((r < 2 ^ 32) × (i < 2 ^ 32)) × Floating (lastBounds (fileIn f s .names) (getD (namesIn b₁ z) 0 0) fromZero (modelAt (fileIn f s) m .unknowns)) time
+      pub header-needs : Headed f s m i r z time b₁
       header-needs =
           let l = length-copied (fileIn f s) m z (k .sizes) d d′ b b₁ r u ld listed c in
-          ((k .is-open, k .model), (k .sizes .small, some-var f s m classes numbers z k _ _ b u held, omega (arith, l, u .long, vars-room f s m classes numbers z k _ _ b u held)), (errors-small, omega (arith, t .few)), rw bounds (t .timed))
+          record {
+            opened = k .is-open;
+            model = k .model;
+            small = k .sizes .small;
+            some = some-var f s m classes numbers z k _ _ b u held;
+            long = omega (arith, l, u .long, vars-room f s m classes numbers z k _ _ b u held);
+            counted = errors-small;
+            instances = omega (arith, t .few);
+            timed = rw bounds (t .timed);
+          }
 
       pub finished : (b₂ : List ℕ) (n : ℕ) → b₂ ≡ put b₁ 0 (bytesOf (headWords z r i (lastBounds (fileIn f s .names) (getD (namesIn b₁ z) 0 0) fromZero (modelAt (fileIn f s) m .unknowns)))) → n ≡ errorsAt z + 16 * min r 256
           → (take n b₂ ≡ answerBytes (answerAt (fileIn f s) m)) × (n ≤ 55384)

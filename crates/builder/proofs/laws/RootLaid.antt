@@ -3,29 +3,25 @@ use mathlib.Core.Path.{_≡_, sym, ap, _∙_}
 use mathlib.Core.List.{List}
 use Prim.Native.Nat.{ℕ, _+_, _*_, _≤_, _<_}
 use native.Mathlib.Omega.{arith}
-use lib.ListN.{length, getD}
+use lib.ListN.{length, take, drop}
 use Rattle.functions.specs.Lists.{each, sumOf}
 use Rattle.ast.specs.Tree.{File, flatSize}
-use Rattle.ast.specs.Words.{bytesOf}
 use Rattle.ast.specs.Bytes.{put}
 use Rattle.ast.specs.Encode.{flatNodes, encode}
 use Rattle.ast.specs.Opens.{Open, fileIn}
 use Rattle.ast.specs.declared.sections.Sections.{Sections}
-use Rattle.ast.proofs.Encodes.{length-bytes}
-use Rattle.definitions.specs.Variables.{Variable}
 use Rattle.definitions.specs.Flatten.{modelAt, scopeOf}
 use Rattle.builder.specs.Checking as checking
 use Rattle.builder.specs.VariableTables.{rosterIn, Numbers}
 use Rattle.builder.specs.Unfated.{unfated}
 use Rattle.area.specs.Sections.{stmtsAt, varsAt, depsAt, part}
-use Rattle.builder.specs.VarRecords.{unheldRecords}
 use Rattle.builder.specs.Bounding.{Bounded, Floating}
-use Rattle.builder.specs.Root.{flatsOf, scopeAt, timeAt, ExtentOf, VarsLaid, SizesOf, Known, Rooted, Unfated}
-use Rattle.builder.proofs.laws.VarAnswers.{length-unheld}
+use Rattle.builder.specs.Root.{flatsOf, scopeAt, timeAt, ExtentOf, VarsRoom, VarsLaid, SizesOf, Known, Rooted, Unfated}
 use Rattle.area.specs.declared.sections.Sizes.{Sizes}
 use Rattle.builder.proofs.laws.PutWords.{kept-few}
 use Rattle.builder.proofs.laws.Putting.{length-flats}
-use Rattle.area.proofs.Parts.{part-put, part-before, part-behind}
+use Rattle.area.proofs.Parts.{part-put, part-before}
+use Rattle.area.proofs.SectionsKept.{part-take}
 use Rattle.builder.proofs.laws.RootTables.{model-written}
 use Rattle.builder.proofs.laws.OpenRecords.{model-is}
 use Rattle.definitions.proofs.Counts.{length-variables}
@@ -64,9 +60,9 @@ module _ (F : File) (m : ℕ) where
 -- ---- nodes, statements, variables and dependents laid into an area
 
 -- the sizes
-sizes-known : (F : File) (m i q n d : ℕ) (b : List ℕ) (z : Sizes) (b′ : List ℕ) → ExtentOf F m i q n → length (scopeAt F m .vars) ≤ 129 → length (each (λ x. x .deps) (scopeAt F m .vars)) ≤ 1024
-    → VarsLaid F m (record { nodes = n; stmts = q; vars = d; deps = 0 }) b z b′ → SizesOf F m z
-sizes-known F m i q n d b z b′ x hv hd v =
+sizes-known : (F : File) (m i q n : ℕ) (b : List ℕ) (z : Sizes) (b′ : List ℕ) → ExtentOf F m i q n → length (scopeAt F m .vars) ≤ 129 → length (each (λ x. x .deps) (scopeAt F m .vars)) ≤ 1024
+    → VarsLaid F m n q b z b′ → SizesOf F m z
+sizes-known F m i q n b z b′ x hv hd v =
     let (hi, hn, hq) = few-flats F m (flatsOf F m) (x .small) in
     record {
       small = record { nodes = omega (arith, v .nodes, x .nodes); stmts = omega (arith, v .stmts, x .stmts); vars = omega (arith, v .vars); deps = omega (arith, v .deps) };
@@ -77,41 +73,28 @@ sizes-known F m i q n d b z b′ x hv hd v =
     }
 
 -- everything but what statements and variables come to
-laid-out : (F : File) (m : ℕ) (y z : Sizes) (b₀ b₁ b₂ : List ℕ) → SizesOf F m z → length b₀ ≡ 55384
+laid-out : (F : File) (m n q : ℕ) (z : Sizes) (b₀ b₁ b₂ : List ℕ) → SizesOf F m z → length b₀ ≡ 55384
     → b₁ ≡ put (put b₀ 40 (encode (each flatNodes (flatsOf F m)))) (40 + 32 * z .nodes) (encode (unfated 0 (flatsOf F m)))
-    → VarsLaid F m y b₁ z b₂
+    → VarsLaid F m n q b₁ z b₂
     → Unfated F m z b₂
-unfolding depsAt varsAt stmtsAt
-laid-out F m y z b₀ b₁ b₂ o l e₁ v =
-    let ds = each (λ (x : Variable). x .deps) (scopeAt F m .vars) in
-    let vs = encode (unheldRecords (scopeAt F m .vars)) in
-    let b = put b₁ (depsAt z) (bytesOf ds) in
+unfolding depsAt varsAt stmtsAt part
+laid-out F m n q z b₀ b₁ b₂ o l e₁ v =
     let hn : z .nodes ≤ 1024 = o .small .nodes in
     let hq : length (flatsOf F m) ≤ 256 = omega (arith, o .stmts, o .small .stmts) in
-    let l₁ : length b₁ ≡ 55384 = flats-length F m (z .nodes) b₀ b₁ (o .nodes) hn hq l e₁ in
-    let n : length (bytesOf ds) ≡ 4 * z .deps = length-bytes ds ∙ ap (λ (k : ℕ). 4 * k) (sym (o .deps)) in
-    let w : length vs ≡ 48 * z .vars = length-unheld (scopeAt F m .vars) ∙ ap (λ (k : ℕ). 48 * k) (sym (o .vars)) in
-    let room : depsAt z + 4 * z .deps ≤ length b₁ = omega (arith, l₁, o .small .nodes, o .small .stmts, o .small .vars, o .small .deps) in
-    let l₂ : length b ≡ 55384 = length-put b₁ (bytesOf ds) (depsAt z) (omega (arith, n, room)) ∙ l₁ in
     record {
-      long = ap length (v .laid) ∙ length-put b vs (varsAt z) (omega (arith, l₂, w, l₁, room)) ∙ l₂;
-      nodes =
-          ap (part 40 (32 * z .nodes)) (v .laid)
-          ∙ part-before 40 (32 * z .nodes) (varsAt z) b vs (omega arith) (omega (arith, l₂, l₁, room))
-          ∙ part-before 40 (32 * z .nodes) (depsAt z) b₁ (bytesOf ds) (omega arith) (omega (arith, room))
-          ∙ flats-nodes F m (z .nodes) b₀ b₁ (o .nodes) hn hq l e₁;
+      long = v .long ∙ flats-length F m (z .nodes) b₀ b₁ (o .nodes) hn hq l e₁;
+      nodes = in-front 40 (32 * z .nodes) (omega arith) ∙ flats-nodes F m (z .nodes) b₀ b₁ (o .nodes) hn hq l e₁;
       stmts =
-          ap (part (stmtsAt z) (32 * z .stmts)) (v .laid)
-          ∙ part-before (stmtsAt z) (32 * z .stmts) (varsAt z) b vs (omega arith) (omega (arith, l₂, l₁, room))
-          ∙ part-before (stmtsAt z) (32 * z .stmts) (depsAt z) b₁ (bytesOf ds) (omega arith) (omega (arith, room))
+          in-front (stmtsAt z) (32 * z .stmts) (omega arith)
           ∙ ap (λ (k : ℕ). part (stmtsAt z) (32 * k) b₁) (o .stmts)
           ∙ flats-stmts F m (z .nodes) b₀ b₁ (o .nodes) hn hq l e₁;
-      vars = ap (part (varsAt z) (48 * z .vars)) (v .laid) ∙ part-put (varsAt z) (48 * z .vars) b vs (omega (arith, l₂, l₁, room)) w;
-      deps =
-          ap (part (depsAt z) (4 * z .deps)) (v .laid)
-          ∙ part-behind (depsAt z) (4 * z .deps) (varsAt z) b vs (omega (arith, w)) (omega (arith, l₂, l₁, room))
-          ∙ part-put (depsAt z) (4 * z .deps) b₁ (bytesOf ds) (omega (arith, room)) n;
+      vars = v .records;
+      deps = v .listed;
     }
+  where
+    -- what stands in front of the variables stays
+    in-front : (at k : ℕ) → at + k ≤ varsAt z → part at k b₂ ≡ part at k b₁
+    in-front at k h = part-take at k (varsAt z) b₂ h ∙ ap (λ (b : List ℕ). take k (drop at b)) (v .before) ∙ sym (part-take at k (varsAt z) b₁ h)
 
 -- there is room for nodes and statements
 pub flats-needs : (f : List ℕ) (s : Sections) (m i q n : ℕ) → ExtentOf (fileIn f s) m i q n → (b : List ℕ) → length b ≡ 55384
@@ -143,25 +126,22 @@ module _ (f : List ℕ) (s : Sections) (m : ℕ) (o : Open f s) (l : m < s .coun
           let (hi, hn, hq) = few-flats (fileIn f s) m (flatsOf (fileIn f s) m) (x .small) in
           flats-length (fileIn f s) m n b₀ b₁ (x .nodes) (omega (arith, x .nodes)) hq l₀ e₁
 
-      pub vars-needs : (numbers : List ℕ) → length numbers ≡ 256 → ((j : ℕ) → getD numbers j 0 ≡ 0)
-          → Bounded f s classes m × ((n ≤ 1024) × (q ≤ 256)) × (length b₁ ≡ 55384) × ((length numbers ≡ 256) × ((j : ℕ) → getD numbers j 0 ≡ 0))
-      vars-needs numbers long none =
+      pub vars-needs : Bounded f s classes m × VarsRoom n q b₁
+      vars-needs =
           let (hi, hn, hq) = few-flats (fileIn f s) m (flatsOf (fileIn f s) m) (x .small) in (
             record { opened = o; classed = t .classes; long = omega (arith, h, o .laid .within .names); model = l },
-            (omega (arith, x .nodes), omega (arith, x .stmts)),
-            flats-laid,
-            (long, none),
+            record { nodes = omega (arith, x .nodes); stmts = omega (arith, x .stmts); long = flats-laid },
           )
 
-      module _ (numbers b₂ : List ℕ) (z : Sizes) (d : ℕ) (v : VarsLaid (fileIn f s) m (record { nodes = n; stmts = q; vars = d; deps = 0 }) b₁ z b₂) (w : Numbers (rosterIn f s m) numbers) (long : length numbers ≡ 256) where
+      module _ (numbers b₂ : List ℕ) (z : Sizes) (v : VarsLaid (fileIn f s) m n q b₁ z b₂) (w : Numbers (rosterIn f s m) numbers) (long : length numbers ≡ 256) where
         sizes : SizesOf (fileIn f s) m z
-        sizes = sizes-known (fileIn f s) m i q n d b₁ z b₂ x vars-few deps-few v
+        sizes = sizes-known (fileIn f s) m i q n b₁ z b₂ x vars-few deps-few v
 
         pub model-known : Known f s m classes numbers z
         model-known = record { is-open = o; model = l; classed = t .classes; classes-long = h; numbered = w; numbers-long = long; sizes = sizes }
 
         pub all-laid : Unfated (fileIn f s) m z b₂
-        all-laid = laid-out (fileIn f s) m _ z b₀ b₁ b₂ sizes l₀ (rw (sym (v .nodes)) at e₁) v
+        all-laid = laid-out (fileIn f s) m n q z b₀ b₁ b₂ sizes l₀ (rw (sym (v .nodes)) at e₁) v
 
         pub model-rooted : (time : floats.Bounds) → Floating (timeAt (fileIn f s) m) time → Rooted f s classes calls numbers m i z time
         model-rooted time g =

@@ -5,34 +5,34 @@ use mathlib.Core.List.{List, [], _∷_, map, map-map}
 use Prim.Native.Nat.{ℕ, _+_}
 use native.Mathlib.Omega.{arith}
 use lib.Dec.{eqb}
-use lib.ListN.{length, take}
+use lib.ListN.{length, take, getD}
 use lib.Ieee.{Float}
 use Rattle.ast.specs.Numbers.{numberOf}
 use Rattle.functions.specs.Lists.{each, times}
 use Rattle.ast.specs.Tree.{Flat, equation, rate, flatSize}
 use Rattle.ast.specs.Opens.{fileIn}
 use Rattle.ast.specs.declared.sections.Sections.{Sections}
-use Rattle.definitions.specs.Flatten.{modelAt, scopeOf}
+use Rattle.definitions.specs.Flatten.{modelAt}
 use Rattle.definitions.specs.Roles.{roleOf, roleErrors}
 use Rattle.definitions.specs.Allocate.{Fate, pairedStates, lacking, leftCount, startingErrors}
 use Rattle.definitions.specs.Answer.{flatWords, flatRecords, variableRecords}
 use Rattle.definitions.specs.Build.{answerFrom}
-use Rattle.area.specs.Sections.{areaNodes, areaStmts, areaVars}
+use Rattle.area.specs.Sections.{areaNodes, areaStmts, areaVars, column}
 use Rattle.area.specs.declared.sections.Sizes.{Sizes}
 use Rattle.builder.specs.Tables.{roleNumber, lackingIn}
 use Rattle.builder.specs.Unfated.{unfatedWords, unfated}
 use Rattle.builder.specs.Fating as fating
 use Rattle.builder.specs.Allocating.{flatsIn, namesIn, statesIn, indexesIn, ratesIn, roleErrorsBy, Flattened}
-use Rattle.builder.specs.Starting.{startingIn}
-use Rattle.builder.specs.VarRecords.{unheldRecords, heldFrom}
+use Rattle.builder.specs.Starting.{startingIn, Righted}
+use Rattle.builder.specs.VarRecords.{heldFrom}
 use Rattle.builder.specs.Root.{flatsOf, scopeAt, timeAt, rolesAt, fatesAt, answerAt, Known, Unfated, Fated, Held, rolesBy, lackingBy, queueBy, fatedBy, errorsBy}
 use Rattle.builder.proofs.laws.Allocations.{roles-same, all-errors-same}
-use Rattle.builder.proofs.laws.FateLaws.{left-number, lacking-numbered, queue-numbered, fates-numbered, fated-flats, recordPair, fatePair}
-use Rattle.builder.proofs.laws.FlatsBack.{nodes-read, unfated-stmts, fated-stmts, unfated-flats, unfated-flattened, fated-flats as fated-read, fated-flattened, fates-count}
+use Rattle.builder.proofs.laws.FateLaws.{left-number, lacking-numbered, queue-numbered, fates-numbered, fated-flats, recordPair, fatePair, held-in, conditions-in}
+use Rattle.builder.proofs.laws.FlatsBack.{nodes-read, unfated-stmts, fated-stmts, unfated-flats, unfated-flattened, fated-flats as fated-read, fated-flattened, fates-count, right-sides}
 use Rattle.builder.proofs.laws.StartingTies.{records-pairs, starting-tie}
 use Rattle.builder.proofs.laws.VarAnswers.{held-are}
-use Rattle.builder.proofs.laws.VarColumns.{unheld-columns, held-columns}
-use Rattle.builder.proofs.laws.RootShort.{scope-names, read, name-at, begins, agree}
+use Rattle.builder.proofs.laws.VarColumns.{unheld-columns, held-columns, answer-held, answer-initial}
+use Rattle.builder.proofs.laws.RootShort.{scope-names, read, name-at, begins, agree, vars-room}
 
 -- the words in front of the fate are the same before and after
 six-words : (first : ℕ) (q : Flat) (x : Fate) → take 6 (unfatedWords first q) ≡ take 6 (flatWords first q x)
@@ -101,6 +101,25 @@ module _ (f : List ℕ) (s : Sections) (m : ℕ) (classes numbers : List ℕ) (z
       (ap (map recordPair) (fated-stmts (fileIn f s) m z _ b (k .sizes) u) ∙ records-pairs 0 (flatsOf (fileIn f s) m) (fatesAt (fileIn f s) m) (fates-count (fileIn f s) m))
 
   -- ---- with what they hold
+
+  -- right sides that are nodes, and records that say it
+  pub righted : (b : List ℕ) → Held (fileIn f s) m z b → Righted b z
+  unfolding answerFrom
+  righted b u =
+      let vs = scopeAt (fileIn f s) m .vars in
+      let fs = fatesAt (fileIn f s) m in
+      let a = answerAt (fileIn f s) m in
+      let w = held-columns a vs refl in
+      let e = read f s m classes numbers z k _ _ b u w in
+      let p : map recordPair (areaStmts b z) ≡ map fatePair fs =
+      ap (map recordPair) (fated-stmts (fileIn f s) m z _ b (k .sizes) u) ∙ records-pairs 0 (flatsOf (fileIn f s) m) fs (fates-count (fileIn f s) m) in
+      record {
+        small = k .sizes .small;
+        long = vars-room f s m classes numbers z k _ _ b u w;
+        right = right-sides (fileIn f s) m z _ b (k .sizes) u;
+        held = λ v l. ap (λ (rs : List (List ℕ)). getD (column 5 rs) v 0) e ∙ answer-held a vs v (omega (arith, k .sizes .vars)) ∙ sym (held-in (areaStmts b z) fs p v);
+        initial = λ v l. ap (λ (rs : List (List ℕ)). getD (column 6 rs) v 0) e ∙ answer-initial a vs v (omega (arith, k .sizes .vars)) ∙ sym (conditions-in (areaStmts b z) fs p v);
+      }
 
   module _ (b : List ℕ) (u : Held (fileIn f s) m z b) (lower : Float) (el : lower ≡ numberOf (timeAt (fileIn f s) m .lower)) (left states : ℕ)
       (eq : left ≡ leftCount (rolesAt (fileIn f s) m)) (es : states ≡ length (lacking (scopeAt (fileIn f s) m .vars) (rolesAt (fileIn f s) m))) where

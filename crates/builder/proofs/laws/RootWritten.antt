@@ -14,7 +14,7 @@ use Rattle.definitions.specs.Build.{answerFrom}
 use Rattle.area.specs.Sections.{stmtsAt, varsAt, depsAt, errorsAt, part}
 use Rattle.area.specs.Listing.{Lists}
 use Rattle.area.specs.declared.sections.Sizes.{Sizes}
-use Rattle.builder.specs.Root.{flatsOf, scopeAt, fatesAt, answerAt, SizesOf, PartsLaid, Unfated, Fated, Held}
+use Rattle.builder.specs.Root.{flatsOf, scopeAt, fatesAt, answerAt, SizesOf, Unfated, Fated, Held}
 use Rattle.definitions.proofs.Lengths.{Bytes, bytes}
 use Rattle.area.proofs.Parts.{part-put, part-before, part-behind, six-parts}
 use Rattle.area.proofs.Puts.{length-put}

@@ -15,11 +15,15 @@ use Rattle.functions.proofs.Lists.{drop-here, drop-past}
 use Rattle.ast.specs.Tree.{Unknown}
 use Rattle.ast.specs.Opens.{Open, fileIn}
 use Rattle.ast.specs.declared.sections.Sections.{Sections}
+use Rattle.area.specs.Sections.{areaVars, withWord, VarsAre}
+use Rattle.area.specs.declared.sections.Sizes.{Sizes}
+use Rattle.area.proofs.VarsWritten.{vars-own, column-long, column-put}
 use Rattle.definitions.specs.Names.{isReserved, timeName}
 use Rattle.definitions.specs.Variables as vars
 use Rattle.definitions.specs.Variables.{numberOf, variableNames}
-use Rattle.builder.specs.Tables.{Classes}
-use Rattle.builder.specs.VariableTables.{Roster, listed, declareOne, Listing, unknownsIn, rosterIn}
+use Rattle.builder.specs.Tables.{Classes, Blank}
+use Rattle.builder.specs.VariableTables.{Roster, rostered, listed, declareOne, Listing, unknownsIn, rosterIn, RosterRoom}
+use Rattle.builder.specs.Allocating.{namesIn}
 use Rattle.builder.proofs.laws.Classes.{class-reserved}
 use Rattle.definitions.proofs.Counts.{or-false}
 use Rattle.builder.proofs.laws.OpenUnknowns.{noUnknown}
@@ -74,7 +78,7 @@ module _ (time : ℕ) (names numbers : List ℕ) (room : length names ≡ 129) (
   alone-at n false h e = getD-set-other numbers (time - 1) n 1 0 (λ q. eqb-false (suc n) time e (omega arith)) ∙ blank n
 
   -- where a name is t
-  pub time-listed : 0 < time → Listing (time ∷ []) (record { count = 1; names = set names 0 time; numbers = set numbers (time - 1) 1 })
+  time-listed : 0 < time → Listing (time ∷ []) (record { count = 1; names = set names 0 time; numbers = set numbers (time - 1) 1 })
   unfolding numberOf place placeFrom
   time-listed h = record {
     few = omega arith;
@@ -86,7 +90,7 @@ module _ (time : ℕ) (names numbers : List ℕ) (room : length names ≡ 129) (
   }
 
   -- where no name is t
-  pub none-listed : time ≤ 0 → Listing (time ∷ []) (record { count = 1; names = set names 0 time; numbers = numbers })
+  none-listed : time ≤ 0 → Listing (time ∷ []) (record { count = 1; names = set names 0 time; numbers = numbers })
   unfolding numberOf place placeFrom plusOne
   none-listed h = record {
     few = omega arith;
@@ -123,7 +127,7 @@ module _ (vs : List ℕ) (r : Roster) (name : ℕ) (l : Listing vs r) (small : n
         ∙ rw (place-other (eqb (suc n)) vs (suc name) 0 e)
 
     -- that is none yet
-    pub declare-new : Listing (declareOne vs name) (record { count = r .count + 1; names = set (r .names) (r .count) (name + 1); numbers = set (r .numbers) name (r .count + 1) })
+    declare-new : Listing (declareOne vs name) (record { count = r .count + 1; names = set (r .names) (r .count) (name + 1); numbers = set (r .numbers) name (r .count + 1) })
     unfolding declareOne member
     declare-new =
         rw fresh record {
@@ -134,6 +138,37 @@ module _ (vs : List ℕ) (r : Roster) (name : ℕ) (l : Listing vs r) (small : n
           room = simp length-set (l .room);
           every = simp length-set (l .every);
         }
+
+-- ---- names in the variables' records of an area
+
+module _ (z : Sizes) (b b′ : List ℕ) (room : RosterRoom z b) where
+  -- records that are written keep the room
+  pub room-kept : (rs : List (List ℕ)) → VarsAre z b rs b′ → RosterRoom z b′
+  room-kept rs p = record { small = room .small; all = room .all; long = omega (arith, room .long, p .long) }
+
+  -- each variable there may be has a name
+  names-room : length (namesIn b z) ≡ 129
+  names-room = column-long z b 0 ∙ room .all
+
+  -- a name put into a record stands among them
+  name-put : (v name : ℕ) → v < 129 → VarsAre z b (withWord (areaVars b z) v 0 name) b′ → namesIn b′ z ≡ set (namesIn b z) v name
+  name-put v name h p = column-put z b b′ v 0 name (room .long) (omega (arith, room .all)) (omega arith) p
+
+  module _ (time : ℕ) (numbers : List ℕ) (blank : Blank 256 numbers) (few : time ≤ 256) (p : VarsAre z b (withWord (areaVars b z) 0 0 time) b′) where
+    -- t put first, where a name is t
+    pub time-put : 0 < time → Listing (time ∷ []) (rostered 1 (namesIn b′ z) (set numbers (time - 1) 1)) × VarsAre z b (areaVars b′ z) b′
+    time-put h = (rw (name-put 0 time (omega arith) p) (time-listed time (namesIn b z) numbers names-room (blank .long) (blank .zeros) few h), vars-own z b b′ _ p)
+
+    -- where no name is t
+    pub none-put : time ≤ 0 → Listing (time ∷ []) (rostered 1 (namesIn b′ z) numbers) × VarsAre z b (areaVars b′ z) b′
+    none-put h = (rw (name-put 0 time (omega arith) p) (none-listed time (namesIn b z) numbers names-room (blank .long) (blank .zeros) few h), vars-own z b b′ _ p)
+
+  -- a new name put behind the others
+  pub declare-put : (count name : ℕ) (numbers vs : List ℕ) → Listing vs (rostered count (namesIn b z) numbers) → count < 129 → name < 256 → getD numbers name 0 ≡ 0
+      → VarsAre z b (withWord (areaVars b z) count 0 (name + 1)) b′
+      → Listing (declareOne vs name) (rostered (count + 1) (namesIn b′ z) (set numbers name (count + 1))) × (count + 1 ≤ count + 1) × VarsAre z b (areaVars b′ z) b′
+  declare-put count name numbers vs l few small h p =
+      (rw (name-put count (name + 1) few p) (declare-new vs (rostered count (namesIn b z) numbers) name l small h few), omega arith, vars-own z b b′ _ p)
 
 -- what is listed is what the roster lists
 pub listing-listed : (vs : List ℕ) (r : Roster) → Listing vs r → Listing (listed r) r × (listed r ≡ vs)

@@ -5,9 +5,7 @@ use mathlib.Core.List.{List, []}
 use Prim.Native.Nat.{ℕ, _+_, _≤_, _<_}
 use native.Mathlib.Omega.{arith}
 use native.Mathlib.Numerals.{add-one}
-use lib.Dec.{eqb}
-use lib.ListN.{length, take, drop, length-drop, getD}
-use lib.Seq.{getD-take, getD-drop, length-take-le}
+use lib.ListN.{length, drop, getD}
 use Rattle.functions.specs.Lists.{any}
 use Rattle.functions.proofs.Lists.{drop-past}
 use Rattle.functions.proofs.Loops.{any-step}
@@ -17,7 +15,7 @@ use Rattle.ast.specs.Words.{wordOf}
 use Rattle.ast.specs.Records.{unknownOf, stmtOf}
 use Rattle.ast.specs.Opens.{Open, contentsIn, fileIn}
 use Rattle.ast.specs.declared.sections.Sections.{Sections}
-use Rattle.builder.proofs.laws.OpenRecords.{long, model-is}
+use Rattle.builder.proofs.laws.OpenRecords.{model-is}
 
 -- ---- whether any passes, in a loop's terms
 
@@ -73,22 +71,3 @@ module _ (f : List ℕ) (s : Sections) (o : Open f s) (m : ℕ) (h : m < s .coun
     -- behind the last of the run
     pub stmts-done : (p : Stmt → Bool) → count ≤ i → any p (drop i (modelAt (fileIn f s) m .stmts)) ≡ false
     stmts-done p l = any-done p _ i (omega (arith, model-is f s o m h .stmts-long, ec))
-
--- ---- a run of dependents
-
-module _ (f : List ℕ) (s : Sections) (o : Open f s) (first count i : ℕ) (w : first + count ≤ s .counts .deps) where
-  -- a name among a run of dependents, by the one at place i and those behind it
-  pub member-turn : (x : ℕ) → i < count → any (eqb x) (drop i (take count (drop first (contentsIn f s .deps))))
-      ≡ (eqb x (getD (contentsIn f s .deps) (first + i) 0) || any (eqb x) (drop (i + 1) (take count (drop first (contentsIn f s .deps)))))
-  member-turn x l =
-      let ds = take count (drop first (contentsIn f s .deps)) in
-      let n : length ds ≡ count = length-take-le count _ (simp length-drop (omega (arith, long f s o .deps))) in
-      let e : getD ds i 0 ≡ getD (contentsIn f s .deps) (first + i) 0 = getD-take count _ i 0 l ∙ getD-drop first _ i 0 in
-      any-turn (eqb x) ds 0 i (omega arith) ∙ ap (λ (y : ℕ). eqb x y || any (eqb x) (drop (i + 1) ds)) e
-
-  -- behind the last of the run
-  pub member-done : (x : ℕ) → count ≤ i → any (eqb x) (drop i (take count (drop first (contentsIn f s .deps)))) ≡ false
-  member-done x l =
-      let ds = take count (drop first (contentsIn f s .deps)) in
-      let n : length ds ≡ count = length-take-le count _ (simp length-drop (omega (arith, long f s o .deps))) in
-      any-done (eqb x) ds i (omega arith)

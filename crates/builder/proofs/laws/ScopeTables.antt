@@ -3,7 +3,7 @@ use mathlib.Core.Path.{_≡_, refl, sym, ap, _∙_}
 use mathlib.Core.Bool.{Bool, true, false, cond, not, _||_, or-true, or-false}
 use mathlib.Core.List.{List, [], _∷_, _++_, append-nil, map}
 use mathlib.Core.Option.{Option, none, some}
-use Prim.Native.Nat.{ℕ, zero, suc, _+_, _-_, _*_, _≤_, _<_}
+use Prim.Native.Nat.{ℕ, zero, suc, _+_, _-_, _≤_, _<_}
 use native.Mathlib.Omega.{arith}
 use native.Mathlib.Decide.{ℕ-discrete}
 use native.Mathlib.Numerals.{add-one}
@@ -27,6 +27,7 @@ use Rattle.builder.specs.Tables.{classOf, Classes, Marks, keptIn, entryO
 use Rattle.builder.specs.Checking.{scopeIn, unknownIn}
 use Rattle.builder.proofs.laws.Classes.{class-time, class-reserved}
 use Rattle.builder.proofs.laws.Amounts.{sum-next}
+use Rattle.builder.proofs.laws.PutWords.{each-fits, ofNamed}
 use Rattle.definitions.proofs.ListLaws.{any-append, place-below}
 
 -- ---- the first name that is t
@@ -191,14 +192,13 @@ name-of f s u = refl
 abbrev pub entryBy : List ℕ → List Unknown → ℕ → ℕ
 entryBy vs us k = cond (member (suc k) vs) (suc (length (keptDeps vs us (suc k)))) 0
 
-pub record Counted (n i : ℕ) (vs : List ℕ) (us : List Unknown) (t : List ℕ) : Type 0 where
+pub record Counted (n : ℕ) (vs : List ℕ) (us : List Unknown) (t : List ℕ) : Type 0 where
   pub long : length t ≡ 256
   pub entry : (k : ℕ) → k < n → getD t k 0 ≡ entryBy vs us k
-  pub few : (k : ℕ) → k < n → getD t k 0 ≤ 1 + 1024 * i
 
-pub counted-begin : (n : ℕ) (vs : List ℕ) (us : List Unknown) (t : List ℕ) → Marks n vs t → Counted n 0 vs (take 0 us) t
+pub counted-begin : (n : ℕ) (vs : List ℕ) (us : List Unknown) (t : List ℕ) → Marks n vs t → Counted n vs (take 0 us) t
 unfolding keptDeps each flag
-counted-begin n vs us t m = record { long = m .long; entry = λ k h. m .mark k h ∙ go (member (suc k) vs); few = λ k h. omega (arith, m .mark k h, flag-small (member (suc k) vs)) }
+counted-begin n vs us t m = record { long = m .long; entry = λ k h. m .mark k h ∙ go (member (suc k) vs) }
   where
     go : (b : Bool) → flag b ≡ cond b (suc zero) zero
     go true = refl
@@ -221,7 +221,7 @@ kept-last : (vs : List ℕ) (us : List Unknown) (u : Unknown) (v : ℕ) → kept
 unfolding keptDeps each
 kept-last vs us u v = each-append _ us (u ∷ []) ∙ ap (λ (z : List ℕ). keptDeps vs us v ++ z) (append-nil _)
 
-module _ {n i : ℕ} {vs : List ℕ} {us : List Unknown} {t : List ℕ} (m : Counted n i vs us t) where
+module _ {n : ℕ} {vs : List ℕ} {us : List Unknown} {t : List ℕ} (m : Counted n vs us t) where
   dep-length : (d : ℕ) → d < n → length (toList (numberOf vs d)) ≡ flag (not (eqb (getD t d 0) 0))
   unfolding numberOf place member
   dep-length d h = found-length (eqb (suc d)) 0 vs ∙ one-kept-is (any (eqb (suc d)) vs) (length (keptDeps vs us (suc d))) ∙ sym (ap (λ (y : ℕ). flag (not (eqb y 0))) (m .entry d h))
@@ -234,7 +234,7 @@ module _ {n i : ℕ} {vs : List ℕ} {us : List Unknown} {t : List ℕ} (m : Cou
       let b = deps-length ds (λ j l. g (suc j) (omega arith)) in
       length-append (toList (numberOf vs d)) _ ∙ omega (arith, a, b)
 
-  module _ (u : Unknown) (x v kept : ℕ) (ex : x ≡ u .name) (lx : x < n) (w : n ≤ 256) (ek : kept ≡ keptIn t (u .deps)) (lk : kept ≤ 1024) (g : (j : ℕ) → j < length (u .deps) → getD (u .deps) j 0 < n) (ev : v ≡ cond (eqb (getD t x 0) 0) 0 (getD t x 0 + kept)) where
+  module _ (u : Unknown) (x v kept : ℕ) (ex : x ≡ u .name) (lx : x < n) (w : n ≤ 256) (ek : kept ≡ keptIn t (u .deps)) (g : (j : ℕ) → j < length (u .deps) → getD (u .deps) j 0 < n) (ev : v ≡ cond (eqb (getD t x 0) 0) 0 (getD t x 0 + kept)) where
     at-x : (b : Bool) → member (suc x) vs ≡ b → v ≡ entryBy vs (us ++ u ∷ []) x
     at-x true e =
         let a : getD t x 0 ≡ suc (length (keptDeps vs us (suc x))) = m .entry x lx ∙ rw e refl in
@@ -248,12 +248,8 @@ module _ {n i : ℕ} {vs : List ℕ} {us : List Unknown} {t : List ℕ} (m : Cou
         let z : eqb (getD t x 0) 0 ≡ true = eq-eqb (getD t x 0) 0 a in
         ev ∙ rw (z, e) refl
 
-    v-few : (b : Bool) → v ≡ cond b 0 (getD t x 0 + kept) → v ≤ 1 + 1024 * (i + 1)
-    v-few true e = omega (arith, e)
-    v-few false e = omega (arith, e, m .few x lx, lk)
-
-    pub counted-more : Counted n (i + 1) vs (us ++ u ∷ []) (set t x v)
-    counted-more = record { long = simp length-set (m .long); entry = λ k h. go k h (ℕ-discrete k x); few = λ k h. bound k h (ℕ-discrete k x) }
+    pub counted-more : Counted n vs (us ++ u ∷ []) (set t x v)
+    counted-more = record { long = simp length-set (m .long); entry = λ k h. go k h (ℕ-discrete k x) }
       where
         go : (k : ℕ) → k < n → Dec (k ≡ x) → getD (set t x v) k 0 ≡ entryBy vs (us ++ u ∷ []) k
         go k h (yes q) = rw q (getD-set-same t x v 0 (omega (arith, m .long)) ∙ at-x (member (suc x) vs) refl)
@@ -261,10 +257,6 @@ module _ {n i : ℕ} {vs : List ℕ} {us : List Unknown} {t : List ℕ} (m : Cou
             let y : eqb (suc (u .name)) (suc k) ≡ false = ne-eqb (suc (u .name)) (suc k) (λ (p : suc (u .name) ≡ suc k). q (omega (arith, ex, p))) in
             let z : keptDeps vs (us ++ u ∷ []) (suc k) ≡ keptDeps vs us (suc k) = kept-last vs us u (suc k) ∙ rw y (append-nil _) in
             getD-set-other t x k v 0 q ∙ m .entry k h ∙ ap (λ (l : List ℕ). cond (member (suc k) vs) (suc (length l)) 0) (sym z)
-
-        bound : (k : ℕ) → k < n → Dec (k ≡ x) → getD (set t x v) k 0 ≤ 1 + 1024 * (i + 1)
-        bound k h (yes q) = let e : getD (set t x v) k 0 ≡ v = rw q (getD-set-same t x v 0 (omega (arith, m .long))) in omega (arith, e, v-few (eqb (getD t x 0) 0) ev)
-        bound k h (no q) = omega (arith, getD-set-other t x k v 0 q, m .few k h)
 
 -- ---- the entries of a scope
 
@@ -293,15 +285,38 @@ module _ (names : List (List ℕ)) (vs : List ℕ) (us : List Unknown) (c : Scop
       go true q r = ap (λ (w : Variable). suc (length (w .deps))) (drop-head (c .vars) j _ noVariable _ e) ∙ ap (λ (z : ℕ). suc (length (keptDeps vs us z))) (sym (eqb-true y x q))
       go false q r = r
 
-pub counted-vars : (f : List ℕ) (s : Sections) (m n i j : ℕ) (t : List ℕ) → length (fileIn f s .names) ≡ n → length (modelAt (fileIn f s) m .unknowns) ≤ i
-    → Counted n j (variableNames (fileIn f s .names) (modelAt (fileIn f s) m .unknowns)) (take i (modelAt (fileIn f s) m .unknowns)) t → VarsOf (scopeIn f s m) t
+pub counted-vars : (f : List ℕ) (s : Sections) (m n i : ℕ) (t : List ℕ) → length (fileIn f s .names) ≡ n → length (modelAt (fileIn f s) m .unknowns) ≤ i
+    → Counted n (variableNames (fileIn f s .names) (modelAt (fileIn f s) m .unknowns)) (take i (modelAt (fileIn f s) m .unknowns)) t → VarsOf (scopeIn f s m) t
 unfolding scopeOf variablesOf lookup place member
-counted-vars f s m n i j t en l c =
+counted-vars f s m n i t en l c =
     let us = modelAt (fileIn f s) m .unknowns in
     let names = fileIn f s .names in
     let e : take i us ≡ us = take-all i us l in
     let d = rw e at c in
     record { var = λ k h. d .entry k (omega (arith, en, h)) ∙ sym (entry-from names (variableNames names us) us (scopeIn f s m) (suc k) 0 (variableNames names us) refl) }
 
-pub counted-next : (n i : ℕ) (vs : List ℕ) (us : List Unknown) (t : List ℕ) (u : Unknown) → i < length us → getD us i u ≡ u → Counted n (i + 1) vs (take i us ++ u ∷ []) t → Counted n (i + 1) vs (take (i + 1) us) t
+pub counted-next : (n i : ℕ) (vs : List ℕ) (us : List Unknown) (t : List ℕ) (u : Unknown) → i < length us → getD us i u ≡ u → Counted n vs (take i us ++ u ∷ []) t → Counted n vs (take (i + 1) us) t
 counted-next n i vs us t u l e c = let q : take (i + 1) us ≡ take i us ++ u ∷ [] = rw (add-one, take-suc us i u, e) refl in rw q c
+
+-- ---- an entry is small: a model's kept dependents are at most as many as the file's dependents
+
+member-fits : (g : ℕ → List ℕ) (y : ℕ) (vs : List ℕ) → member y vs ≡ true → length (g y) ≤ length (each g vs)
+unfolding member any each
+member-fits g y [] h = clash (cc)
+member-fits g y (v ∷ vs) h = rw length-append (go (eqb y v) refl h (member-fits g y vs))
+  where
+    go : (b : Bool) → eqb y v ≡ b → b || any (eqb y) vs ≡ true → (member y vs ≡ true → length (g y) ≤ length (each g vs)) → length (g y) ≤ length (g v) + length (each g vs)
+    go true e h more = let q : y ≡ v = eqb-true y v e in rw q (omega arith)
+    go false e h more = omega (arith, more h)
+
+pub counted-few : (n i : ℕ) (vs : List ℕ) (us : List Unknown) (t : List ℕ) → Counted n vs (take i us) t → length (each (keptDeps vs us) vs) ≤ 1024 → (k : ℕ) → k < n → getD t k 0 ≤ 1025
+unfolding keptDeps ofNamed
+counted-few n i vs us t c few k h = go (member (suc k) vs) refl
+  where
+    go : (b : Bool) → member (suc k) vs ≡ b → getD t k 0 ≤ 1025
+    go true e =
+        let a : getD t k 0 ≡ suc (length (keptDeps vs (take i us) (suc k))) = c .entry k h ∙ rw e refl in
+        omega (arith, a, each-fits (ofNamed vs (suc k)) us i, member-fits (keptDeps vs us) (suc k) vs e, few)
+    go false e =
+        let a : getD t k 0 ≡ 0 = c .entry k h ∙ rw e refl in
+        omega (arith, a)

@@ -1,28 +1,34 @@
 -- Errors 14 to 17 over the records of an area, one test at a time: of a model's span, of the counts, of a variable, and of all of them.
 use mathlib.Core.Path.{_≡_, refl, sym, ap, _∙_}
-use mathlib.Core.Bool.{Bool, true, false, cond}
+use mathlib.Core.Bool.{Bool, true, false, cond, _&&_, _||_}
 use mathlib.Core.List.{List, [], _∷_, _++_}
+use mathlib.Core.Option.{some}
 use Prim.Native.Nat.{ℕ, zero, suc, _+_, _-_, _^_, _≤_, _<_}
 use native.Mathlib.Omega.{arith}
 use native.Mathlib.Numerals.{add-one}
-use borrow.Author.Tests.{eq-eqb, ne-eqb, lt-ltb, le-ltb}
+use borrow.Author.Tests.{eq-eqb, ne-eqb, eqb-false, lt-ltb, le-ltb}
 use lib.Dec.{eqb, ltb}
-use lib.ListN.{length, getD, length-append}
-use Rattle.functions.specs.Lists.{place, plusOne}
+use lib.ListN.{length, drop, getD, length-append}
+use Rattle.functions.specs.Lists.{place, placeFrom, plusOne, times, flag}
+use Rattle.functions.proofs.Lists.{clash, drop-past}
 use Rattle.ast.specs.Tree.{Span}
 use Rattle.ast.specs.Words.{wordOf, spanFrom}
 use Rattle.ast.specs.Records.{modelOf}
 use Rattle.ast.specs.Opens.{Open, contentsIn, fileIn}
 use Rattle.ast.specs.declared.sections.Sections.{Sections}
+use Rattle.ast.proofs.Fields.{length-section}
 use Rattle.ast.proofs.Files.{model-at}
 use Rattle.definitions.specs.Numbers.{underdetermined, overdetermined, noInitialCondition, algebraicInitialCondition}
 use Rattle.definitions.specs.Variables.{Error, error}
 use Rattle.definitions.specs.Flatten.{noModel, modelAt}
 use Rattle.definitions.specs.Allocate.{countErrors}
+use Rattle.area.specs.Sections.{stmtsAt, areaStmts, areaStmt}
 use Rattle.area.specs.Listing.{Lists}
+use Rattle.area.specs.declared.sections.Sizes.{Sizes}
 use Rattle.builder.specs.Fating.{isFated}
 use Rattle.builder.specs.Starting.{rightSpanIn, heldErrorsIn, stateErrorsIn, startingIn}
 use Rattle.area.proofs.Listings.{length-listed, lists-then}
+use Rattle.builder.proofs.laws.HeldSteps.{place-here, place-behind}
 use Rattle.builder.proofs.laws.OpenRecords.{long}
 
 -- a model's span by its record
@@ -51,45 +57,93 @@ module _ (s : Span) (left states : ℕ) where
       let u : ltb left states ≡ false = le-ltb left states l in
       rw (t, u) refl
 
--- ---- errors 16 and 17 of a variable by its held statement and its first condition
+-- ---- a variable's first condition
 
-module _ (model : Span) (ns rs : List (List ℕ)) (name held first : ℕ) where
-  pub state-bare : held ≡ 0 → heldErrorsIn model ns rs name held first ≡ []
-  unfolding heldErrorsIn
-  state-bare e = let t : eqb held 0 ≡ true = eq-eqb held 0 e in rw t refl
+module _ (v : ℕ) (b : List ℕ) (z : Sizes) (i : ℕ) where
+  -- the test of a statement by the words read
+  fated-by : (x y : ℕ) → x ≡ wordOf (areaStmt b z i) 6 → y ≡ wordOf (areaStmt b z i) 7 → isFated 1 v (areaStmt b z i) ≡ (eqb x 1 && eqb y v)
+  unfolding isFated
+  fated-by x y ex ey = rw (ex, ey) refl
 
-  module _ (n : held ≡ 0 → ⊥) where
-    pub state-lacks : wordOf (getD rs (held - 1) []) 0 ≡ 2 → first ≡ 0 → heldErrorsIn model ns rs name held first ≡ error noInitialCondition model name ∷ []
-    unfolding heldErrorsIn
-    state-lacks k e =
+  module _ (h : i < z .stmts) (x y : ℕ) (ex : x ≡ wordOf (areaStmt b z i) 6) (ey : y ≡ wordOf (areaStmt b z i) 7) where
+    there : i < length (areaStmts b z)
+    there = omega (arith, length-section 8 (z .stmts) (stmtsAt z) b)
+
+    -- it is statement i, or one behind it
+    pub condition-here : (eqb x 1 && eqb y v) ≡ true → i + 1 ≡ plusOne (placeFrom i (isFated 1 v) (drop i (areaStmts b z)))
+    condition-here e = place-here (isFated 1 v) (areaStmts b z) [] i there (fated-by x y ex ey ∙ e)
+
+    pub condition-behind : (eqb x 1 && eqb y v) ≡ false → plusOne (placeFrom (i + 1) (isFated 1 v) (drop (i + 1) (areaStmts b z))) ≡ plusOne (placeFrom i (isFated 1 v) (drop i (areaStmts b z)))
+    condition-behind e = place-behind (isFated 1 v) (areaStmts b z) [] i there (fated-by x y ex ey ∙ e)
+
+  -- there is none behind the last
+  pub condition-none : z .stmts ≤ i → plusOne (placeFrom i (isFated 1 v) (drop i (areaStmts b z))) ≡ 0
+  unfolding placeFrom plusOne
+  condition-none h = ap (λ (xs : List (List ℕ)). plusOne (placeFrom i (isFated 1 v) xs)) (drop-past (areaStmts b z) i (omega (arith, length-section 8 (z .stmts) (stmtsAt z) b)))
+
+-- ---- errors 16 and 17 of a variable by the words of its record and the kind of the statement that it holds
+
+-- a first one that passes is there where some do
+some-pass : {A : Type 0} (p : A → Bool) (k : ℕ) (xs : List A) → eqb (plusOne (placeFrom k p xs)) 0 ≡ eqb (times p xs) 0
+unfolding placeFrom plusOne times flag
+some-pass p k [] = refl
+some-pass p k (x ∷ xs) = by (p x) (some-pass p (suc k) xs)
+  where
+    by : (b : Bool) → eqb (plusOne (placeFrom (suc k) p xs)) 0 ≡ eqb (times p xs) 0 → eqb (plusOne (cond b (some k) (placeFrom (suc k) p xs))) 0 ≡ eqb (flag b + times p xs) 0
+    by true h = ne-eqb (suc k) 0 (λ e. omega arith) ∙ sym (ne-eqb (1 + times p xs) 0 (λ e. omega arith))
+    by false h = let e : 0 + times p xs ≡ times p xs = omega arith in h ∙ ap (λ (n : ℕ). eqb n 0) (sym e)
+
+-- of two tests, both, one, and none
+both-pass : (b c : Bool) (xs ys : List Error) → (b && c) ≡ true → cond b (cond c xs []) (cond c [] ys) ≡ xs
+both-pass true true xs ys e = refl
+both-pass true false xs ys e = clash (cc)
+both-pass false c xs ys e = clash (cc)
+
+one-passes : (b c : Bool) (xs ys : List Error) → (b && c) ≡ false → (b || c) ≡ true → cond b (cond c xs []) (cond c [] ys) ≡ []
+one-passes true true xs ys e g = clash (cc)
+one-passes true false xs ys e g = refl
+one-passes false true xs ys e g = refl
+one-passes false false xs ys e g = clash (cc)
+
+none-passes : (b c : Bool) (xs ys : List Error) → (b || c) ≡ false → (cond b (cond c xs []) (cond c [] ys) ≡ ys) × (c ≡ false)
+none-passes true c xs ys e = clash (cc)
+none-passes false true xs ys e = clash (cc)
+none-passes false false xs ys e = (refl, refl)
+
+module _ (model : Span) (ns rs : List (List ℕ)) (name v held : ℕ) (eh : held ≡ plusOne (place (isFated 2 v) rs)) where
+  pub state-bare : held ≡ 0 → stateErrorsIn model ns rs name v ≡ []
+  unfolding stateErrorsIn heldErrorsIn
+  state-bare e = let t : eqb held 0 ≡ true = eq-eqb held 0 e in rw (← eh, t) refl
+
+  module _ (n : held ≡ 0 → ⊥) (kind count : ℕ) (ek : kind ≡ wordOf (getD rs (held - 1) []) 0) (ec : count ≡ times (isFated 1 v) rs) where
+    -- its first condition
+    abbrev first : ℕ
+    first = plusOne (place (isFated 1 v) rs)
+
+    no-first : eqb first 0 ≡ eqb count 0
+    unfolding place
+    no-first = some-pass (isFated 1 v) 0 rs ∙ ap (λ (k : ℕ). eqb k 0) (sym ec)
+
+    by-words : stateErrorsIn model ns rs name v
+        ≡ cond (eqb kind 2) (cond (eqb count 0) (error noInitialCondition model name ∷ []) []) (cond (eqb count 0) [] (error algebraicInitialCondition (rightSpanIn ns rs (first - 1)) name ∷ []))
+    unfolding stateErrorsIn heldErrorsIn
+    by-words =
         let t : eqb held 0 ≡ false = ne-eqb held 0 n in
-        let u : eqb (wordOf (getD rs (held - 1) []) 0) 2 ≡ true = eq-eqb _ 2 k in
-        let w : eqb first 0 ≡ true = eq-eqb first 0 e in
-        rw (t, u, w) refl
+        rw (← eh, t, ← ek, no-first) refl
 
-    pub state-starts : wordOf (getD rs (held - 1) []) 0 ≡ 2 → (first ≡ 0 → ⊥) → heldErrorsIn model ns rs name held first ≡ []
-    unfolding heldErrorsIn
-    state-starts k e =
-        let t : eqb held 0 ≡ false = ne-eqb held 0 n in
-        let u : eqb (wordOf (getD rs (held - 1) []) 0) 2 ≡ true = eq-eqb _ 2 k in
-        let w : eqb first 0 ≡ false = ne-eqb first 0 e in
-        rw (t, u, w) refl
+    pub state-lacks : (eqb kind 2 && eqb count 0) ≡ true → stateErrorsIn model ns rs name v ≡ error noInitialCondition model name ∷ []
+    state-lacks e = by-words ∙ both-pass (eqb kind 2) (eqb count 0) _ _ e
 
-    pub state-free : (wordOf (getD rs (held - 1) []) 0 ≡ 2 → ⊥) → first ≡ 0 → heldErrorsIn model ns rs name held first ≡ []
-    unfolding heldErrorsIn
-    state-free k e =
-        let t : eqb held 0 ≡ false = ne-eqb held 0 n in
-        let u : eqb (wordOf (getD rs (held - 1) []) 0) 2 ≡ false = ne-eqb _ 2 k in
-        let w : eqb first 0 ≡ true = eq-eqb first 0 e in
-        rw (t, u, w) refl
+    pub state-free : (eqb kind 2 && eqb count 0) ≡ false → (eqb kind 2 || eqb count 0) ≡ true → stateErrorsIn model ns rs name v ≡ []
+    state-free e g = by-words ∙ one-passes (eqb kind 2) (eqb count 0) _ _ e g
 
-    pub state-algebraic : (wordOf (getD rs (held - 1) []) 0 ≡ 2 → ⊥) → (first ≡ 0 → ⊥) → heldErrorsIn model ns rs name held first ≡ error algebraicInitialCondition (rightSpanIn ns rs (first - 1)) name ∷ []
-    unfolding heldErrorsIn
-    state-algebraic k e =
-        let t : eqb held 0 ≡ false = ne-eqb held 0 n in
-        let u : eqb (wordOf (getD rs (held - 1) []) 0) 2 ≡ false = ne-eqb _ 2 k in
-        let w : eqb first 0 ≡ false = ne-eqb first 0 e in
-        rw (t, u, w) refl
+    module _ (e : (eqb kind 2 || eqb count 0) ≡ false) where
+      pub state-algebraic : (k : ℕ) → k ≡ first → stateErrorsIn model ns rs name v ≡ error algebraicInitialCondition (rightSpanIn ns rs (k - 1)) name ∷ []
+      state-algebraic k g = rw g (by-words ∙ none-passes (eqb kind 2) (eqb count 0) _ _ e .0)
+
+      -- there is a first condition
+      pub state-starts : (k : ℕ) → k ≡ first → 1 ≤ k
+      state-starts k g = omega (arith, g, eqb-false first 0 (no-first ∙ none-passes (eqb kind 2) (eqb count 0) [] [] e .1))
 
 -- ---- of all variables
 
@@ -137,9 +191,6 @@ module _ (model : Span) (ns rs : List (List ℕ)) (names d d′ : List ℕ) (v n
   starting-few vars h l = omega (arith, p .0, starting-most model ns rs names v)
 
   -- one variable more
-  pub starting-next : (d″ : List ℕ) (r′ held first : ℕ) (es : List Error) → held ≡ plusOne (place (isFated 2 v) rs) → first ≡ plusOne (place (isFated 1 v) rs)
-      → es ≡ heldErrorsIn model ns rs (getD names v 0) held first → Lists d′ r es r′ d″ → Lists d n (startingIn model ns rs names (v + 1)) r′ d″
-  unfolding stateErrorsIn
-  starting-next d″ r′ held first es eh ef e q =
-      let t : es ≡ stateErrorsIn model ns rs (getD names v 0) v = rw (← eh, ← ef) e in
-      lists-then (record { is = starting-turn model ns rs names v ∙ ap (λ (xs : List Error). startingIn model ns rs names v ++ xs) (sym t) }) d d′ d″ n r r′ p q
+  pub starting-next : (d″ : List ℕ) (r′ : ℕ) (es : List Error) → es ≡ stateErrorsIn model ns rs (getD names v 0) v → Lists d′ r es r′ d″ → Lists d n (startingIn model ns rs names (v + 1)) r′ d″
+  starting-next d″ r′ es e q =
+      lists-then (record { is = starting-turn model ns rs names v ∙ ap (λ (xs : List Error). startingIn model ns rs names v ++ xs) (sym e) }) d d′ d″ n r r′ p q

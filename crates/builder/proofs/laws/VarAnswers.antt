@@ -1,27 +1,27 @@
--- The variables' records and the header that the code writes are the answer's, where its tables agree with the answer's variables.
+-- The variables' records and the header that the code writes are the answer's.
 use mathlib.Core.Path.{_≡_, refl, sym, ap, ap₂, _∙_}
 use mathlib.Core.Bool.{Bool, true, false, cond, not, _&&_, _||_}
-use mathlib.Core.List.{List, [], _∷_, _++_, map, append-assoc, append-nil}
-use Prim.Native.Nat.{ℕ, zero, suc, _+_, _-_, _*_, _<_}
+use mathlib.Core.List.{List, [], _∷_, _++_, map}
+use Prim.Native.Nat.{ℕ, zero, suc, _+_, _-_, _*_, _≤_, _<_}
 use native.Mathlib.Omega.{arith}
 use native.Mathlib.Numerals.{add-one}
 use borrow.Author.Tests.{eq-eqb, ne-eqb, ltb-true, ltb-false}
 use lib.Dec.{eqb, ltb}
-use lib.ListN.{length, drop, getD, length-drop, length-append, length-map, List·getD-append}
-use lib.Seq.{getD-drop, drop-drop, getD-at}
+use lib.ListN.{length, take, getD, length-append, length-map, List·getD-append}
+use lib.Seq.{take-suc, length-take-le, getD-at}
 use Rattle.functions.specs.Lists.{each, plusOne, flag, any, member, isEmpty}
 use Rattle.functions.proofs.Lists.{clash}
 use Rattle.ast.specs.Tree.{Unknown}
-use Rattle.ast.specs.Words.{wordOf}
+use Rattle.ast.specs.Words.{wordOf, bytesOf}
 use Rattle.ast.specs.Encode.{encode}
-use Rattle.ast.proofs.Encodes.{length-bytes}
+use Rattle.ast.proofs.Encodes.{length-bytes, encode-append, encode-one}
 use Rattle.area.specs.Sections.{column}
 use Rattle.area.specs.declared.sections.Sizes.{Sizes}
 use Rattle.definitions.specs.Names.{isReserved, timeName}
 use Rattle.definitions.specs.Variables.{Bounds, Variable, fromZero, unbounded, lastBounds, timeBounds, boundsOf, declare, variableNames, variable, variablesOf, at, noVariable, isState, timeIndex, timeDependent}
 use Rattle.definitions.specs.Answer.{Answer, boundsWords, variableWords, variableRecords, nodeCount, depsOf, header}
-use Rattle.builder.specs.VariableTables.{nextIn}
-use Rattle.builder.specs.VarRecords.{leadWords, varBounds, varWords, varRecords, unheldWords, unheldFrom, unheldRecords, withHeld, heldIn, heldFrom, headWords}
+use Rattle.builder.specs.VarRecords.{isTime, LeadOf, leadWords, varBounds, unheldWords, unheldFrom, unheldRecords, withHeld, heldIn, heldFrom, headWords}
+use Rattle.builder.specs.declared.variables.records.Lead.{Lead}
 use Rattle.builder.proofs.laws.FateLaws.{recordPair, fatePair, held-in, conditions-in}
 use Rattle.definitions.proofs.ListLaws.{getD-map, run-some, flag-one}
 
@@ -50,22 +50,22 @@ unfolding encode each
 length-twelves [] h = refl
 length-twelves (r ∷ rs) h = simp (length-append, length-bytes) (omega (arith, h .0, length-twelves rs (h .1)))
 
--- before it is known what the variables hold, from variable i on
-module _ (all : List Variable) where
-  from-twelves : (i first : ℕ) (vs : List Variable) → Twelves (unheldFrom all i first vs)
+-- before it is known what the variables hold, from variable i on, time-dependent where it is said so
+module _ (timed : ℕ → Bool) where
+  pub from-twelves : (i first : ℕ) (vs : List Variable) → Twelves (unheldFrom timed i first vs)
   unfolding unheldFrom unheldWords boundsWords
   from-twelves i first [] = tt
   from-twelves i first (v ∷ vs) = (refl, from-twelves (suc i) (first + length (v .deps)) vs)
 
   -- one for each variable
-  length-from : (i first : ℕ) (vs : List Variable) → length (unheldFrom all i first vs) ≡ length vs
+  pub length-from : (i first : ℕ) (vs : List Variable) → length (unheldFrom timed i first vs) ≡ length vs
   unfolding unheldFrom
   length-from i first [] = refl
   length-from i first (v ∷ vs) = ap suc (length-from (suc i) (first + length (v .deps)) vs)
 
   -- what each record says that its variable and its number tell
-  from-at : (g : List ℕ → ℕ) (h : ℕ → Variable → ℕ) → ((i first : ℕ) (x : Variable) → g (unheldWords all i first x) ≡ h i x)
-      → (vs : List Variable) (i first v : ℕ) → v < length vs → getD (map g (unheldFrom all i first vs)) v 0 ≡ h (i + v) (at vs v)
+  from-at : (g : List ℕ → ℕ) (h : ℕ → Variable → ℕ) → ((i first : ℕ) (x : Variable) → g (unheldWords timed i first x) ≡ h i x)
+      → (vs : List Variable) (i first v : ℕ) → v < length vs → getD (map g (unheldFrom timed i first vs)) v 0 ≡ h (i + v) (at vs v)
   unfolding unheldFrom at
   from-at g h e [] i first v l = absurd (omega arith)
   from-at g h e (x ∷ vs) i first zero l = let z : i ≡ i + 0 = omega arith in e i first x ∙ ap (λ (k : ℕ). h k x) z
@@ -77,14 +77,11 @@ module _ (all : List Variable) where
 module _ (vs : List Variable) where
   pub unheld-twelves : Twelves (unheldRecords vs)
   unfolding unheldRecords
-  unheld-twelves = from-twelves vs 0 0 vs
+  unheld-twelves = from-twelves (timeDependent vs) 0 0 vs
 
   pub count-unheld : length (unheldRecords vs) ≡ length vs
   unfolding unheldRecords
-  count-unheld = length-from vs 0 0 vs
-
-  pub length-unheld : length (encode (unheldRecords vs)) ≡ 48 * length vs
-  length-unheld = length-twelves (unheldRecords vs) unheld-twelves ∙ ap (λ (n : ℕ). 48 * n) count-unheld
+  count-unheld = length-from (timeDependent vs) 0 0 vs
 
   -- ---- the columns that are read again
 
@@ -92,22 +89,22 @@ module _ (vs : List Variable) where
     -- name plus 1, state, time index plus 1 or 0
     pub column-name : getD (column 0 (unheldRecords vs)) v 0 ≡ at vs v .name
     unfolding unheldRecords unheldWords column wordOf
-    column-name = from-at vs (λ r. wordOf r 0) (λ i x. x .name) (λ i first x. refl) vs 0 0 v l
+    column-name = from-at (timeDependent vs) (λ r. wordOf r 0) (λ i x. x .name) (λ i first x. refl) vs 0 0 v l
 
     pub column-state : getD (column 1 (unheldRecords vs)) v 0 ≡ flag (isState (at vs v))
     unfolding unheldRecords unheldWords column wordOf
-    column-state = from-at vs (λ r. wordOf r 1) (λ i x. flag (isState x)) (λ i first x. refl) vs 0 0 v l
+    column-state = from-at (timeDependent vs) (λ r. wordOf r 1) (λ i x. flag (isState x)) (λ i first x. refl) vs 0 0 v l
 
     pub column-index : getD (column 2 (unheldRecords vs)) v 0 ≡ plusOne (timeIndex (at vs v))
     unfolding unheldRecords unheldWords column wordOf
-    column-index = from-at vs (λ r. wordOf r 2) (λ i x. plusOne (timeIndex x)) (λ i first x. refl) vs 0 0 v l
+    column-index = from-at (timeDependent vs) (λ r. wordOf r 2) (λ i x. plusOne (timeIndex x)) (λ i first x. refl) vs 0 0 v l
 
     -- whether a rate equation may go to it
     pub column-rate : getD (map (λ r. flag (eqb (wordOf r 1) 1 && eqb (wordOf r 7) 1)) (unheldRecords vs)) v 0 ≡ flag (isState (at vs v) && timeDependent vs v)
     unfolding unheldRecords unheldWords wordOf
     column-rate =
         let z : 0 + v ≡ v = omega arith in
-        from-at vs (λ r. flag (eqb (wordOf r 1) 1 && eqb (wordOf r 7) 1)) (λ i x. flag (isState x && timeDependent vs i))
+        from-at (timeDependent vs) (λ r. flag (eqb (wordOf r 1) 1 && eqb (wordOf r 7) 1)) (λ i x. flag (isState x && timeDependent vs i))
         (λ i first x. ap₂ (λ (s t : Bool). flag (s && t)) (flag-one (isState x)) (flag-one (timeDependent vs i))) vs 0 0 v l
         ∙ ap (λ (k : ℕ). flag (isState (at vs v) && timeDependent vs k)) z
 
@@ -115,7 +112,7 @@ module _ (vs : List Variable) where
 
 -- by the statements' records with their fates they are the answer's
 held-from : (a : Answer) (stmts : List (List ℕ)) → map recordPair stmts ≡ map fatePair (a .fates) → (vs : List Variable) (i first : ℕ)
-    → heldFrom stmts i (unheldFrom (a .vars) i first vs) ≡ variableRecords a i first vs
+    → heldFrom stmts i (unheldFrom (timeDependent (a .vars)) i first vs) ≡ variableRecords a i first vs
 unfolding heldFrom unheldFrom variableRecords withHeld heldIn unheldWords variableWords
 held-from a stmts e [] i first = refl
 held-from a stmts e (x ∷ vs) i first =
@@ -126,16 +123,16 @@ held-from a stmts e (x ∷ vs) i first =
 pub held-are : (a : Answer) (stmts : List (List ℕ)) (vs : List Variable) → vs ≡ a .vars → map recordPair stmts ≡ map fatePair (a .fates)
     → heldFrom stmts 0 (unheldRecords vs) ≡ variableRecords a 0 0 vs
 unfolding unheldRecords
-held-are a stmts vs e f = ap (λ (us : List Variable). heldFrom stmts 0 (unheldFrom us 0 0 vs)) e ∙ held-from a stmts f vs 0 0
+held-are a stmts vs e f = ap (λ (us : List Variable). heldFrom stmts 0 (unheldFrom (timeDependent us) 0 0 vs)) e ∙ held-from a stmts f vs 0 0
 
 -- what does not read words 5 and 6 reads the same of both
 module _ (a : Answer) (vs : List Variable) (e : vs ≡ a .vars) where
-  same-words : (g : List ℕ → ℕ) → ((i first : ℕ) (x : Variable) → g (variableWords a i first x) ≡ g (unheldWords (a .vars) i first x))
+  same-words : (g : List ℕ → ℕ) → ((i first : ℕ) (x : Variable) → g (variableWords a i first x) ≡ g (unheldWords (timeDependent (a .vars)) i first x))
       → map g (variableRecords a 0 0 vs) ≡ map g (unheldRecords vs)
   unfolding unheldRecords variableRecords unheldFrom
-  same-words g h = go vs 0 0 ∙ ap (λ (us : List Variable). map g (unheldFrom us 0 0 vs)) (sym e)
+  same-words g h = go vs 0 0 ∙ ap (λ (us : List Variable). map g (unheldFrom (timeDependent us) 0 0 vs)) (sym e)
     where
-      go : (us : List Variable) (i first : ℕ) → map g (variableRecords a i first us) ≡ map g (unheldFrom (a .vars) i first us)
+      go : (us : List Variable) (i first : ℕ) → map g (variableRecords a i first us) ≡ map g (unheldFrom (timeDependent (a .vars)) i first us)
       go [] i first = refl
       go (x ∷ us) i first = ap₂ _∷_ (h i first x) (go us (suc i) (first + length (x .deps)))
 
@@ -156,59 +153,55 @@ module _ (a : Answer) (vs : List Variable) (e : vs ≡ a .vars) where
   unfolding wordOf variableWords unheldWords
   rates-stay = same-words (λ r. flag (eqb (wordOf r 1) 1 && eqb (wordOf r 7) 1)) (λ i first x. refl)
 
--- ---- what the tables say of the variables
+-- ---- one record after the other, where it is said of some variables that they are time-dependent
 
--- `deps` are the dependents' bytes
-pub record Agreeing (vs : List Variable) (texts : List (List ℕ)) (us : List Unknown) (names firsts reach deps : List ℕ) : Type 0 where
-  pub first : getD firsts 0 0 ≡ 0
-  pub name : (v : ℕ) → v < length vs → getD names v 0 ≡ at vs v .name
-  pub next : (v : ℕ) → v < length vs → getD firsts (v + 1) 0 ≡ getD firsts v 0 + length (at vs v .deps)
-  pub deps-are : (v : ℕ) → v < length vs → nextIn firsts deps v ≡ at vs v .deps
-  pub time : (v : ℕ) → v < length vs → eqb v 0 || eqb (getD reach v 0) 1 ≡ timeDependent vs v
-  pub bounds : (v : ℕ) → v < length vs → varBounds texts us v (at vs v .name) ≡ at vs v .bounds
+module _ (timed : ℕ → Bool) where
+  -- record v of those from variable i on
+  pub record-at : (vs : List Variable) (i first v : ℕ) → v < length vs
+      → getD (unheldFrom timed i first vs) v [] ≡ unheldWords timed (i + v) (first + length (each (λ x. x .deps) (take v vs))) (at vs v)
+  unfolding unheldFrom at each
+  record-at [] i first v l = absurd (omega arith)
+  record-at (x ∷ vs) i first zero l =
+      let a : i ≡ i + 0 = omega arith in
+      let b : first ≡ first + 0 = omega arith in
+      ap₂ (λ (j n : ℕ). unheldWords timed j n x) a b
+  record-at (x ∷ vs) i first (suc v) l =
+      let a : suc i + v ≡ i + suc v = omega arith in
+      let b : first + length (x .deps) + length (each (λ y. y .deps) (take v vs)) ≡ first + length (x .deps ++ each (λ y. y .deps) (take v vs)) = simp length-append (omega arith) in
+      record-at vs (suc i) (first + length (x .deps)) v (omega arith) ∙ ap₂ (λ (j n : ℕ). unheldWords timed j n (getD vs v noVariable)) a b
 
--- variable i stands first from i on
-at-drop : (vs : List Variable) (i : ℕ) (x : Variable) (ws : List Variable) → drop i vs ≡ x ∷ ws → at vs i ≡ x
-unfolding at
-at-drop vs i x ws e =
-    let z : i + 0 ≡ i = omega arith in
-    sym (rw z at (getD-drop i vs 0 noVariable)) ∙ ap (λ (us : List Variable). getD us 0 noVariable) e
+  -- one record more
+  pub records-more : (vs : List Variable) (v : ℕ) → v < length vs
+      → encode (take (v + 1) (unheldFrom timed 0 0 vs)) ≡ encode (take v (unheldFrom timed 0 0 vs)) ++ bytesOf (unheldWords timed v (length (each (λ x. x .deps) (take v vs))) (at vs v))
+  records-more vs v l =
+      let rs = unheldFrom timed 0 0 vs in
+      let n : v < length rs = omega (arith, length-from timed 0 0 vs) in
+      let a : 0 + v ≡ v = omega arith in
+      let b : 0 + length (each (λ x. x .deps) (take v vs)) ≡ length (each (λ x. x .deps) (take v vs)) = omega arith in
+      rw (add-one, take-suc rs v [] n)
+      (encode-append (take v rs) (getD rs v [] ∷ [])
+      ∙ ap (λ (b : List ℕ). encode (take v rs) ++ b) (encode-one (getD rs v []) ∙ ap bytesOf (record-at vs 0 0 v l ∙ ap₂ (λ (j k : ℕ). unheldWords timed j k (at vs v)) a b)))
 
-module _ (vs : List Variable) (texts : List (List ℕ)) (us : List Unknown) (names firsts reach deps : List ℕ) (agree : Agreeing vs texts us names firsts reach deps) where
-  -- variable v's words
-  words-are : (v : ℕ) → v < length vs → varWords texts us names firsts reach deps v ≡ unheldWords vs v (getD firsts v 0) (at vs v)
-  unfolding varWords leadWords unheldWords isState timeIndex
-  words-are v h =
-      let n = agree .name v h in
-      let e : getD firsts (v + 1) 0 - getD firsts v 0 ≡ length (at vs v .deps) = omega (arith, agree .next v h) in
-      let s : ltb (getD firsts v 0) (getD firsts (v + 1) 0) ≡ not (isEmpty (at vs v .deps)) = run-some (getD firsts v 0) (getD firsts (v + 1) 0) (at vs v .deps) (agree .next v h) in
-      rw (n, e, s, agree .deps-are v h, agree .time v h, agree .bounds v h) refl
+  -- the bytes of the first v
+  pub length-first : (vs : List Variable) (v : ℕ) → v ≤ length vs → length (encode (take v (unheldFrom timed 0 0 vs))) ≡ 48 * v
+  length-first vs v l =
+      let rs = unheldFrom timed 0 0 vs in
+      length-twelves (take v rs) (twelves-take v rs (from-twelves timed 0 0 vs))
+      ∙ ap (λ (n : ℕ). 48 * n) (length-take-le v rs (omega (arith, length-from timed 0 0 vs)))
+    where
+      twelves-take : (v : ℕ) (rs : List (List ℕ)) → Twelves rs → Twelves (take v rs)
+      twelves-take zero rs h = tt
+      twelves-take (suc v) [] h = tt
+      twelves-take (suc v) (r ∷ rs) h = (h .0, twelves-take v rs (h .1))
 
-  -- those before i, then the variables' from i on
-  records-are : (ws : List Variable) (i : ℕ) → drop i vs ≡ ws
-      → varRecords texts us names firsts reach deps i ++ unheldFrom vs i (getD firsts i 0) ws ≡ varRecords texts us names firsts reach deps (i + length ws)
-  unfolding unheldFrom varRecords
-  records-are [] i e =
-      let z : i ≡ i + 0 = omega arith in
-      append-nil (varRecords texts us names firsts reach deps i) ∙ ap (varRecords texts us names firsts reach deps) z
-  records-are (x ∷ ws) i e =
-      let l : i < length vs = omega (arith, length-drop i vs, ap length e) in
-      let here : at vs i ≡ x = at-drop vs i x ws e in
-      let w : unheldWords vs i (getD firsts i 0) x ≡ varWords texts us names firsts reach deps i = ap (unheldWords vs i (getD firsts i 0)) (sym here) ∙ sym (words-are i l) in
-      let n : getD firsts i 0 + length (x .deps) ≡ getD firsts (suc i) 0 = ap (λ (v : Variable). getD firsts i 0 + length (v .deps)) (sym here) ∙ sym (rw add-one at (agree .next i l)) in
-      let d : drop (suc i) vs ≡ ws = ap (λ (k : ℕ). drop k vs) (sym (add-one i)) ∙ sym (drop-drop 1 i vs) ∙ ap (drop 1) e in
-      let s : suc i + length ws ≡ i + suc (length ws) = omega arith in
-      ap₂ (λ (r : List ℕ) (m : ℕ). varRecords texts us names firsts reach deps i ++ (r ∷ unheldFrom vs (suc i) m ws)) w n
-      ∙ sym (append-assoc (varRecords texts us names firsts reach deps i) (varWords texts us names firsts reach deps i ∷ []) (unheldFrom vs (suc i) (getD firsts (suc i) 0) ws))
-      ∙ records-are ws (suc i) d
-      ∙ ap (varRecords texts us names firsts reach deps) s
-
-  -- The records are the variables'.
-  pub var-records-are : varRecords texts us names firsts reach deps (length vs) ≡ unheldRecords vs
-  unfolding varRecords unheldRecords
-  var-records-are =
-      let z : 0 + length vs ≡ length vs = omega arith in
-      sym (ap (λ (m : ℕ). unheldFrom vs 0 m vs) (sym (agree .first)) ∙ records-are vs 0 refl ∙ ap (varRecords texts us names firsts reach deps) z)
+-- a variable's words by what its record's lead says
+pub lead-words : (l : Lead) (v first end : ℕ) (x : Variable) (b : Bounds) → LeadOf l v (x .name) first end (x .deps) → end ≡ first + length (x .deps) → b ≡ x .bounds
+    → leadWords (l .name) (l .first) (l .end) (l .index) (l .time) ++ boundsWords b ≡ unheldWords isTime v first x
+unfolding leadWords unheldWords isState timeIndex
+lead-words l v first end x b h e eb =
+    let n : end - first ≡ length (x .deps) = omega arith in
+    let s : ltb first end ≡ not (isEmpty (x .deps)) = run-some first end (x .deps) e in
+    rw (h .name-of, h .first-of, h .end-of, h .index-of, h .time-of, n, s, eb) refl
 
 -- ---- bounds of the variables of a model
 

@@ -1,25 +1,21 @@
 // The fates of the flattened statements, in words 6 and 7 of their records in the area.
 ghost use mathlib.Core.Path.{_≡_};
-ghost use Prim.Native.Nat.{ℕ, _+_, _*_, _≤_, _<_};
+ghost use Prim.Native.Nat.{_+_, _*_, _≤_, _<_};
 ghost use lib.ListN.{length, take, drop, getD};
 ghost use Rattle.ast.specs.Words.{bytesOf};
 ghost use Rattle.ast.specs.Bytes.{put};
 ghost use Rattle.ast.specs.Encode.{encode};
 ghost use Rattle.area.specs.Sections.{Small, stmtsAt, varsAt, areaStmts, areaStmt};
-ghost use Rattle.definitions.specs.Numbers.{mostVariables, stmtLength};
-ghost use Rattle.builder.specs.Fating.{fateIn, queueIn, fatesIn, stillQueued, withFate, fated, FatesFrom, FatesIn, FateSources};
+ghost use Rattle.definitions.specs.Numbers.{stmtLength};
+ghost use Rattle.builder.specs.Fating.{fateIn, queueIn, fatesIn, stillQueued, withFate, fated, FateSources};
 use crate::allocation::pairing::has_role;
 use area::layout::FATE_AT;
 use area::layout::HELD_FATE;
 use area::layout::INITIAL_FATE;
 use area::layout::LEFT_OVER_FATE;
-use area::layout::MOST_VARS;
 use area::layout::REPLACED_FATE;
 use area::layout::STMT_BYTES;
-use area::layout::STMT_FATE;
-use area::layout::STMT_VARIABLE;
 use area::layout::VARIABLE_AT;
-use area::records::stmt_of;
 use area::sections::Sizes;
 use area::sections::stmts_at;
 use ast::words::put_word;
@@ -91,65 +87,5 @@ pub fn write_fates(area: &mut [u8], z: Sizes, roles: &[u32], states: &[u32], que
     while i < z.stmts {
         paired = write_fate(area, z, roles, states, queued, i, paired);
         i += 1;
-    }
-}
-
-// 0 for each variable.
-pub fn no_fates() -> [u32; MOST_VARS]
-    ensures { λ r. ⌜ (length r ≡ mostVariables) × ((v : ℕ) → getD r v 0 ≡ 0) ⌝ }
-{
-    [0u32; MOST_VARS]
-}
-
-// Adds statement i to the fates of those behind it.
-fn note_fate(
-    area: &[u8],
-    z: Sizes,
-    i: usize,
-    held: &mut [u32],
-    first: &mut [u32],
-    conditions: &mut [u32],
-)
-    requires { ⌜ Small z
-        × (varsAt z ≤ length (now area))
-        × (i < z .stmts)
-        × FatesFrom (i + 1) (areaStmts (now area) z) (now held) (now first) (now conditions) ⌝ }
-    ensures { λ _. ⌜ FatesFrom i (areaStmts (now (area .entry)) z) (now (held .exit)) (now (first .exit))
-        (now (conditions .exit)) ⌝ }
-{
-    let fate = stmt_of(area, z, i, STMT_FATE);
-    let v = stmt_of(area, z, i, STMT_VARIABLE);
-    if MOST_VARS <= v {
-        return;
-    }
-    if fate == HELD_FATE as usize {
-        held[v] = (i + 1) as u32;
-        return;
-    }
-    if fate == INITIAL_FATE as usize {
-        first[v] = (i + 1) as u32;
-        conditions[v] = conditions[v] + 1;
-    }
-}
-
-// The fates of all statements, from the last one on, in tables of zeros. Of each variable: the first statement that it
-// holds plus 1 or 0, its first initial condition plus 1 or 0, and how many it has.
-pub fn note_fates(
-    area: &[u8],
-    z: Sizes,
-    held: &mut [u32],
-    first: &mut [u32],
-    conditions: &mut [u32],
-)
-    requires { ⌜ Small z
-        × (varsAt z ≤ length (now area))
-        × FatesFrom (z .stmts) (areaStmts (now area) z) (now held) (now first) (now conditions) ⌝ }
-    ensures { λ _. ⌜ FatesIn (areaStmts (now (area .entry)) z) (now (held .exit)) (now (first .exit))
-        (now (conditions .exit)) ⌝ }
-{
-    let mut i = z.stmts;
-    while 0 < i {
-        i -= 1;
-        note_fate(area, z, i, held, first, conditions);
     }
 }

@@ -4,6 +4,7 @@ ghost use Prim.Native.Nat.{_+_, _≤_, _<_};
 ghost use lib.ListN.{length, take, drop};
 ghost use lib.Dec.{eqb};
 ghost use Rattle.functions.specs.Lists.{member, times, flag};
+ghost use Rattle.definitions.specs.Numbers.{mostVariables};
 ghost use Rattle.area.specs.Sections.{Small, depsAt};
 ghost use Rattle.builder.specs.Tables.{lacksIn, lackingIn};
 ghost use Rattle.builder.specs.Allocating.{statesIn};
@@ -56,7 +57,7 @@ pub struct Queue {
 }
 
 fn no_states() -> Queue
-    ensures { λ r. ⌜ (r .count ≡ 0) × (length (r .states) ≡ 129) ⌝ }
+    ensures { λ r. ⌜ (r .count ≡ 0) × (length (r .states) ≡ mostVariables) ⌝ }
 {
     Queue {
         count: 0,
@@ -77,7 +78,7 @@ fn lacks(roles: &[u32], area: &[u8], z: Sizes, v: usize) -> bool
 pub fn lacking(roles: &[u32], area: &[u8], z: Sizes) -> Queue
     requires { ⌜ (z .stmts ≤ length (now roles)) × Small z × (depsAt z ≤ length (now area)) ⌝ }
     ensures { λ r. ⌜ (r .count ≤ z .vars)
-        × (length (r .states) ≡ 129)
+        × (length (r .states) ≡ mostVariables)
         × (take (r .count) (r .states) ≡ lackingIn (take (z .stmts) (now (roles .entry)))
         (statesIn (now (area .entry)) z) (z .vars)) ⌝ }
 {

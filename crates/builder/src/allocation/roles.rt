@@ -1,19 +1,19 @@
 // What each flattened statement asks for, read back from the answer's area.
 ghost use mathlib.Core.Path.{_≡_};
 ghost use mathlib.Core.List.{[], _∷_, map};
-ghost use Prim.Native.Nat.{ℕ, suc, _+_, _-_, _*_, _^_, _≤_, _<_};
+ghost use Prim.Native.Nat.{ℕ, suc, _-_, _≤_, _<_};
 ghost use lib.ListN.{length, take, getD};
 ghost use Rattle.functions.specs.Lists.{any, unless, each};
 ghost use Rattle.ast.specs.Words.{wordOf, spanFrom};
 ghost use lib.Ieee.{eq};
 ghost use Rattle.ast.specs.Numbers.{numberOf};
-ghost use Rattle.ast.specs.Nodes.{nodeAt, kindAt, nameAt, opAt, spanAt, bitsAt};
-ghost use Rattle.area.specs.Sections.{Small, stmtsAt, varsAt, depsAt, areaNodes, areaStmt};
+ghost use Rattle.ast.specs.Nodes.{nameAt, opAt, spanAt, bitsAt};
+ghost use Rattle.area.specs.Sections.{Small, nodesEnd, varsAt, depsAt, areaNodes, areaStmt};
 ghost use lib.Dec.{eqb};
-ghost use Rattle.definitions.specs.Numbers.{wrongStart};
+ghost use Rattle.definitions.specs.Numbers.{mostNames, wrongStart};
 ghost use Rattle.definitions.specs.Variables.{error};
 ghost use Rattle.area.specs.Listing.{foundAs, Lists, Room};
-ghost use Rattle.builder.specs.Allocating.{flatIn, flatsIn, Flattened, Numbered, indexesIn, ratesIn, argNode, startAt, shortBy, startNumber, foundStart, StartFits, isShort, roleBy, CallFits, entryBy, startErrorsBy, rateErrorsBy, roleErrorsBy};
+ghost use Rattle.builder.specs.Allocating.{flatIn, flatsIn, Flattened, Numbered, indexesIn, ratesIn, argNode, startAt, shortBy, startNumber, foundStart, StartFits, isShort, roleBy, ArgIn, NumberIn, StartIn, entryBy, startErrorsBy, rateErrorsBy, roleErrorsBy};
 use crate::numbers::NAME_NOT_FOUND;
 use crate::numbers::RATE_INVALID;
 use crate::numbers::WRONG_START;
@@ -61,10 +61,7 @@ pub enum Start {
 
 // The node of argument number i of a call.
 fn arg_at(area: &[u8], z: Sizes, call: usize, i: usize) -> usize
-    requires { ⌜ ((names : ℕ) × Flattened names (now area) z)
-        × (call < z .nodes)
-        × (kindAt (areaNodes (now area) z) call ≡ 5)
-        × (i < opAt (areaNodes (now area) z) call) ⌝ }
+    requires { ⌜ ArgIn (now area) z call i ⌝ }
     ensures { λ r. ⌜ r ≡ argNode (areaNodes (now (area .entry)) z) i call
         (opAt (areaNodes (now (area .entry)) z) call) ⌝ }
 {
@@ -78,7 +75,7 @@ fn arg_at(area: &[u8], z: Sizes, call: usize, i: usize) -> usize
 }
 
 // What the expression at node i is as a left side.
-fn start_of(area: &[u8], z: Sizes, numbers: &[u32], i: usize) -> Start
+fn start_of(area: &[u8], z: Sizes, numbers: &[u16], i: usize) -> Start
     requires { ⌜ ((names : ℕ) × Flattened names (now area) z) × Numbered (now area) z (now numbers) × (i < z .nodes) ⌝ }
     ensures { λ r. ⌜ r ≡ startAt (areaNodes (now (area .entry)) z) (now (numbers .entry))
         (indexesIn (now (area .entry)) z) i ⌝ }
@@ -115,7 +112,7 @@ fn short_start(start: Start) -> bool
 }
 
 // Refusal 10, of statement i.
-fn is_short(area: &[u8], z: Sizes, numbers: &[u32], i: usize) -> bool
+fn is_short(area: &[u8], z: Sizes, numbers: &[u16], i: usize) -> bool
     requires { ⌜ ((names : ℕ) × Flattened names (now area) z) × Numbered (now area) z (now numbers) × (i < z .stmts) ⌝ }
     ensures { λ r. ⌜ r ≡ shortBy (now (numbers .entry)) (indexesIn (now (area .entry)) z)
         (flatIn (now (area .entry)) z i) ⌝ }
@@ -127,7 +124,7 @@ fn is_short(area: &[u8], z: Sizes, numbers: &[u32], i: usize) -> bool
 }
 
 // Refusal 10.
-pub fn any_short(area: &[u8], z: Sizes, numbers: &[u32]) -> bool
+pub fn any_short(area: &[u8], z: Sizes, numbers: &[u16]) -> bool
     requires { ⌜ ((names : ℕ) × Flattened names (now area) z) × Numbered (now area) z (now numbers) ⌝ }
     ensures { λ r. ⌜ r ≡ any (shortBy (now (numbers .entry)) (indexesIn (now (area .entry)) z))
         (flatsIn (now (area .entry)) z) ⌝ }
@@ -144,7 +141,7 @@ pub fn any_short(area: &[u8], z: Sizes, numbers: &[u32]) -> bool
 
 // The role of an equation by its left side, as a number.
 fn start_role(area: &[u8], z: Sizes, start: Start, lower: f64) -> u32
-    requires { ⌜ (40 + 32 * z .nodes ≤ length (now area)) × Small z × StartFits z start ⌝ }
+    requires { ⌜ (nodesEnd (z .nodes) ≤ length (now area)) × Small z × StartFits z start ⌝ }
     ensures { λ r. ⌜ ((f : ℕ) → r ≡ startNumber lower (foundStart (areaNodes (now (area .entry)) z) f start)) ⌝ }
 {
     match start {
@@ -172,7 +169,7 @@ fn takes_rate(area: &[u8], z: Sizes, v: usize) -> bool
 }
 
 // The role of statement i, as a number: 0 for neither, 2 v + 1 for an initial condition of v, 2 v + 2 for a rate equation that goes to v.
-fn allocate_stmt(area: &[u8], z: Sizes, numbers: &[u32], lower: f64, i: usize) -> u32
+fn allocate_stmt(area: &[u8], z: Sizes, numbers: &[u16], lower: f64, i: usize) -> u32
     requires { ⌜ ((names : ℕ) × Flattened names (now area) z) × Numbered (now area) z (now numbers) × (i < z .stmts) ⌝ }
     ensures { λ r. ⌜ r ≡ roleBy (now (numbers .entry)) (indexesIn (now (area .entry)) z)
         (ratesIn (now (area .entry)) z) lower (flatIn (now (area .entry)) z i) ⌝ }
@@ -192,7 +189,7 @@ fn allocate_stmt(area: &[u8], z: Sizes, numbers: &[u32], lower: f64, i: usize) -
 }
 
 // The roles of all statements.
-pub fn roles(area: &[u8], z: Sizes, numbers: &[u32], lower: f64) -> [u32; MOST_STMTS]
+pub fn roles(area: &[u8], z: Sizes, numbers: &[u16], lower: f64) -> [u32; MOST_STMTS]
     requires { ⌜ ((names : ℕ) × Flattened names (now area) z) × Numbered (now area) z (now numbers) ⌝ }
     ensures { λ r. ⌜ take (z .stmts) r ≡ map (roleBy (now (numbers .entry)) (indexesIn (now (area .entry)) z)
         (ratesIn (now (area .entry)) z) lower) (flatsIn (now (area .entry)) z) ⌝ }
@@ -219,10 +216,7 @@ fn stmt_error(area: &[u8], z: Sizes, i: usize, kind: u32, name: u32) -> Found
 
 // Error 12: the number of argument node `arg`, in time's place of a call, is another than time's lower bound.
 fn number_error(area: &[u8], z: Sizes, arg: usize, lower: f64, call: usize) -> Found
-    requires { ⌜ Small z
-        × (stmtsAt z ≤ length (now area))
-        × ((1 ≤ arg) × (arg < z .nodes))
-        × ((call < z .nodes) × (nameAt (areaNodes (now area) z) call < 256)) ⌝ }
+    requires { ⌜ NumberIn (now area) z arg call ⌝ }
     ensures { λ r. ⌜ foundAs r ≡ unless (eq (numberOf (bitsAt (areaNodes (now (area .entry)) z) (arg - 1))) lower)
         (error wrongStart (spanAt (areaNodes (now (area .entry)) z) arg)
         (suc (nameAt (areaNodes (now (area .entry)) z) call))) ⌝ }
@@ -241,10 +235,7 @@ fn number_error(area: &[u8], z: Sizes, arg: usize, lower: f64, call: usize) -> F
 
 // What is found wrong with an equation by its left side at node `call`.
 fn start_error(area: &[u8], z: Sizes, start: Start, lower: f64, call: usize) -> Found
-    requires { ⌜ Small z
-        × (stmtsAt z ≤ length (now area))
-        × (call < z .nodes)
-        × (StartFits z start × CallFits (areaNodes (now area) z) call start) ⌝ }
+    requires { ⌜ StartIn (now area) z call start ⌝ }
     ensures { λ r. ⌜ foundAs r ≡ startErrorsBy lower (foundStart (areaNodes (now (area .entry)) z)
         (nameAt (areaNodes (now (area .entry)) z) call) start) ⌝ }
 {
@@ -256,10 +247,10 @@ fn start_error(area: &[u8], z: Sizes, start: Start, lower: f64, call: usize) -> 
 }
 
 // What is found wrong with rate equation i: 5 where its name is no variable's, 13 where it may not go to the variable.
-fn rate_error(area: &[u8], z: Sizes, numbers: &[u32], i: usize) -> Found
+fn rate_error(area: &[u8], z: Sizes, numbers: &[u16], i: usize) -> Found
     requires { ⌜ Small z
         × (i < z .stmts)
-        × (wordOf (areaStmt (now area) z i) 1 < 256)
+        × (wordOf (areaStmt (now area) z i) 1 < mostNames)
         × Numbered (now area) z (now numbers) ⌝ }
     ensures { λ r. ⌜ foundAs r ≡ rateErrorsBy (ratesIn (now (area .entry)) z)
         (wordOf (areaStmt (now (area .entry)) z i) 1) (spanFrom (areaStmt (now (area .entry)) z i) 4)
@@ -277,7 +268,7 @@ fn rate_error(area: &[u8], z: Sizes, numbers: &[u32], i: usize) -> Found
 }
 
 // Which of the errors 12, 5 and 13 is found of statement i.
-fn role_error(area: &[u8], z: Sizes, numbers: &[u32], lower: f64, i: usize) -> Found
+fn role_error(area: &[u8], z: Sizes, numbers: &[u16], lower: f64, i: usize) -> Found
     requires { ⌜ ((names : ℕ) × Flattened names (now area) z) × Numbered (now area) z (now numbers) × (i < z .stmts) ⌝ }
     ensures { λ r. ⌜ foundAs r ≡ roleErrorsBy (now (numbers .entry)) (indexesIn (now (area .entry)) z)
         (ratesIn (now (area .entry)) z) lower (flatIn (now (area .entry)) z i) ⌝ }
@@ -294,7 +285,7 @@ fn role_error(area: &[u8], z: Sizes, numbers: &[u32], lower: f64, i: usize) -> F
 pub fn roles_errors(
     area: &[u8],
     z: Sizes,
-    numbers: &[u32],
+    numbers: &[u16],
     lower: f64,
     out: &mut [u8],
     count: usize,

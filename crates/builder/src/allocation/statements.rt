@@ -1,6 +1,6 @@
 // `allocate_stmts`: the fate of every flattened statement, by its role and by pairing.
 ghost use mathlib.Core.Path.{_≡_};
-ghost use Prim.Native.Nat.{ℕ, _≤_, _<_};
+ghost use Prim.Native.Nat.{ℕ};
 ghost use lib.Dec.{eqb};
 ghost use lib.ListN.{length};
 ghost use Rattle.functions.specs.Lists.{times};
@@ -28,7 +28,7 @@ fn paired(left: usize, states: usize) -> usize
     if left == states { states } else { 0 }
 }
 
-pub fn allocate_stmts(own: &mut [u8], z: Sizes, numbers: &[u32], lower: f64) -> Left
+pub fn allocate_stmts(own: &mut [u8], z: Sizes, numbers: &[u16], lower: f64) -> Left
     requires { ⌜ ((names : ℕ) × Flattened names (now own) z) × Numbered (now own) z (now numbers) ⌝ }
     ensures { λ r. ⌜ (r .stmts ≡ times (eqb 0) (rolesBy (now (own .entry)) z (now (numbers .entry)) lower))
         × (r .states ≡ length (lackingBy (now (own .entry)) z (now (numbers .entry)) lower))

@@ -4,7 +4,7 @@ ghost use lib.ListN.{length};
 ghost use Rattle.ast.specs.Opens.{fileIn};
 ghost use Rattle.definitions.specs.Flatten.{errorsOf};
 ghost use mathlib.Core.Path.{_≡_};
-ghost use Rattle.area.specs.Listing.{Lists, Room};
+ghost use Rattle.area.specs.Listing.{listLength, Lists, Room};
 ghost use Rattle.builder.specs.Checking as checking;
 ghost use Rattle.builder.specs.Root.{Erring, errorsBy};
 use crate::allocation::roles::roles_errors;
@@ -45,13 +45,13 @@ pub fn all_errors(
     classes: &[u8; MOST_NAMES],
     calls: &[u8; MOST_STMTS],
     area: &[u8],
-    numbers: &[u32],
+    numbers: &[u16],
     root: Root,
     left: Left,
     out: &mut [u8],
 ) -> usize
     requires { ⌜ Erring (now f) s (now classes) (now calls) (now area) (now numbers) (root .model) (root .sizes)
-        × (length (now out) ≡ 4096) ⌝ }
+        × (length (now out) ≡ listLength) ⌝ }
     ensures { λ r. ⌜ Lists (now (out .entry)) 0 (errorsBy (now (area .entry)) (root .sizes) (now (numbers .entry))
         (root .time .lower) (fileIn (now (f .entry)) s) (root .model) (left .stmts) (left .states)) r
         (now (out .exit)) ⌝ }

@@ -7,6 +7,7 @@ ghost use Rattle.functions.specs.Lists.{unless, each};
 ghost use Rattle.ast.specs.Records.{kindOfStmt, spanOfUnknown};
 ghost use Rattle.ast.specs.NodesIn.{nodesIn};
 ghost use Rattle.ast.specs.Opens.{Open, contentsIn, fileIn};
+ghost use Rattle.definitions.specs.Numbers.{mostModels, submodelKind};
 ghost use Rattle.definitions.specs.Variables.{error, domainErrors, unknownErrors};
 ghost use Rattle.definitions.specs.Check.{Scope};
 ghost use Rattle.definitions.specs.Flatten.{modelAt, orderErrors, errorsOf};
@@ -179,7 +180,7 @@ fn order_errors(b: &[u8], ns: Nodes, run: Run, out: &mut [u8], count: usize) -> 
 fn missing_error(f: &[u8], s: Sections, q: usize) -> Found
     requires { ⌜ Open (now f) s
         × (q < s .counts .stmts)
-        × (kindOfStmt (getD (contentsIn (now f) s .stmts) q []) ≡ 3) ⌝ }
+        × (kindOfStmt (getD (contentsIn (now f) s .stmts) q []) ≡ submodelKind) ⌝ }
     ensures { λ r. ⌜ foundAs r ≡ missingAt (now (f .entry)) s q ∷ [] ⌝ }
 {
     let from = stmt(f, s, q, STMT_FROM) as u32;
@@ -195,7 +196,7 @@ fn own_errors(
     s: Sections,
     classes: &[u8; MOST_NAMES],
     rules: &[u8; MOST_NAMES],
-    vars: &[u32; MOST_NAMES],
+    vars: &[u16; MOST_NAMES],
     m: usize,
     q: usize,
     out: &mut [u8],
@@ -203,7 +204,7 @@ fn own_errors(
 ) -> usize
     requires { ⌜ Against (now f) s m (now classes) (now rules) (now vars)
         × (q < s .counts .stmts)
-        × (kindOfStmt (getD (contentsIn (now f) s .stmts) q []) < 3)
+        × (kindOfStmt (getD (contentsIn (now f) s .stmts) q []) < submodelKind)
         × Room (now out) count (ownErrors (now f) s m q) ⌝ }
     ensures { λ r. ⌜ Lists (now (out .entry)) count (ownErrors (now (f .entry)) s m q) r (now (out .exit)) ⌝ }
 {
@@ -239,7 +240,7 @@ fn add_submodel(
 ) -> usize
     requires { ⌜ TablesRead (now f) s (now classes) (now rules) (now calls)
         × StmtAt s q k
-        × (kindOfStmt (getD (contentsIn (now f) s .stmts) q []) ≡ 3)
+        × (kindOfStmt (getD (contentsIn (now f) s .stmts) q []) ≡ submodelKind)
         × ((c : Scope) → Room (now out) count (errorsAt (now f) s k c q)) ⌝ }
     ensures { λ r. ⌜ ((c : Scope)
         → Lists (now (out .entry)) count (errorsAt (now (f .entry)) s k c q) r (now (out .exit))) ⌝ }
@@ -264,7 +265,7 @@ fn stmt_errors(
     classes: &[u8; MOST_NAMES],
     rules: &[u8; MOST_NAMES],
     calls: &[u8; MOST_STMTS],
-    vars: &[u32; MOST_NAMES],
+    vars: &[u16; MOST_NAMES],
     place: Place,
     out: &mut [u8],
     count: usize,
@@ -299,7 +300,7 @@ pub fn builder(
 ) -> usize
     requires { ⌜ TablesRead (now f) s (now classes) (now rules) (now calls)
         × (m < s .counts .models)
-        × (k ≤ 32)
+        × (k ≤ mostModels)
         × Room (now out) count (errorsOf (fileIn (now f) s) k m) ⌝ }
     ensures { λ r. ⌜ Lists (now (out .entry)) count (errorsOf (fileIn (now (f .entry)) s) k m) r (now (out .exit)) ⌝ }
 {

@@ -7,6 +7,7 @@ ghost use lib.Dec.{eqb};
 ghost use Rattle.functions.specs.Lists.{unless, isSome};
 ghost use Rattle.ast.specs.Nodes.{nameAt, spanAt, treeAt};
 ghost use Rattle.ast.specs.NodesIn.{nodesIn, NodesLie};
+ghost use Rattle.definitions.specs.Numbers.{mostNames};
 ghost use Rattle.definitions.specs.Variables.{error};
 ghost use Rattle.definitions.specs.Check.{lookup, hasKeyword, keywordErrors, exprErrors, argsErrors};
 ghost use Rattle.area.specs.Listing.{Lists, Room, foundAs};
@@ -131,7 +132,7 @@ fn arg_errors(
     b: &[u8],
     f: &[u8],
     at: Checked,
-    vars: &[u32; MOST_NAMES],
+    vars: &[u16; MOST_NAMES],
     variable: usize,
     run: Run,
     out: &mut [u8],
@@ -164,7 +165,7 @@ fn arg_errors(
 }
 
 // Whether a variable's entry says that it has `args` kept dependents.
-fn is_count(entry: u32, args: usize) -> bool
+fn is_count(entry: u16, args: usize) -> bool
     requires { ⌜ args < 2 ^ 32 ⌝ }
     ensures { λ r. ⌜ r ≡ eqb entry (args + 1) ⌝ }
 {
@@ -176,7 +177,7 @@ fn variable_errors(
     b: &[u8],
     f: &[u8],
     at: Checked,
-    vars: &[u32; MOST_NAMES],
+    vars: &[u16; MOST_NAMES],
     i: usize,
     out: &mut [u8],
     count: usize,
@@ -207,7 +208,7 @@ fn call_errors(
     at: Checked,
     classes: &[u8; MOST_NAMES],
     rules: &[u8; MOST_NAMES],
-    vars: &[u32; MOST_NAMES],
+    vars: &[u16; MOST_NAMES],
     i: usize,
     out: &mut [u8],
     count: usize,
@@ -230,8 +231,8 @@ fn call_errors(
 }
 
 // Error 5 of an expression that is a name: it has no entry.
-fn name_error(b: &[u8], ns: Nodes, vars: &[u32; MOST_NAMES], i: usize) -> Found
-    requires { ⌜ NodesLie ns (now b) × (i < ns .count) × (nameAt (nodesIn ns (now b)) i < 256) ⌝ }
+fn name_error(b: &[u8], ns: Nodes, vars: &[u16; MOST_NAMES], i: usize) -> Found
+    requires { ⌜ NodesLie ns (now b) × (i < ns .count) × (nameAt (nodesIn ns (now b)) i < mostNames) ⌝ }
     ensures { λ r. ⌜ foundAs r ≡ nameAbsent (nodesIn ns (now (b .entry))) (now (vars .entry)) i ⌝ }
 {
     let name = node_word(b, ns, i, NODE_NAME);
@@ -245,7 +246,7 @@ pub fn check_expr(
     at: Checked,
     classes: &[u8; MOST_NAMES],
     rules: &[u8; MOST_NAMES],
-    vars: &[u32; MOST_NAMES],
+    vars: &[u16; MOST_NAMES],
     i: usize,
     out: &mut [u8],
     count: usize,
@@ -288,7 +289,7 @@ fn check_args(
     at: Checked,
     classes: &[u8; MOST_NAMES],
     rules: &[u8; MOST_NAMES],
-    vars: &[u32; MOST_NAMES],
+    vars: &[u16; MOST_NAMES],
     run: Run,
     out: &mut [u8],
     count: usize,

@@ -1,9 +1,10 @@
 // The errors 14 to 17 of an answer: on the counts of statements and states, and on the states' initial conditions.
 ghost use mathlib.Core.List.{[], _∷_};
-ghost use Prim.Native.Nat.{_+_, _^_, _≤_, _<_};
-ghost use lib.ListN.{length};
+ghost use Prim.Native.Nat.{_+_, _≤_, _<_};
+ghost use lib.ListN.{getD};
+ghost use Rattle.functions.specs.Lists.{place, plusOne};
 ghost use Rattle.ast.specs.Opens.{Open, fileIn};
-ghost use Rattle.definitions.specs.Numbers.{algebraicInitialCondition};
+ghost use Rattle.definitions.specs.Numbers.{algebraicInitialCondition, initialFate};
 ghost use Rattle.definitions.specs.Variables.{error};
 ghost use Rattle.definitions.specs.Flatten.{modelAt};
 ghost use Rattle.definitions.specs.Allocate.{countErrors};
@@ -11,9 +12,8 @@ ghost use mathlib.Core.Path.{_≡_};
 ghost use Rattle.area.specs.Sections.{areaNodes, areaStmts};
 ghost use Rattle.area.specs.Listing.{foundAs, Lists};
 ghost use Rattle.builder.specs.Allocating.{namesIn};
-ghost use Rattle.builder.specs.Starting.{Righted, rightSpanIn, heldErrorsIn, startingIn};
-use crate::allocation::fates::no_fates;
-use crate::allocation::fates::note_fates;
+ghost use Rattle.builder.specs.Fating.{isFated};
+ghost use Rattle.builder.specs.Starting.{Righted, Conditions, rightSpanIn, stateErrorsIn, startingIn};
 use crate::allocation::statements::Left;
 use crate::numbers::ALGEBRAIC_INITIAL_CONDITION;
 use crate::numbers::NO_INITIAL_CONDITION;
@@ -22,6 +22,11 @@ use crate::numbers::UNDERDETERMINED;
 use area::errors::Found;
 use area::errors::list;
 use area::layout::HEADER_BYTES;
+use area::layout::INITIAL_FATE;
+use area::layout::STMT_FATE;
+use area::layout::STMT_VARIABLE;
+use area::layout::VAR_HELD;
+use area::layout::VAR_INITIAL;
 use area::layout::VAR_NAME;
 use area::records::stmt_of;
 use area::records::var_of;
@@ -75,36 +80,44 @@ fn condition_error(area: &[u8], z: Sizes, i: usize, name: u32) -> Found
     Found::Error(ALGEBRAIC_INITIAL_CONDITION, from, to, name)
 }
 
-// Errors 16 and 17 of a variable: `held` is the statement that it holds plus 1 or 0, `first` its first initial condition plus 1 or 0.
-fn state_error(
-    f: &[u8],
-    s: Sections,
-    m: usize,
-    area: &[u8],
-    z: Sizes,
-    name: u32,
-    held: usize,
-    first: usize,
-) -> Found
-    requires { ⌜ (Open (now f) s × (m < s .counts .models))
-        × Righted (now area) z
-        × ((held ≤ z .stmts) × (first ≤ z .stmts)) ⌝ }
-    ensures { λ r. ⌜ foundAs r ≡ heldErrorsIn (modelAt (fileIn (now (f .entry)) s) m .span)
-        (areaNodes (now (area .entry)) z) (areaStmts (now (area .entry)) z) name held first ⌝ }
+// The first initial condition of variable v, plus 1, or 0.
+fn first_condition(area: &[u8], z: Sizes, v: usize) -> usize
+    requires { ⌜ Righted (now area) z ⌝ }
+    ensures { λ r. ⌜ (r ≡ plusOne (place (isFated initialFate v) (areaStmts (now (area .entry)) z)))
+        × (r ≤ z .stmts) ⌝ }
 {
+    let mut i = 0;
+    while i < z.stmts {
+        let fate = stmt_of(area, z, i, STMT_FATE);
+        if (fate == INITIAL_FATE as usize) & (stmt_of(area, z, i, STMT_VARIABLE) == v) {
+            return i + 1;
+        }
+        i += 1;
+    }
+    0
+}
+
+// Errors 16 and 17 of variable v, by what its record says that it holds.
+fn state_error(f: &[u8], s: Sections, m: usize, area: &[u8], z: Sizes, v: usize) -> Found
+    requires { ⌜ Open (now f) s × (m < s .counts .models) × Righted (now area) z × (v < z .vars) ⌝ }
+    ensures { λ r. ⌜ foundAs r ≡ stateErrorsIn (modelAt (fileIn (now (f .entry)) s) m .span)
+        (areaNodes (now (area .entry)) z) (areaStmts (now (area .entry)) z)
+        (getD (namesIn (now (area .entry)) z) v 0) v ⌝ }
+{
+    let held = var_of(area, z, v, VAR_HELD) as usize;
     if held == 0 {
         return Found::Nothing;
     }
-    if stmt_of(area, z, held - 1, STMT_KIND) == RATE_KIND {
-        if first == 0 {
-            return model_error(f, s, m, NO_INITIAL_CONDITION, name);
-        }
+    let none = var_of(area, z, v, VAR_INITIAL) == 0;
+    let rate = stmt_of(area, z, held - 1, STMT_KIND) == RATE_KIND;
+    if rate & none {
+        return model_error(f, s, m, NO_INITIAL_CONDITION, var_of(area, z, v, VAR_NAME));
+    }
+    if rate | none {
         return Found::Nothing;
     }
-    if first == 0 {
-        return Found::Nothing;
-    }
-    condition_error(area, z, first - 1, name)
+    let first = first_condition(area, z, v);
+    condition_error(area, z, first - 1, var_of(area, z, v, VAR_NAME))
 }
 
 // Errors 16 and 17 of all variables.
@@ -117,28 +130,15 @@ pub fn starting_errors(
     out: &mut [u8],
     count: usize,
 ) -> usize
-    requires { ⌜ (Open (now f) s × (m < s .counts .models))
-        × Righted (now area) z
-        × ((4096 ≤ length (now out)) × (count + z .vars < 2 ^ 40)) ⌝ }
+    requires { ⌜ Conditions (now f) s m (now area) z (now out) count ⌝ }
     ensures { λ r. ⌜ Lists (now (out .entry)) count (startingIn (modelAt (fileIn (now (f .entry)) s) m .span)
         (areaNodes (now (area .entry)) z) (areaStmts (now (area .entry)) z) (namesIn (now (area .entry)) z) (z .vars)) r
         (now (out .exit)) ⌝ }
 {
-    let mut held = no_fates();
-    let mut first = no_fates();
-    let mut conditions = no_fates();
-    note_fates(area, z, &mut held, &mut first, &mut conditions);
     let mut listed = count;
     let mut v = 0;
     while v < z.vars {
-        let name = var_of(area, z, v, VAR_NAME);
-        let holds = held[v] as usize;
-        let starts = first[v] as usize;
-        listed = list(
-            out,
-            listed,
-            state_error(f, s, m, area, z, name, holds, starts),
-        );
+        listed = list(out, listed, state_error(f, s, m, area, z, v));
         v += 1;
     }
     listed

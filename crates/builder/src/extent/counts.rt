@@ -130,7 +130,7 @@ fn stmt_stmts(
 }
 
 // The nodes of statement q's own trees, read at a level, at most `most`.
-fn own_nodes(f: &[u8], s: Sections, rows: &[u32], level: usize, q: usize, most: usize) -> usize
+fn own_nodes(f: &[u8], s: Sections, rows: &[u16], level: usize, q: usize, most: usize) -> usize
     requires { ⌜ OwnAt (now f) s (now rows) level q ⌝ }
     ensures { λ r. ⌜ ((sub : ℕ → List Flat) → r ≡ atMost most
         (sumOf flatSize (broughtAt (now (f .entry)) s (now (rows .entry)) level sub q))) ⌝ }
@@ -152,7 +152,7 @@ pub fn flat_nodes(
     f: &[u8],
     s: Sections,
     calls: &[u8; MOST_STMTS],
-    rows: &mut [u32],
+    rows: &mut [u16],
     k: usize,
     m: usize,
     level: usize,
@@ -181,7 +181,7 @@ fn stmt_nodes(
     f: &[u8],
     s: Sections,
     calls: &[u8; MOST_STMTS],
-    rows: &mut [u32],
+    rows: &mut [u16],
     k: usize,
     q: usize,
     level: usize,

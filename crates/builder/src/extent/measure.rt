@@ -8,10 +8,8 @@ ghost use Rattle.builder.specs.Root.{forbiddenOf, sizeOf, measureOf, mea
 use crate::extent::counts::flat_nodes;
 use crate::extent::counts::flat_stmts;
 use crate::extent::counts::instances;
-use crate::models::reached::cyclic;
-use crate::models::reached::overfull;
+use crate::models::reached::any_reason;
 use crate::models::reached::reach;
-use crate::models::reached::self_listed;
 use crate::numbers::ARGUMENT_BEYOND;
 use crate::numbers::MODEL_CYCLE;
 use crate::numbers::OVER_MOST;
@@ -40,20 +38,20 @@ fn forbidden(
     ensures { λ r. ⌜ r ≡ forbiddenOf (fileIn (now (f .entry)) s) m ⌝ }
 {
     let table = reach(f, s, calls);
-    if cyclic(f, s, &table, m) {
+    if any_reason(f, s, classes, calls, &table, m, MODEL_CYCLE) {
         return MODEL_CYCLE;
     }
-    if self_listed(f, s, classes, &table, m) {
+    if any_reason(f, s, classes, calls, &table, m, SELF_LISTED_UNKNOWN) {
         return SELF_LISTED_UNKNOWN;
     }
-    if overfull(f, s, calls, &table, m) {
+    if any_reason(f, s, classes, calls, &table, m, ARGUMENT_BEYOND) {
         return ARGUMENT_BEYOND;
     }
     0
 }
 
 // Refusal 9, or the sizes.
-fn size(f: &[u8], s: Sections, calls: &[u8; MOST_STMTS], rows: &mut [u32], m: usize) -> Measured
+fn size(f: &[u8], s: Sections, calls: &[u8; MOST_STMTS], rows: &mut [u16], m: usize) -> Measured
     requires { ⌜ Linked (now f) s (now calls)
         × (m < s .counts .models)
         × RowsAt (now f) s (now rows) (s .counts .models) ⌝ }
@@ -82,7 +80,7 @@ pub fn measure(
     s: Sections,
     classes: &[u8; MOST_NAMES],
     calls: &[u8; MOST_STMTS],
-    rows: &mut [u32],
+    rows: &mut [u16],
     m: usize,
 ) -> Measured
     requires { ⌜ checking.Called (now f) s (now classes) (now calls)

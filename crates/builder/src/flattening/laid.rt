@@ -7,11 +7,12 @@ ghost use Rattle.ast.specs.Tree.{flatSize};
 ghost use Rattle.ast.specs.Bytes.{put};
 ghost use Rattle.ast.specs.Encode.{flatNodes, encode};
 ghost use Rattle.ast.specs.Opens.{fileIn};
-ghost use Rattle.definitions.specs.Numbers.{mostNames, mostStmts, mostModels, mostBytes};
+ghost use Rattle.definitions.specs.Numbers.{mostNames, mostStmts, mostModels, mostBytes, stmtLength};
+ghost use Rattle.area.specs.Sections.{nodesAt, nodesEnd};
 ghost use Rattle.builder.specs.Descent.{RowsAt};
 ghost use Rattle.builder.specs.Unfated.{unfated};
 ghost use Rattle.builder.specs.Root.{flatsOf};
-ghost use Rattle.builder.specs.Laying.{Laying};
+ghost use Rattle.builder.specs.Laying.{fewModels, Laying};
 use crate::flattening::nodes::write_nodes;
 use crate::flattening::records::Done;
 use crate::flattening::records::write_stmts;
@@ -19,22 +20,22 @@ use crate::numbers::FEW_ROWS;
 use crate::numbers::ROWS;
 use area::layout::HEADER_BYTES;
 use area::layout::MOST_BYTES;
+use area::sections::nodes_end;
 use ast::layout::MOST_STMTS;
-use ast::layout::NODE_BYTES;
 use ast::sections::Sections;
 
 // No replacements, for 32 models in one another.
-pub fn no_rows() -> [u32; ROWS]
+pub fn no_rows() -> [u16; ROWS]
     ensures { λ r. ⌜ (length r ≡ mostNames * mostModels) × ((n : ℕ) → getD r n 0 ≡ 0) ⌝ }
 {
-    [0u32; ROWS]
+    [0u16; ROWS]
 }
 
 // The same for 2 models.
-pub fn few_rows() -> [u32; FEW_ROWS]
-    ensures { λ r. ⌜ (length r ≡ mostNames * 2) × ((n : ℕ) → getD r n 0 ≡ 0) ⌝ }
+pub fn few_rows() -> [u16; FEW_ROWS]
+    ensures { λ r. ⌜ (length r ≡ mostNames * fewModels) × ((n : ℕ) → getD r n 0 ≡ 0) ⌝ }
 {
-    [0u32; FEW_ROWS]
+    [0u16; FEW_ROWS]
 }
 
 // An answer of the builder's own.
@@ -49,12 +50,12 @@ fn lay_nodes(
     f: &[u8],
     s: Sections,
     calls: &[u8; MOST_STMTS],
-    rows: &mut [u32],
+    rows: &mut [u16],
     m: usize,
     own: &mut [u8],
 )
     requires { ⌜ Laying (now f) s (now calls) (now rows) m × (length (now own) ≡ mostBytes) ⌝ }
-    ensures { λ _. ⌜ (now (own .exit) ≡ put (now (own .entry)) 40
+    ensures { λ _. ⌜ (now (own .exit) ≡ put (now (own .entry)) nodesAt
         (encode (each flatNodes (flatsOf (fileIn (now (f .entry)) s) m))))
         × RowsAt (now (f .entry)) s (now (rows .exit)) (s .counts .models) ⌝ }
 {
@@ -76,12 +77,12 @@ fn lay_stmts(
     f: &[u8],
     s: Sections,
     calls: &[u8; MOST_STMTS],
-    rows: &mut [u32],
+    rows: &mut [u16],
     m: usize,
     own: &mut [u8],
     at: usize,
 )
-    requires { ⌜ Laying (now f) s (now calls) (now rows) m × (at + 32 * mostStmts ≤ length (now own)) ⌝ }
+    requires { ⌜ Laying (now f) s (now calls) (now rows) m × (at + 4 * stmtLength * mostStmts ≤ length (now own)) ⌝ }
     ensures { λ _. ⌜ now (own .exit) ≡ put (now (own .entry)) at
         (encode (unfated 0 (flatsOf (fileIn (now (f .entry)) s) m))) ⌝ }
 {
@@ -104,7 +105,7 @@ pub fn lay_flats(
     f: &[u8],
     s: Sections,
     calls: &[u8; MOST_STMTS],
-    rows: &mut [u32],
+    rows: &mut [u16],
     m: usize,
     own: &mut [u8],
     n: usize,
@@ -112,10 +113,10 @@ pub fn lay_flats(
     requires { ⌜ Laying (now f) s (now calls) (now rows) m
         × (n ≡ sumOf flatSize (flatsOf (fileIn (now f) s) m))
         × (length (now own) ≡ mostBytes) ⌝ }
-    ensures { λ _. ⌜ now (own .exit) ≡ put (put (now (own .entry)) 40
-        (encode (each flatNodes (flatsOf (fileIn (now (f .entry)) s) m)))) (40 + 32 * n)
+    ensures { λ _. ⌜ now (own .exit) ≡ put (put (now (own .entry)) nodesAt
+        (encode (each flatNodes (flatsOf (fileIn (now (f .entry)) s) m)))) (nodesEnd n)
         (encode (unfated 0 (flatsOf (fileIn (now (f .entry)) s) m))) ⌝ }
 {
     lay_nodes(f, s, calls, rows, m, own);
-    lay_stmts(f, s, calls, rows, m, own, HEADER_BYTES + NODE_BYTES * n);
+    lay_stmts(f, s, calls, rows, m, own, nodes_end(n));
 }

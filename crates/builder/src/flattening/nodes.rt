@@ -6,6 +6,7 @@ ghost use lib.ListN.{length};
 ghost use Rattle.functions.specs.Lists.{each, sumOf};
 ghost use Rattle.ast.specs.Tree.{Flat, size, flatSize};
 ghost use Rattle.ast.specs.Bytes.{put};
+ghost use Rattle.ast.specs.NodesIn.{nodeBytes};
 ghost use Rattle.ast.specs.Encode.{nodes, flatNodes, encode};
 ghost use Rattle.ast.specs.Rows.{read};
 ghost use Rattle.ast.specs.Opens.{Open, contentsIn, fileIn};
@@ -34,7 +35,7 @@ use ast::subst::clone_and_subst;
 fn write_tree(
     f: &[u8],
     s: Sections,
-    rows: &[u32],
+    rows: &[u16],
     level: usize,
     i: usize,
     out: &mut [u8],
@@ -45,7 +46,7 @@ fn write_tree(
         × RowsAt (now f) s (now rows) level
         × NodesFit done (size (read (contentsIn (now f) s .nodes) (now rows) level i)) (length (now out)) ⌝ }
     ensures { λ r. ⌜ (r ≡ done + size (read (contentsIn (now (f .entry)) s .nodes) (now (rows .entry)) level i))
-        × (now (out .exit) ≡ put (now (out .entry)) (32 * done)
+        × (now (out .exit) ≡ put (now (out .entry)) (nodeBytes * done)
         (encode (nodes (read (contentsIn (now (f .entry)) s .nodes) (now (rows .entry)) level i)))) ⌝ }
 {
     let ns = Nodes {
@@ -62,7 +63,7 @@ fn write_tree(
 fn write_own(
     f: &[u8],
     s: Sections,
-    rows: &[u32],
+    rows: &[u16],
     level: usize,
     q: usize,
     out: &mut [u8],
@@ -73,7 +74,7 @@ fn write_own(
         (length (now out))) ⌝ }
     ensures { λ r. ⌜ ((sub : ℕ → List Flat) → (r ≡ done + sumOf flatSize
         (broughtAt (now (f .entry)) s (now (rows .entry)) level sub q))
-        × (now (out .exit) ≡ put (now (out .entry)) (32 * done)
+        × (now (out .exit) ≡ put (now (out .entry)) (nodeBytes * done)
         (encode (each flatNodes (broughtAt (now (f .entry)) s (now (rows .entry)) level sub q))))) ⌝ }
 {
     let right = stmt(f, s, q, STMT_RIGHT);
@@ -89,7 +90,7 @@ pub fn write_nodes(
     f: &[u8],
     s: Sections,
     calls: &[u8; MOST_STMTS],
-    rows: &mut [u32],
+    rows: &mut [u16],
     k: usize,
     m: usize,
     level: usize,
@@ -101,7 +102,7 @@ pub fn write_nodes(
         × RowsAt (now f) s (now rows) (level + k)
         × NodesFit done (sumOf flatSize (flatAt (now f) s (now rows) level k m)) (length (now out)) ⌝ }
     ensures { λ r. ⌜ (r ≡ done + sumOf flatSize (flatAt (now (f .entry)) s (now (rows .entry)) level k m))
-        × (now (out .exit) ≡ put (now (out .entry)) (32 * done)
+        × (now (out .exit) ≡ put (now (out .entry)) (nodeBytes * done)
         (encode (each flatNodes (flatAt (now (f .entry)) s (now (rows .entry)) level k m))))
         × RowsKept (now (f .entry)) s level (now (rows .entry)) (now (rows .exit)) ⌝ }
 {
@@ -124,7 +125,7 @@ fn write_stmt_nodes(
     f: &[u8],
     s: Sections,
     calls: &[u8; MOST_STMTS],
-    rows: &mut [u32],
+    rows: &mut [u16],
     k: usize,
     q: usize,
     level: usize,
@@ -138,7 +139,7 @@ fn write_stmt_nodes(
         (length (now out)) ⌝ }
     ensures { λ r. ⌜ (r ≡ done + sumOf flatSize (broughtAt (now (f .entry)) s (now (rows .entry)) level
         (λ j. flatten (fileIn (now (f .entry)) s) k j) q))
-        × (now (out .exit) ≡ put (now (out .entry)) (32 * done)
+        × (now (out .exit) ≡ put (now (out .entry)) (nodeBytes * done)
         (encode (each flatNodes (broughtAt (now (f .entry)) s (now (rows .entry)) level
         (λ j. flatten (fileIn (now (f .entry)) s) k j) q))))
         × RowsKept (now (f .entry)) s level (now (rows .entry)) (now (rows .exit)) ⌝ }

@@ -7,7 +7,7 @@ ghost use Rattle.ast.specs.Tree.{Flat};
 ghost use Rattle.ast.specs.Words.{bytesOf};
 ghost use Rattle.ast.specs.Bytes.{put};
 ghost use Rattle.ast.specs.Opens.{fileIn};
-ghost use Rattle.definitions.specs.Numbers.{mostStmts};
+ghost use Rattle.definitions.specs.Numbers.{mostStmts, stmtLength};
 ghost use Rattle.definitions.specs.Flatten.{flatten};
 ghost use Rattle.builder.specs.Descent.{flatAt, broughtAt, RowsAt, RowsKept, Linked, OwnAt};
 ghost use Rattle.builder.specs.Unfated.{RecordsFit, Recorded};
@@ -50,8 +50,8 @@ fn record_behind(
     from: u32,
     to: u32,
 )
-    requires { ⌜ (count < mostStmts) × (32 * count + 32 ≤ length (now out)) ⌝ }
-    ensures { λ _. ⌜ now (out .exit) ≡ put (now (out .entry)) (32 * count)
+    requires { ⌜ (count < mostStmts) × (4 * stmtLength * count + 4 * stmtLength ≤ length (now out)) ⌝ }
+    ensures { λ _. ⌜ now (out .exit) ≡ put (now (out .entry)) (4 * stmtLength * count)
         (bytesOf (kind ∷ name ∷ left ∷ right ∷ from ∷ to ∷ 0 ∷ 0 ∷ [])) ⌝ }
 {
     let start = STMT_BYTES * count;
@@ -62,7 +62,7 @@ fn record_behind(
 fn write_record(
     f: &[u8],
     s: Sections,
-    rows: &[u32],
+    rows: &[u16],
     level: usize,
     q: usize,
     out: &mut [u8],
@@ -118,7 +118,7 @@ pub fn write_stmts(
     f: &[u8],
     s: Sections,
     calls: &[u8; MOST_STMTS],
-    rows: &mut [u32],
+    rows: &mut [u16],
     k: usize,
     m: usize,
     level: usize,
@@ -152,7 +152,7 @@ fn write_stmt(
     f: &[u8],
     s: Sections,
     calls: &[u8; MOST_STMTS],
-    rows: &mut [u32],
+    rows: &mut [u16],
     k: usize,
     q: usize,
     level: usize,

@@ -41,7 +41,7 @@ fn target(f: &[u8], s: Sections, m: usize, i: usize, keyword: usize) -> usize
 }
 
 // Clears the first n entries.
-fn clear_row(row: &mut [u32], n: usize)
+fn clear_row(row: &mut [u16], n: usize)
     requires { ⌜ n ≤ length (now row) ⌝ }
     ensures { λ _. ⌜ now (row .exit) ≡ front (now (row .entry)) (replicate n 0) ⌝ }
 {
@@ -53,7 +53,7 @@ fn clear_row(row: &mut [u32], n: usize)
 }
 
 // Sets an entry that is still 0.
-fn set_free(row: &mut [u32], j: usize, value: u32)
+fn set_free(row: &mut [u16], j: usize, value: u16)
     requires { ⌜ j < length (now row) ⌝ }
     ensures { λ _. ⌜ now (row .exit) ≡ cond (eqb (getD (now (row .entry)) j 0) 0) (set (now (row .entry)) j value)
         (now (row .entry)) ⌝ }
@@ -64,7 +64,7 @@ fn set_free(row: &mut [u32], j: usize, value: u32)
 }
 
 // Notes what argument number i, node end - 1, replaces in model m, unless a later one replaces the same.
-fn note_argument(f: &[u8], s: Sections, m: usize, i: usize, end: usize, row: &mut [u32])
+fn note_argument(f: &[u8], s: Sections, m: usize, i: usize, end: usize, row: &mut [u16])
     requires { ⌜ Open (now f) s × (m < s .counts .models) × ArgumentBefore (now f) s end × RowIn (now f) s (now row) ⌝ }
     ensures { λ _. ⌜ RowIn (now (f .entry)) s (now (row .exit))
         × ((by : Replacements) (n : ℕ) → over (contentsIn (now (f .entry)) s .nodes) (now (row .exit)) by n
@@ -75,12 +75,12 @@ fn note_argument(f: &[u8], s: Sections, m: usize, i: usize, end: usize, row: &mu
 {
     let name = target(f, s, m, i, node(f, s, end - 1, NODE_NAME));
     if name != 0 {
-        set_free(row, name - 1, (end - 1) as u32);
+        set_free(row, name - 1, (end - 1) as u16);
     }
 }
 
 // Notes what the arguments of a call replace in model m, the last argument first: the later wins.
-fn fill_row(f: &[u8], s: Sections, m: usize, call: usize, row: &mut [u32])
+fn fill_row(f: &[u8], s: Sections, m: usize, call: usize, row: &mut [u16])
     requires { ⌜ ModelCall (now f) s m call × (length (now row) ≡ mostNames) × ((n : ℕ) → getD (now row) n 0 ≡ 0) ⌝ }
     ensures { λ _. ⌜ RowIn (now (f .entry)) s (now (row .exit))
         × ((n : ℕ) → byTable (contentsIn (now (f .entry)) s .nodes) (now (row .exit)) n
@@ -96,7 +96,7 @@ fn fill_row(f: &[u8], s: Sections, m: usize, call: usize, row: &mut [u32])
 }
 
 // The replacements of a call as a row, whatever it held of the names.
-fn new_row(f: &[u8], s: Sections, m: usize, call: usize, row: &mut [u32])
+fn new_row(f: &[u8], s: Sections, m: usize, call: usize, row: &mut [u16])
     requires { ⌜ ModelCall (now f) s m call × RowIn (now f) s (now row) ⌝ }
     ensures { λ _. ⌜ RowIn (now (f .entry)) s (now (row .exit))
         × ((n : ℕ) → byTable (contentsIn (now (f .entry)) s .nodes) (now (row .exit)) n
@@ -112,7 +112,7 @@ pub fn find_replacements(
     s: Sections,
     m: usize,
     call: usize,
-    rows: &mut [u32],
+    rows: &mut [u16],
     level: usize,
 )
     requires { ⌜ ModelCall (now f) s m call × RowsAt (now f) s (now rows) (level + 1) ⌝ }

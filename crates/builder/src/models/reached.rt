@@ -1,21 +1,24 @@
 // The models reached from the root, and the refusals 6, 7 and 8 among them.
 ghost use mathlib.Core.Path.{_≡_};
 ghost use mathlib.Core.Bool.{cond, _||_};
-ghost use Prim.Native.Nat.{_+_, _-_, _≤_, _<_};
+ghost use Prim.Native.Nat.{_+_, _-_, _<_};
 ghost use lib.Dec.{eqb};
-ghost use lib.ListN.{length, take, drop};
-ghost use Rattle.functions.specs.Lists.{any, member};
+ghost use lib.ListN.{length};
+ghost use Rattle.functions.specs.Lists.{any};
 ghost use Rattle.ast.specs.Nodes.{kindAt, opAt, sizeAt, argsBefore};
 ghost use Rattle.ast.specs.Opens.{Open, contentsIn, fileIn};
 ghost use Rattle.definitions.specs.Numbers.{callKind};
 ghost use Rattle.definitions.specs.Flatten as flatten;
 ghost use Rattle.builder.specs.Tables.{Classes, Callees, ReachedIn};
-ghost use Rattle.builder.specs.Checking.{unknownIn, stmtIn};
-ghost use Rattle.builder.specs.Rounds.{modelPairs, onward, Added, Stepped, RoundOf, RowsOf};
+ghost use Rattle.builder.specs.Checking.{Called, unknownIn, stmtIn};
+ghost use Rattle.builder.specs.Rounds.{modelPairs, onward, Added, Stepped, RoundOf, RowsOf, isReason, anyReason};
+use crate::models::scope::names_dep;
 use crate::names::is_reserved;
 use crate::names::is_time;
+use crate::numbers::MODEL_CYCLE;
 use crate::numbers::MODEL_PAIRS;
 use crate::numbers::NEXT_DIAGONAL;
+use crate::numbers::SELF_LISTED_UNKNOWN;
 use ast::layout::MODEL_FIRST_STMT;
 use ast::layout::MODEL_FIRST_UNKNOWN;
 use ast::layout::MODEL_STMTS;
@@ -27,10 +30,7 @@ use ast::layout::NODE_NAME;
 use ast::layout::NODE_OP;
 use ast::layout::NODE_SIZE;
 use ast::layout::STMT_RIGHT;
-use ast::layout::UNKNOWN_DEPS;
-use ast::layout::UNKNOWN_FIRST_DEP;
 use ast::layout::UNKNOWN_NAME;
-use ast::records::dep;
 use ast::records::model;
 use ast::records::node;
 use ast::records::stmt;
@@ -140,36 +140,6 @@ fn is_reached(f: &[u8], s: Sections, table: &[u8; MODEL_PAIRS], root: usize, m: 
     (m == root) | (table[MOST_MODELS * root + m] == 1)
 }
 
-// Refusal 6: a model is reached from itself.
-pub fn cyclic(f: &[u8], s: Sections, table: &[u8; MODEL_PAIRS], root: usize) -> bool
-    requires { ⌜ Open (now f) s × ReachedIn (now f) s (now table) × (root < s .counts .models) ⌝ }
-    ensures { λ r. ⌜ r ≡ flatten.cyclic (fileIn (now (f .entry)) s) root ⌝ }
-{
-    let mut m = s.counts.models;
-    while 0 < m {
-        if is_reached(f, s, table, root, m - 1) & (table[NEXT_DIAGONAL * (m - 1)] == 1) {
-            return true;
-        }
-        m -= 1;
-    }
-    false
-}
-
-// Whether a name stands among dependents.
-fn lists(f: &[u8], s: Sections, first: usize, count: usize, name: usize) -> bool
-    requires { ⌜ Open (now f) s × (first + count ≤ s .counts .deps) ⌝ }
-    ensures { λ r. ⌜ r ≡ member name (take count (drop first (contentsIn (now (f .entry)) s .deps))) ⌝ }
-{
-    let mut i = 0;
-    while i < count {
-        if dep(f, s, first + i) == name {
-            return true;
-        }
-        i += 1;
-    }
-    false
-}
-
 // Whether unknown u, t or unreserved, lists itself.
 fn lists_itself(f: &[u8], s: Sections, classes: &[u8; MOST_NAMES], u: usize) -> bool
     requires { ⌜ Open (now f) s × Classes (fileIn (now f) s .names) (now classes) × (u < s .counts .unknowns) ⌝ }
@@ -177,14 +147,7 @@ fn lists_itself(f: &[u8], s: Sections, classes: &[u8; MOST_NAMES], u: usize) -> 
 {
     let name = unknown(f, s, u, UNKNOWN_NAME);
     let class = classes[name];
-    (is_time(class) | !is_reserved(class))
-        & lists(
-            f,
-            s,
-            unknown(f, s, u, UNKNOWN_FIRST_DEP),
-            unknown(f, s, u, UNKNOWN_DEPS),
-            name,
-        )
+    (is_time(class) | !is_reserved(class)) & names_dep(f, s, u, name)
 }
 
 // Whether an unknown of model m does.
@@ -201,30 +164,6 @@ fn model_lists_itself(f: &[u8], s: Sections, classes: &[u8; MOST_NAMES], m: usiz
             return true;
         }
         i += 1;
-    }
-    false
-}
-
-// Refusal 7: an unknown that is t or unreserved lists itself.
-pub fn self_listed(
-    f: &[u8],
-    s: Sections,
-    classes: &[u8; MOST_NAMES],
-    table: &[u8; MODEL_PAIRS],
-    root: usize,
-) -> bool
-    requires { ⌜ Open (now f) s
-        × Classes (fileIn (now f) s .names) (now classes)
-        × ReachedIn (now f) s (now table)
-        × (root < s .counts .models) ⌝ }
-    ensures { λ r. ⌜ r ≡ flatten.selfListed (fileIn (now (f .entry)) s) root ⌝ }
-{
-    let mut m = s.counts.models;
-    while 0 < m {
-        if is_reached(f, s, table, root, m - 1) & model_lists_itself(f, s, classes, m - 1) {
-            return true;
-        }
-        m -= 1;
     }
     false
 }
@@ -282,23 +221,51 @@ fn model_too_many(f: &[u8], s: Sections, calls: &[u8; MOST_STMTS], m: usize) -> 
     false
 }
 
-// Refusal 8: a positional argument whose number is not below the model's count of unknowns.
-pub fn overfull(
+// Whether model m is a reason for a refusal: 6 where it is reached from itself, 7 where an unknown of it lists itself, else 8, where a
+// statement of it has an argument beyond its model's unknowns.
+fn is_reason(
     f: &[u8],
     s: Sections,
+    classes: &[u8; MOST_NAMES],
+    calls: &[u8; MOST_STMTS],
+    table: &[u8; MODEL_PAIRS],
+    m: usize,
+    refusal: u32,
+) -> bool
+    requires { ⌜ Called (now f) s (now classes) (now calls)
+        × ReachedIn (now f) s (now table)
+        × (m < s .counts .models) ⌝ }
+    ensures { λ r. ⌜ r ≡ isReason (fileIn (now (f .entry)) s) refusal m ⌝ }
+{
+    if refusal == MODEL_CYCLE {
+        return table[NEXT_DIAGONAL * m] == 1;
+    }
+    if refusal == SELF_LISTED_UNKNOWN {
+        return model_lists_itself(f, s, classes, m);
+    }
+    model_too_many(f, s, calls, m)
+}
+
+// Whether a model, the root or reached from it, is a reason for a refusal.
+pub fn any_reason(
+    f: &[u8],
+    s: Sections,
+    classes: &[u8; MOST_NAMES],
     calls: &[u8; MOST_STMTS],
     table: &[u8; MODEL_PAIRS],
     root: usize,
+    refusal: u32,
 ) -> bool
-    requires { ⌜ Open (now f) s
-        × Callees (now f) s (now calls)
+    requires { ⌜ Called (now f) s (now classes) (now calls)
         × ReachedIn (now f) s (now table)
         × (root < s .counts .models) ⌝ }
-    ensures { λ r. ⌜ r ≡ flatten.overfull (fileIn (now (f .entry)) s) root ⌝ }
+    ensures { λ r. ⌜ r ≡ anyReason (fileIn (now (f .entry)) s) root refusal ⌝ }
 {
     let mut m = s.counts.models;
     while 0 < m {
-        if is_reached(f, s, table, root, m - 1) & model_too_many(f, s, calls, m - 1) {
+        if is_reached(f, s, table, root, m - 1)
+            & is_reason(f, s, classes, calls, table, m - 1, refusal)
+        {
             return true;
         }
         m -= 1;

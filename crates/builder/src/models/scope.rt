@@ -29,7 +29,7 @@ use ast::records::unknown;
 use ast::sections::Sections;
 
 // Whether a name is among the dependents of unknown u.
-fn names_dep(f: &[u8], s: Sections, u: usize, name: usize) -> bool
+pub fn names_dep(f: &[u8], s: Sections, u: usize, name: usize) -> bool
     requires { ⌜ Open (now f) s × (u < s .counts .unknowns) ⌝ }
     ensures { λ r. ⌜ r ≡ member name (unknownIn (now (f .entry)) s u .deps) ⌝ }
 {
@@ -49,7 +49,7 @@ fn names_dep(f: &[u8], s: Sections, u: usize, name: usize) -> bool
 pub fn is_dep_of(
     f: &[u8],
     s: Sections,
-    vars: &[u32; MOST_NAMES],
+    vars: &[u16; MOST_NAMES],
     m: usize,
     variable: usize,
     name: usize,
@@ -75,15 +75,16 @@ pub fn is_dep_of(
     false
 }
 
-// A table without marks.
-pub fn no_marks() -> [u32; MOST_NAMES]
+// A table by name without marks. An entry has 16 bits: 1 plus a count of kept dependents is at most 1,025, 1 plus a
+// number of the root's variables at most 129.
+pub fn no_marks() -> [u16; MOST_NAMES]
     ensures { λ r. ⌜ Blank mostNames r ⌝ }
 {
-    [0u32; MOST_NAMES]
+    [0u16; MOST_NAMES]
 }
 
 // Marks t's name, in a table without marks.
-fn time_declared(f: &[u8], s: Sections, classes: &[u8; MOST_NAMES], out: &mut [u32])
+fn time_declared(f: &[u8], s: Sections, classes: &[u8; MOST_NAMES], out: &mut [u16])
     requires { ⌜ Open (now f) s × Classes (fileIn (now f) s .names) (now classes) × Blank mostNames (now out) ⌝ }
     ensures { λ _. ⌜ Marks (s .counts .names) (timeName (fileIn (now (f .entry)) s .names) ∷ []) (now (out .exit)) ⌝ }
 {
@@ -94,14 +95,14 @@ fn time_declared(f: &[u8], s: Sections, classes: &[u8; MOST_NAMES], out: &mut [u
 }
 
 // The mark of an unknown's name: as it was where the name is reserved, else 1.
-fn marked(old: u32, reserved: bool) -> u32
+fn marked(old: u16, reserved: bool) -> u16
     ensures { λ r. ⌜ r ≡ cond reserved old 1 ⌝ }
 {
     if reserved { old } else { 1 }
 }
 
 // Marks the variables of model m, in a table without marks: t, and each unreserved unknown's name.
-fn declared(f: &[u8], s: Sections, classes: &[u8; MOST_NAMES], m: usize, out: &mut [u32])
+fn declared(f: &[u8], s: Sections, classes: &[u8; MOST_NAMES], m: usize, out: &mut [u16])
     requires { ⌜ ClassedModel (now f) s (now classes) m × Blank mostNames (now out) ⌝ }
     ensures { λ _. ⌜ Marks (s .counts .names) (variableNames (fileIn (now (f .entry)) s .names)
         (modelAt (fileIn (now (f .entry)) s) m .unknowns)) (now (out .exit)) ⌝ }
@@ -118,20 +119,20 @@ fn declared(f: &[u8], s: Sections, classes: &[u8; MOST_NAMES], m: usize, out: &m
 }
 
 // 1 where an entry is not 0.
-fn one_kept(entry: u32) -> u32
+fn one_kept(entry: u16) -> u16
     ensures { λ r. ⌜ r ≡ flag (not (eqb entry 0)) ⌝ }
 {
     if entry == 0 { 0 } else { 1 }
 }
 
 // How many of unknown u's dependents are variables.
-fn kept_count(f: &[u8], s: Sections, vars: &[u32], u: usize) -> u32
+fn kept_count(f: &[u8], s: Sections, vars: &[u16], u: usize) -> u16
     requires { ⌜ Open (now f) s × (u < s .counts .unknowns) × (length (now vars) ≡ mostNames) ⌝ }
     ensures { λ r. ⌜ (r ≡ keptIn (now (vars .entry)) (unknownIn (now (f .entry)) s u .deps)) × (r ≤ mostDeps) ⌝ }
 {
     let first = unknown(f, s, u, UNKNOWN_FIRST_DEP);
     let count = unknown(f, s, u, UNKNOWN_DEPS);
-    let mut total: u32 = 0;
+    let mut total: u16 = 0;
     let mut i = 0;
     while i < count {
         total += one_kept(vars[dep(f, s, first + i)]);
@@ -141,8 +142,8 @@ fn kept_count(f: &[u8], s: Sections, vars: &[u32], u: usize) -> u32
 }
 
 // The entry of a name with more kept dependents: 0 stays 0.
-fn raised(entry: u32, kept: u32) -> u32
-    requires { ⌜ entry + kept < 2 ^ 32 ⌝ }
+fn raised(entry: u16, kept: u16) -> u16
+    requires { ⌜ entry + kept < 2 ^ 16 ⌝ }
     ensures { λ r. ⌜ r ≡ cond (eqb entry 0) 0 (entry + kept) ⌝ }
 {
     if entry == 0 {
@@ -153,7 +154,7 @@ fn raised(entry: u32, kept: u32) -> u32
 
 // Notes the variables of model m by name, in a table without marks: 0 where a name is none, else 1 plus the count of
 // its kept dependents.
-pub fn model_vars(f: &[u8], s: Sections, classes: &[u8; MOST_NAMES], m: usize, out: &mut [u32])
+pub fn model_vars(f: &[u8], s: Sections, classes: &[u8; MOST_NAMES], m: usize, out: &mut [u16])
     requires { ⌜ ClassedModel (now f) s (now classes) m × Blank mostNames (now out) ⌝ }
     ensures { λ _. ⌜ VarsOf (scopeIn (now (f .entry)) s m) (now (out .exit))
         × (length (now (out .exit)) ≡ mostNames) ⌝ }

@@ -1,30 +1,30 @@
-// The answer area's variables and header.
+// The records of the root's variables and the header.
 ghost use mathlib.Core.Path.{_≡_};
-ghost use mathlib.Core.List.{[], _++_};
-ghost use Prim.Native.Nat.{_+_, _*_, _^_, _≤_, _<_};
+ghost use mathlib.Core.List.{_++_};
+ghost use Prim.Native.Nat.{_+_, _*_, _≤_, _<_};
 ghost use lib.ListN.{length, drop, getD};
-ghost use Rattle.functions.specs.Lists.{flag};
+ghost use Rattle.functions.specs.Lists.{each, flag};
 ghost use Rattle.ast.specs.Words.{bytesOf};
 ghost use Rattle.ast.specs.Bytes.{put};
 ghost use Rattle.ast.specs.Encode.{encode};
-ghost use Rattle.ast.specs.Opens.{Open, fileIn};
-ghost use Rattle.definitions.specs.Variables.{fromZero, lastBounds};
+ghost use Rattle.ast.specs.Opens.{fileIn};
+ghost use Rattle.definitions.specs.Numbers.{mostDeps, variableLength};
+ghost use Rattle.definitions.specs.Variables.{fromZero, lastBounds, at};
 ghost use Rattle.definitions.specs.Flatten.{modelAt};
-ghost use Rattle.area.specs.Sections.{Small, varsAt, depsAt, areaStmts, areaVars};
-ghost use Rattle.builder.specs.Bounding.{Floating, Bounded};
-ghost use Rattle.builder.specs.Allocating.{namesIn};
 ghost use Rattle.definitions.specs.Answer.{boundsWords};
-ghost use Rattle.builder.specs.VarRecords.{VarTables, LeadOf, leadWords, varBounds, varRecords, withHeld, heldFrom, headWords};
-use crate::allocation::fates::no_fates;
-use crate::allocation::fates::note_fates;
+ghost use Rattle.area.specs.Sections.{Small, varsAt, depsAt};
+ghost use Rattle.builder.specs.VariableTables.{wordsFrom, Numbered};
+ghost use Rattle.builder.specs.Bounding.{Bounded};
+ghost use Rattle.builder.specs.Allocating.{namesIn};
+ghost use Rattle.builder.specs.VarRecords.{isTime, LeadOf, leadWords, varBounds, unheldWords, untimedRecords, Headed, headWords};
+ghost use Rattle.builder.specs.Root.{scopeAt, VarsNamed, VarNext};
 use crate::root::Root;
 use crate::variables::bounds::put_time_bounds;
 use crate::variables::bounds::put_var_bounds;
+use crate::variables::roster::set_dependents;
 use crate::variables::roster::time_index;
 use area::header::put_counts;
 use area::layout::BOUNDS_AT;
-use area::layout::HELD_AT;
-use area::layout::INITIAL_AT;
 use area::layout::TIME_AT;
 use area::layout::VAR_BYTES;
 use area::layout::VAR_NAME;
@@ -33,9 +33,9 @@ use area::records::var_of;
 use area::sections::Sizes;
 use area::sections::deps_at;
 use area::sections::vars_at;
+use ast::layout::MOST_NAMES;
 use ast::sections::Sections;
 use ast::words::put_record;
-use ast::words::put_word;
 
 // 1 for true.
 fn flag_of(b: bool) -> u32
@@ -77,7 +77,7 @@ fn put_lead(area: &mut [u8], at: usize, lead: Lead)
 }
 
 // Writes the record of variable v at a place.
-fn write_var(
+fn put_variable(
     f: &[u8],
     s: Sections,
     classes: &[u8],
@@ -87,7 +87,9 @@ fn write_var(
     v: usize,
     lead: Lead,
 )
-    requires { ⌜ Bounded (now f) s (now classes) m × (at + 48 ≤ length (now area)) × (lead .first ≤ lead .end) ⌝ }
+    requires { ⌜ Bounded (now f) s (now classes) m
+        × (at + 4 * variableLength ≤ length (now area))
+        × (lead .first ≤ lead .end) ⌝ }
     ensures { λ _. ⌜ now (area .exit) ≡ put (now (area .entry)) at
         (bytesOf (leadWords (lead .name) (lead .first) (lead .end) (lead .index) (lead .time) ++ boundsWords
         (varBounds (fileIn (now (f .entry)) s .names) (modelAt (fileIn (now (f .entry)) s) m .unknowns) v
@@ -106,92 +108,82 @@ fn write_var(
     );
 }
 
-// What the record of variable v says, by the tables and the dependents in the area.
-fn lead_of(area: &[u8], z: Sizes, v: usize, names: &[u32], starts: &[u32], reach: &[u8]) -> Lead
-    requires { ⌜ Small z
-        × (depsAt z ≤ length (now area))
-        × (v < z .vars)
-        × VarTables (z .vars) (now names) (now starts) (now reach) (drop (depsAt z) (now area)) ⌝ }
-    ensures { λ r. ⌜ LeadOf r (now (names .entry)) (now (starts .entry)) (now (reach .entry))
-        (drop (depsAt z) (now (area .entry))) v ⌝ }
+// What the record of variable v says, whose name (plus 1) is given, and whose dependents stand in the area from `first` up to `end`.
+fn lead_of(area: &[u8], z: Sizes, v: usize, name: u32, first: usize, end: usize) -> Lead
+    requires { ⌜ Small z × (first ≤ end) × (end ≤ mostDeps) × (depsAt z + 4 * end ≤ length (now area)) ⌝ }
+    ensures { λ r. ⌜ LeadOf r v name first end (wordsFrom (drop (depsAt z) (now (area .entry))) first end) ⌝ }
 {
     let at = deps_at(z);
-    let first = starts[v];
-    let end = starts[v + 1];
-    let index = time_index(&area[at..], first as usize, end as usize);
+    let index = time_index(&area[at..], first, end);
     Lead {
-        name: names[v],
-        first: first,
-        end: end,
+        name: name,
+        first: first as u32,
+        end: end as u32,
         index: (index % WORD) as u32,
-        time: (v == 0) | (reach[v] == 1),
+        time: v == 0,
     }
 }
 
-// Writes the records of all variables, in front of their dependents.
+// Writes the dependents of variable v, behind `done` ones, and its record, which has its name before and holds nothing yet, and gives the new count of
+// dependents.
+fn write_var(
+    f: &[u8],
+    s: Sections,
+    classes: &[u8; MOST_NAMES],
+    m: usize,
+    own: &mut [u8],
+    z: Sizes,
+    numbers: &[u16],
+    v: usize,
+    done: usize,
+) -> usize
+    requires { ⌜ Bounded (now f) s (now classes) m
+        × Numbered (now f) s m (now numbers)
+        × VarNext (fileIn (now f) s) m z (now own) v done ⌝ }
+    ensures { λ r. ⌜ (r ≡ done + length (at (scopeAt (fileIn (now (f .entry)) s) m .vars) v .deps))
+        × (now (own .exit) ≡ put (put (now (own .entry)) (depsAt z + 4 * done)
+        (bytesOf (at (scopeAt (fileIn (now (f .entry)) s) m .vars) v .deps))) (varsAt z + 4 * variableLength * v)
+        (bytesOf (unheldWords isTime v done (at (scopeAt (fileIn (now (f .entry)) s) m .vars) v)))) ⌝ }
+{
+    let name = var_of(own, z, v, VAR_NAME);
+    let from = deps_at(z);
+    let end = set_dependents(f, s, numbers, m, name as usize, &mut own[from..], done);
+    let lead = lead_of(own, z, v, name, done, end);
+    let place = vars_at(z) + VAR_BYTES * v;
+    put_variable(f, s, classes, m, own, place, v, lead);
+    end
+}
+
+// The same of all variables, whose records have their names before; gives the count of dependents.
 pub fn write_vars(
     f: &[u8],
     s: Sections,
-    classes: &[u8],
+    classes: &[u8; MOST_NAMES],
     m: usize,
-    area: &mut [u8],
+    own: &mut [u8],
     z: Sizes,
-    names: &[u32],
-    starts: &[u32],
-    reach: &[u8],
-)
+    numbers: &[u16],
+) -> usize
     requires { ⌜ Bounded (now f) s (now classes) m
-        × (Small z × (depsAt z ≤ length (now area)))
-        × VarTables (z .vars) (now names) (now starts) (now reach) (drop (depsAt z) (now area)) ⌝ }
-    ensures { λ _. ⌜ now (area .exit) ≡ put (now (area .entry)) (varsAt z)
-        (encode (varRecords (fileIn (now (f .entry)) s .names) (modelAt (fileIn (now (f .entry)) s) m .unknowns)
-        (now (names .entry)) (now (starts .entry)) (now (reach .entry)) (drop (depsAt z) (now (area .entry)))
-        (z .vars))) ⌝ }
+        × Numbered (now f) s m (now numbers)
+        × VarsNamed (fileIn (now f) s) m z (now own) ⌝ }
+    ensures { λ r. ⌜ (r ≡ length (each (λ x. x .deps) (scopeAt (fileIn (now (f .entry)) s) m .vars)))
+        × (now (own .exit) ≡ put (put (now (own .entry)) (depsAt z)
+        (bytesOf (each (λ x. x .deps) (scopeAt (fileIn (now (f .entry)) s) m .vars)))) (varsAt z)
+        (encode (untimedRecords (scopeAt (fileIn (now (f .entry)) s) m .vars)))) ⌝ }
 {
-    let base = vars_at(z);
+    let mut done = 0;
     let mut v = 0;
     while v < z.vars {
-        let lead = lead_of(area, z, v, names, starts, reach);
-        write_var(f, s, classes, m, area, base + VAR_BYTES * v, v, lead);
+        done = write_var(f, s, classes, m, own, z, numbers, v, done);
         v += 1;
     }
-}
-
-// Writes what variable v holds: a statement plus 1 or 0, and how many initial conditions.
-fn put_held(area: &mut [u8], z: Sizes, v: usize, held: u32, initial: u32)
-    requires { ⌜ Small z × (depsAt z ≤ length (now area)) × (v < z .vars) ⌝ }
-    ensures { λ _. ⌜ now (area .exit) ≡ put (now (area .entry)) (varsAt z + 48 * v)
-        (bytesOf (withHeld (getD (areaVars (now (area .entry)) z) v []) (held, initial))) ⌝ }
-{
-    let at = vars_at(z) + VAR_BYTES * v;
-    put_word(area, at + HELD_AT, held);
-    put_word(area, at + INITIAL_AT, initial);
-}
-
-// Writes what each variable holds, by the statements' fates.
-pub fn write_held(area: &mut [u8], z: Sizes)
-    requires { ⌜ Small z × (depsAt z ≤ length (now area)) ⌝ }
-    ensures { λ _. ⌜ now (area .exit) ≡ put (now (area .entry)) (varsAt z)
-        (encode (heldFrom (areaStmts (now (area .entry)) z) 0 (areaVars (now (area .entry)) z))) ⌝ }
-{
-    let mut held = no_fates();
-    let mut first = no_fates();
-    let mut conditions = no_fates();
-    note_fates(area, z, &mut held, &mut first, &mut conditions);
-    let mut v = 0;
-    while v < z.vars {
-        put_held(area, z, v, held[v], conditions[v]);
-        v += 1;
-    }
+    done
 }
 
 // Writes the header of an answer of a root: the counts, the instances, and time's bounds, those declared last for t.
 pub fn write_header(f: &[u8], s: Sections, root: Root, area: &mut [u8], errors: usize)
-    requires { ⌜ (Open (now f) s × (root .model < s .counts .models))
-        × (Small (root .sizes) × (0 < root .sizes .vars) × (depsAt (root .sizes) ≤ length (now area)))
-        × ((errors < 2 ^ 32) × (root .instances < 2 ^ 32))
-        × Floating (lastBounds (fileIn (now f) s .names) (getD (namesIn (now area) (root .sizes)) 0 0) fromZero
-        (modelAt (fileIn (now f) s) (root .model) .unknowns)) (root .time) ⌝ }
+    requires { ⌜ Headed (now f) s (root .model) (root .instances) errors (root .sizes) (root .time) (now area) ⌝ }
     ensures { λ _. ⌜ now (area .exit) ≡ put (now (area .entry)) 0
         (bytesOf (headWords (root .sizes) errors (root .instances)
         (lastBounds (fileIn (now (f .entry)) s .names) (getD (namesIn (now (area .entry)) (root .sizes)) 0 0) fromZero

@@ -1,22 +1,22 @@
 // The root's variables: t first, then each unreserved unknown's name in order of first declaration.
 ghost use mathlib.Core.Path.{_≡_};
-ghost use mathlib.Core.Bool.{true, false};
 ghost use mathlib.Core.List.{[], _∷_};
 ghost use mathlib.Core.Option.{none};
-ghost use Prim.Native.Nat.{ℕ, _+_, _*_, _≤_, _<_};
-ghost use lib.Dec.{ltb};
-ghost use lib.ListN.{length, getD};
-ghost use Rattle.functions.specs.Lists.{any, all, each, plusOne, flag};
-ghost use Rattle.ast.specs.Bytes.{front};
-ghost use Rattle.ast.specs.Words.{bytesOf};
+ghost use Prim.Native.Nat.{_+_, _*_, _≤_, _<_};
+ghost use lib.ListN.{length};
+ghost use Rattle.functions.specs.Lists.{plusOne};
 ghost use Rattle.ast.specs.Opens.{Open};
 ghost use Rattle.definitions.specs.Numbers.{mostNames, mostVariables};
 ghost use Rattle.definitions.specs.Variables.{keptDeps, lastTime};
 ghost use Rattle.builder.specs.Tables.{ClassedModel, Blank};
-ghost use Rattle.builder.specs.VariableTables.{wordsFrom, DepsIn, leads, Round, TimeReached, rostered, listed, declareOne, Listing, unknownsIn, rosterIn, unknownIn, oneBelow, keptBy, keptNamed, RoomBehind, PutBehind, StartsOf, Numbered, DepsRoom};
+ghost use Rattle.area.specs.Sections.{areaVars, VarsAre};
+ghost use Rattle.builder.specs.VariableTables.{wordsFrom, rostered, listed, declareOne, Listing, unknownsIn, rosterIn, unknownIn, oneBelow, keptBy, keptNamed, RoomBehind, PutBehind, Numbered, RosterRoom};
+ghost use Rattle.builder.specs.Allocating.{namesIn};
 use crate::names::is_reserved;
 use crate::names::time_name;
-use area::layout::MOST_VARS;
+use area::layout::VAR_NAME;
+use area::records::put_var;
+use area::sections::Sizes;
 use ast::layout::DEP_BYTES;
 use ast::layout::MODEL_FIRST_UNKNOWN;
 use ast::layout::MODEL_UNKNOWNS;
@@ -31,58 +31,64 @@ use ast::sections::Sections;
 use ast::words::put_word;
 use ast::words::read_word;
 
-// Lists t alone, in tables without entries: `names` holds a name's number plus 1 by a variable's number (0 for t where
-// no name is t), `numbers` a variable's number plus 1, or 0, by a name's number.
-fn time_alone(time: usize, names: &mut [u32], numbers: &mut [u32])
-    requires { ⌜ (time ≤ mostNames) × (length (now names) ≡ mostVariables) × Blank mostNames (now numbers) ⌝ }
-    ensures { λ _. ⌜ Listing (time ∷ []) (rostered 1 (now (names .exit)) (now (numbers .exit))) ⌝ }
+// Lists t alone: its record has its name's number plus 1 (0 where no name is t), and `numbers`, without entries before, a variable's number plus 1 by a
+// name's number.
+fn time_alone(time: usize, own: &mut [u8], z: Sizes, numbers: &mut [u16])
+    requires { ⌜ (time ≤ mostNames) × RosterRoom z (now own) × Blank mostNames (now numbers) ⌝ }
+    ensures { λ _. ⌜ Listing (time ∷ []) (rostered 1 (namesIn (now (own .exit)) z) (now (numbers .exit)))
+        × VarsAre z (now (own .entry)) (areaVars (now (own .exit)) z) (now (own .exit)) ⌝ }
 {
-    names[0] = time as u32;
+    put_var(own, z, 0, VAR_NAME, time as u32);
     if 0 < time {
         numbers[time - 1] = 1;
     }
 }
 
 // Lists a name behind `count` variables unless it is there, and gives their new count.
-fn declare(names: &mut [u32], numbers: &mut [u32], count: usize, name: usize) -> usize
-    requires { ⌜ Listing (listed (rostered count (now names) (now numbers))) (rostered count (now names) (now numbers))
+fn declare(own: &mut [u8], z: Sizes, numbers: &mut [u16], count: usize, name: usize) -> usize
+    requires { ⌜ RosterRoom z (now own)
+        × Listing (listed (rostered count (namesIn (now own) z) (now numbers)))
+        (rostered count (namesIn (now own) z) (now numbers))
         × (count < mostVariables)
         × (name < mostNames) ⌝ }
-    ensures { λ r. ⌜ Listing (declareOne (listed (rostered count (now (names .entry)) (now (numbers .entry)))) name)
-        (rostered r (now (names .exit)) (now (numbers .exit)))
-        × (r ≤ count + 1) ⌝ }
+    ensures { λ r. ⌜ Listing
+        (declareOne (listed (rostered count (namesIn (now (own .entry)) z) (now (numbers .entry)))) name)
+        (rostered r (namesIn (now (own .exit)) z) (now (numbers .exit)))
+        × (r ≤ count + 1)
+        × VarsAre z (now (own .entry)) (areaVars (now (own .exit)) z) (now (own .exit)) ⌝ }
 {
     if numbers[name] != 0 {
         return count;
     }
-    names[count] = (name + 1) as u32;
-    numbers[name] = (count + 1) as u32;
+    put_var(own, z, count, VAR_NAME, (name + 1) as u32);
+    numbers[name] = (count + 1) as u16;
     count + 1
 }
 
-// Lists the variables of model m, in tables without entries, and gives their count.
+// Lists the variables of model m, by name in a table without entries, and gives their count; z has room for as many as there may be.
 pub fn roster_of(
     f: &[u8],
     s: Sections,
     classes: &[u8; MOST_NAMES],
     m: usize,
-    names: &mut [u32],
-    numbers: &mut [u32],
+    own: &mut [u8],
+    z: Sizes,
+    numbers: &mut [u16],
 ) -> usize
-    requires { ⌜ ClassedModel (now f) s (now classes) m
-        × (length (now names) ≡ mostVariables)
-        × Blank mostNames (now numbers) ⌝ }
-    ensures { λ r. ⌜ Listing (rosterIn (now (f .entry)) s m) (rostered r (now (names .exit)) (now (numbers .exit))) ⌝ }
+    requires { ⌜ ClassedModel (now f) s (now classes) m × RosterRoom z (now own) × Blank mostNames (now numbers) ⌝ }
+    ensures { λ r. ⌜ Listing (rosterIn (now (f .entry)) s m)
+        (rostered r (namesIn (now (own .exit)) z) (now (numbers .exit)))
+        × VarsAre z (now (own .entry)) (areaVars (now (own .exit)) z) (now (own .exit)) ⌝ }
 {
     let first = model(f, s, m, MODEL_FIRST_UNKNOWN);
     let count = model(f, s, m, MODEL_UNKNOWNS);
-    time_alone(time_name(f, s, classes), names, numbers);
+    time_alone(time_name(f, s, classes), own, z, numbers);
     let mut vars = 1;
     let mut i = 0;
     while i < count {
         let name = unknown(f, s, first + i, UNKNOWN_NAME);
         if !is_reserved(classes[name]) {
-            vars = declare(names, numbers, vars, name);
+            vars = declare(own, z, numbers, vars, name);
         }
         i += 1;
     }
@@ -90,14 +96,14 @@ pub fn roster_of(
 }
 
 // Writes variable v - 1 behind `done` kept dependents, nothing where v is 0, and gives their new count.
-fn put_dep(v: u32, out: &mut [u8], done: usize) -> usize
+fn put_dep(v: u16, out: &mut [u8], done: usize) -> usize
     requires { ⌜ RoomBehind (oneBelow v) done (now out) ⌝ }
     ensures { λ r. ⌜ PutBehind (oneBelow v) done (now (out .entry)) r (now (out .exit)) ⌝ }
 {
     if v == 0 {
         return done;
     }
-    put_word(out, DEP_BYTES * done, v - 1);
+    put_word(out, DEP_BYTES * done, (v - 1) as u32);
     done + 1
 }
 
@@ -105,7 +111,7 @@ fn put_dep(v: u32, out: &mut [u8], done: usize) -> usize
 fn put_unknown_deps(
     f: &[u8],
     s: Sections,
-    numbers: &[u32],
+    numbers: &[u16],
     u: usize,
     out: &mut [u8],
     done: usize,
@@ -132,7 +138,7 @@ fn put_unknown_deps(
 fn put_named_deps(
     f: &[u8],
     s: Sections,
-    numbers: &[u32],
+    numbers: &[u16],
     u: usize,
     name: usize,
     out: &mut [u8],
@@ -155,7 +161,7 @@ fn put_named_deps(
 pub fn set_dependents(
     f: &[u8],
     s: Sections,
-    numbers: &[u32],
+    numbers: &[u16],
     m: usize,
     name: usize,
     out: &mut [u8],
@@ -177,36 +183,6 @@ pub fn set_dependents(
     total
 }
 
-// Writes the kept dependents of all variables, and notes where each one's begin and, last, where they end.
-pub fn write_deps(
-    f: &[u8],
-    s: Sections,
-    m: usize,
-    names: &[u32],
-    numbers: &[u32],
-    count: usize,
-    out: &mut [u8],
-    starts: &mut [u32],
-)
-    requires { ⌜ Open (now f) s
-        × (m < s .counts .models)
-        × Listing (rosterIn (now f) s m) (rostered count (now names) (now numbers))
-        × DepsRoom (now out) (now starts) ⌝ }
-    ensures { λ _. ⌜ StartsOf (rosterIn (now (f .entry)) s m) (unknownsIn (now (f .entry)) s m) (now (starts .exit))
-        × (length (now (starts .exit)) ≡ mostVariables + 1)
-        × (now (out .exit) ≡ front (now (out .entry)) (bytesOf
-        (each (keptDeps (rosterIn (now (f .entry)) s m) (unknownsIn (now (f .entry)) s m))
-        (rosterIn (now (f .entry)) s m)))) ⌝ }
-{
-    let mut total = 0;
-    let mut v = 0;
-    while v < count {
-        total = set_dependents(f, s, numbers, m, names[v] as usize, out, total);
-        starts[v + 1] = total as u32;
-        v += 1;
-    }
-}
-
 // The place, plus 1, of the last t among the dependents from `first` up to `end`, or 0.
 pub fn time_index(deps: &[u8], first: usize, end: usize) -> usize
     requires { ⌜ (first ≤ end) × (4 * end ≤ length (now deps)) ⌝ }
@@ -220,83 +196,4 @@ pub fn time_index(deps: &[u8], first: usize, end: usize) -> usize
         i -= 1;
     }
     0
-}
-
-// Whether one of the dependents from `first` up to `end` is t or is marked.
-fn reaches_time(deps: &[u8], first: usize, end: usize, old: &[u8]) -> bool
-    requires { ⌜ (first ≤ end)
-        × (4 * end ≤ length (now deps))
-        × (all (λ d. ltb d mostVariables) (wordsFrom (now deps) first end) ≡ true)
-        × (length (now old) ≡ mostVariables) ⌝ }
-    ensures { λ r. ⌜ r ≡ any (leads (now (old .entry))) (wordsFrom (now (deps .entry)) first end) ⌝ }
-{
-    let mut i = first;
-    while i < end {
-        let d = read_word(deps, DEP_BYTES * i) as usize;
-        if (d == 0) | (old[d] == 1) {
-            return true;
-        }
-        i += 1;
-    }
-    false
-}
-
-// 1 for yes.
-fn mark(yes: bool) -> u8
-    ensures { λ r. ⌜ r ≡ flag yes ⌝ }
-{
-    if yes { 1 } else { 0 }
-}
-
-// The next round of marks: a variable is marked where one of its dependents is t or was marked.
-fn time_round(deps: &[u8], starts: &[u32], vars: usize, old: &[u8]) -> [u8; MOST_VARS]
-    requires { ⌜ DepsIn (now starts) (now deps) vars
-        × (length (now starts) ≡ mostVariables + 1)
-        × (length (now old) ≡ mostVariables) ⌝ }
-    ensures { λ r. ⌜ Round (now (starts .entry)) (now (deps .entry)) vars (now (old .entry)) r ⌝ }
-{
-    let mut new = [0u8; MOST_VARS];
-    let mut v = 0;
-    while v < vars {
-        new[v] = mark(reaches_time(deps, starts[v] as usize, starts[v + 1] as usize, old));
-        v += 1;
-    }
-    new
-}
-
-// Takes over the marks of `vars` variables, and tells whether one of them is new.
-fn take_marks(table: &mut [u8], next: &[u8], vars: usize) -> bool
-    requires { ⌜ (vars ≤ length (now table)) × (vars ≤ length (now next)) ⌝ }
-    ensures { λ r. ⌜ ((v : ℕ) → v < vars → getD (now (table .exit)) v 0 ≡ getD (now (next .entry)) v 0)
-        × (length (now (table .exit)) ≡ length (now (table .entry)))
-        × (r ≡ false → (v : ℕ) → v < vars → getD (now (next .entry)) v 0 ≡ getD (now (table .entry)) v 0) ⌝ }
-{
-    let mut changed = false;
-    let mut v = 0;
-    while v < vars {
-        changed = changed | (table[v] != next[v]);
-        table[v] = next[v];
-        v += 1;
-    }
-    changed
-}
-
-// Marks, in a table without marks, each variable from which t is reached through dependents: round by round, until one
-// marks nothing new.
-pub fn reach_time(deps: &[u8], starts: &[u32], vars: usize, table: &mut [u8])
-    requires { ⌜ DepsIn (now starts) (now deps) vars
-        × (length (now starts) ≡ mostVariables + 1)
-        × (length (now table) ≡ mostVariables)
-        × ((v : ℕ) → getD (now table) v 0 ≡ 0) ⌝ }
-    ensures { λ _. ⌜ TimeReached (now (starts .entry)) (now (deps .entry)) vars vars (now (table .exit))
-        × (length (now (table .exit)) ≡ mostVariables) ⌝ }
-{
-    let mut k = 0;
-    while k < vars {
-        let next = time_round(deps, starts, vars, table);
-        if !take_marks(table, &next, vars) {
-            return;
-        }
-        k += 1;
-    }
 }

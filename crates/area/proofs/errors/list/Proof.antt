@@ -1,4 +1,3 @@
-use mathlib.Core.Path.{ap}
 use Rattle.area.specs.Listing.{foundAs}
 use Rattle.area.proofs.Listings.{lists-none}
 use borrow.Author.Needs.{needs}

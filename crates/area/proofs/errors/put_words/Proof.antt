@@ -29,7 +29,13 @@ same-length : tie.Need-same-length
 same-length c = search needs
 
 returns : tie.Need-returns
-returns c = put-four _ _ _ _ _ _ _ _ _ _ (c .before .before .before .before .before .before .before .before .before .before .before .before .before .before .before .before .before .pre) (c .before .before .before .before .before .before .before .before .before .before .before .before .before .before .put-word .ensures) (c .before .before .before .before .before .before .before .before .before .before .put-word2 .ensures) (c .before .before .before .before .before .before .put-word3 .ensures) (c .before .before .put-word4 .ensures)
+returns c =
+    let fourth = c .before .before in
+    let third = fourth .before .before .before .before in
+    let second = third .before .before .before .before in
+    let first = second .before .before .before .before in
+    let entry = first .before .before .before in
+    put-four _ _ _ _ _ _ _ _ _ _ (entry .pre) (first .put-word .ensures) (second .put-word2 .ensures) (third .put-word3 .ensures) (fourth .put-word4 .ensures)
 
 pub put-words-spec : {M : Type 1} → statement M
 put-words-spec =

@@ -44,8 +44,15 @@ same-length c = search needs
 
 returns : tie.Need-returns
 returns c =
-    let a = c .before .before .before .before .before .before .before .before .before .before .before .before .before .before .before .before .before .before .before .before .before .before .before .before .before .before .before .before .before .args in
-    put-six (a .area .now) _ _ _ _ _ _ 0 (a .z .nodes) (a .z .stmts) (a .z .vars) (a .z .deps) (a .errors) (a .instances) (c .before .before .before .before .before .before .before .before .before .before .before .before .before .before .before .before .before .before .before .before .before .before .before .before .before .put-word .ensures) (c .before .before .before .before .before .before .before .before .before .before .before .before .before .before .before .before .before .before .before .before .put-word2 .ensures) (c .before .before .before .before .before .before .before .before .before .before .before .before .before .before .before .put-word3 .ensures) (c .before .before .before .before .before .before .before .before .before .before .put-word4 .ensures) (c .before .before .before .before .before .before .put-word5 .ensures) (c .before .before .put-word6 .ensures) (c .before .before .before .before .before .before .before .before .before .before .before .before .before .before .before .before .before .before .before .before .before .before .before .before .before .before .before .before .before .pre .1)
+    let sixth = c .before .before in
+    let fifth = sixth .before .before .before .before in
+    let fourth = fifth .before .before .before .before in
+    let third = fourth .before .before .before .before .before in
+    let second = third .before .before .before .before .before in
+    let first = second .before .before .before .before .before in
+    let entry = first .before .before .before .before in
+    let a = entry .args in
+    put-six (a .area .now) _ _ _ _ _ _ 0 (a .z .nodes) (a .z .stmts) (a .z .vars) (a .z .deps) (a .errors) (a .instances) (first .put-word .ensures) (second .put-word2 .ensures) (third .put-word3 .ensures) (fourth .put-word4 .ensures) (fifth .put-word5 .ensures) (sixth .put-word6 .ensures) (entry .pre .1)
 
 pub put-counts-spec : {M : Type 1} → statement M
 put-counts-spec =

@@ -5,8 +5,6 @@ use lib.ListN.{length, take, drop, length-set}
 use Rattle.area.proofs.HandedOut.{drop-step, copy-step, copied}
 use Rattle.area.proofs.lent.copy.Statement.{statement}
 use Rattle.area.proofs.lent.copy.Tie as tie
-use Rattle.area.proofs.lent.copy.Reads as reads
-use Rattle.area.proofs.lent.copy.Lts as lts
 
 abbrev Inv-loop : tie.InvT-loop
 Inv-loop s n d₀ i₀ d i =
@@ -15,27 +13,21 @@ Inv-loop s n d₀ i₀ d i =
 abbrev μ-loop : tie.MeasureT-loop
 μ-loop s n d₀ i₀ d i = n - i
 
--- src/lib.rt:26:5
 loop-holds : tie.Need-loop-holds Inv-loop μ-loop
 loop-holds c = (omega arith, refl, refl, refl)
 
--- src/lib.rt:27:16
 shared-slice-read-area : tie.Need-shared-slice-read-area Inv-loop μ-loop
 shared-slice-read-area c = omega arith
 
--- src/lib.rt:27:9
 slice-write-area : tie.Need-slice-write-area Inv-loop μ-loop
 slice-write-area c = omega arith
 
--- src/lib.rt:28:9
 add-i : tie.Need-add-i Inv-loop μ-loop
 add-i c = omega arith
 
--- src/lib.rt:26:5
 loop-less : tie.Need-loop-less Inv-loop μ-loop
 loop-less c = omega arith
 
--- src/lib.rt:26:5
 loop-again : tie.Need-loop-again Inv-loop μ-loop
 loop-again c =
     let a = c .before .before .before .args in
@@ -45,11 +37,9 @@ loop-again c =
     let k : loop .i < length (a .own .now) = omega arith in
     (omega arith, simp length-set (inv .1), copy-step _ _ _ l k (inv .2), drop-step (loop .area) (a .area .now) (loop .i) _ (inv .3))
 
--- src/lib.rt:21:1
 same-length : tie.Need-same-length Inv-loop μ-loop
 same-length c = c .before .loop .inv .1
 
--- src/lib.rt:21:1
 returns : tie.Need-returns Inv-loop μ-loop
 returns c =
     let a = c .before .before .args in

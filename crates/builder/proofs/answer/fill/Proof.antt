@@ -5,10 +5,13 @@ use borrow.Author.Needs.{needs}
 use Rattle.builder.proofs.answer.fill.Statement.{statement}
 use Rattle.builder.proofs.answer.fill.Tie as tie
 
--- ---- the places: the flattened statements laid, the variables laid
+-- ---- the places: the entry, the flattened statements laid, the variables laid
 
 abbrev flats-written : tie.After-lay-vars → tie.After-lay-flats
 flats-written v = v .before .before .before .before .before .before .before
+
+abbrev entry : tie.After-lay-flats → tie.Start
+entry e = e .before .before .before .before .before .before .before
 
 abbrev vars-written : tie.After-time-bounds-arg → tie.After-lay-vars
 vars-written c = c .before .before .before .before .before .before
@@ -21,7 +24,7 @@ lay-flats-requires c κs =
     let s = c .before .before .before .before .before .before in
     let a = s .args in
     let p = s .pre in
-    let x = flats-needs (a .f .now) (a .s) (a .m) (a .extent .instances) (a .extent .stmts) (a .extent .nodes) (p .4) (a .own .now) (p .3) in
+    let x = flats-needs (a .f .now) (a .s) (a .m) (a .extent .instances) (a .extent .stmts) (a .extent .nodes) (p .1) (a .own .now) (p .0 .long) in
     search needs
 
 slice-aggregate-lay-vars : tie.Need-slice-aggregate-lay-vars
@@ -30,21 +33,22 @@ slice-aggregate-lay-vars c = search needs
 lay-vars-requires : tie.Need-lay-vars-requires
 lay-vars-requires c κs =
     let e = c .before .before .before .before .before .before in
-    let s = e .before .before .before .before .before .before .before in
+    let s = entry e in
     let a = s .args in
     let p = s .pre in
-    vars-needs (a .f .now) (a .s) (a .m) (p .0 .opened) (p .1 .1) (a .classes .now) (a .calls .now) (a .extent .instances) (a .extent .stmts) (a .extent .nodes) (p .0) (p .1 .0) (p .4) (a .own .now) _ (p .3) (e .lay-flats .ensures) (e .before .before .before .no-marks .result) (e .before .before .before .no-marks .ensures .long) (e .before .before .before .no-marks .ensures .zeros)
+    let v = vars-needs (a .f .now) (a .s) (a .m) (p .0 .called .opened) (p .0 .model) (a .classes .now) (a .calls .now) (a .extent .instances) (a .extent .stmts) (a .extent .nodes) (p .0 .called) (p .0 .classes-long) (p .1) (a .own .now) _ (p .0 .long) (e .lay-flats .ensures) in
+    (v .0, v .1, e .before .before .before .no-marks .ensures)
 
 var-of-requires : tie.Need-var-of-requires
 var-of-requires c κs =
     let v = c .before .before .before .before in
     let e = flats-written v in
-    let s = e .before .before .before .before .before .before .before in
+    let s = entry e in
     let a = s .args in
     let p = s .pre in
     let l = v .lay-vars .ensures in
-    let k = model-known (a .f .now) (a .s) (a .m) (p .0 .opened) (p .1 .1) (a .classes .now) (a .calls .now) (a .extent .instances) (a .extent .stmts) (a .extent .nodes) (p .0) (p .1 .0) (p .4) (a .own .now) _ (p .3) (e .lay-flats .ensures) _ _ _ _ (l .0) (l .1 .0) (l .1 .1) in
-    let n = some-variable (a .f .now) (a .s) (a .m) (a .classes .now) _ _ k _ (all-laid (a .f .now) (a .s) (a .m) (p .0 .opened) (p .1 .1) (a .classes .now) (a .calls .now) (a .extent .instances) (a .extent .stmts) (a .extent .nodes) (p .0) (p .1 .0) (p .4) (a .own .now) _ (p .3) (e .lay-flats .ensures) _ _ _ _ (l .0) (l .1 .0) (l .1 .1)) in
+    let k = model-known (a .f .now) (a .s) (a .m) (p .0 .called .opened) (p .0 .model) (a .classes .now) (a .calls .now) (a .extent .instances) (a .extent .stmts) (a .extent .nodes) (p .0 .called) (p .0 .classes-long) (p .1) (a .own .now) _ (p .0 .long) (e .lay-flats .ensures) _ _ _ (l .0) (l .1 .0) (l .1 .1) in
+    let n = some-variable (a .f .now) (a .s) (a .m) (a .classes .now) _ _ k _ (all-laid (a .f .now) (a .s) (a .m) (p .0 .called .opened) (p .0 .model) (a .classes .now) (a .calls .now) (a .extent .instances) (a .extent .stmts) (a .extent .nodes) (p .0 .called) (p .0 .classes-long) (p .1) (a .own .now) _ (p .0 .long) (e .lay-flats .ensures) _ _ _ (l .0) (l .1 .0) (l .1 .1)) in
     (n .0, n .1, n .2, omega arith)
 
 cast-name : tie.Need-cast-name
@@ -52,8 +56,8 @@ cast-name c = search needs
 
 time-bounds-requires : tie.Need-time-bounds-requires
 time-bounds-requires c κs =
-    let p = flats-written (vars-written c) .before .before .before .before .before .before .before .pre in
-    record { opened = p .0 .opened; classed = p .0 .classes; long = omega (arith, p .1 .0, p .0 .opened .laid .within .names); model = p .1 .1 }
+    let p = entry (flats-written (vars-written c)) .pre in
+    record { opened = p .0 .called .opened; classed = p .0 .called .classes; long = omega (arith, p .0 .classes-long, p .0 .called .opened .laid .within .names); model = p .0 .model }
 
 slice-aggregate-answer-laid : tie.Need-slice-aggregate-answer-laid
 slice-aggregate-answer-laid c = search needs
@@ -63,14 +67,14 @@ answer-laid-requires c κs =
     let b = c .before .before in
     let v = vars-written (b .before) in
     let e = flats-written v in
-    let s = e .before .before .before .before .before .before .before in
+    let s = entry e in
     let a = s .args in
     let p = s .pre in
     let l = v .lay-vars .ensures in
-    let k = model-known (a .f .now) (a .s) (a .m) (p .0 .opened) (p .1 .1) (a .classes .now) (a .calls .now) (a .extent .instances) (a .extent .stmts) (a .extent .nodes) (p .0) (p .1 .0) (p .4) (a .own .now) _ (p .3) (e .lay-flats .ensures) _ _ _ _ (l .0) (l .1 .0) (l .1 .1) in
-    let u = all-laid (a .f .now) (a .s) (a .m) (p .0 .opened) (p .1 .1) (a .classes .now) (a .calls .now) (a .extent .instances) (a .extent .stmts) (a .extent .nodes) (p .0) (p .1 .0) (p .4) (a .own .now) _ (p .3) (e .lay-flats .ensures) _ _ _ _ (l .0) (l .1 .0) (l .1 .1) in
+    let k = model-known (a .f .now) (a .s) (a .m) (p .0 .called .opened) (p .0 .model) (a .classes .now) (a .calls .now) (a .extent .instances) (a .extent .stmts) (a .extent .nodes) (p .0 .called) (p .0 .classes-long) (p .1) (a .own .now) _ (p .0 .long) (e .lay-flats .ensures) _ _ _ (l .0) (l .1 .0) (l .1 .1) in
+    let u = all-laid (a .f .now) (a .s) (a .m) (p .0 .called .opened) (p .0 .model) (a .classes .now) (a .calls .now) (a .extent .instances) (a .extent .stmts) (a .extent .nodes) (p .0 .called) (p .0 .classes-long) (p .1) (a .own .now) _ (p .0 .long) (e .lay-flats .ensures) _ _ _ (l .0) (l .1 .0) (l .1 .1) in
     let g = timed (a .f .now) (a .s) (a .m) (a .classes .now) _ _ k _ u _ _ (b .before .before .var-of .ensures) (b .time-bounds .ensures) in
-    (model-rooted (a .f .now) (a .s) (a .m) (p .0 .opened) (p .1 .1) (a .classes .now) (a .calls .now) (a .extent .instances) (a .extent .stmts) (a .extent .nodes) (p .0) (p .1 .0) (p .4) (a .own .now) _ (p .3) (e .lay-flats .ensures) _ _ _ _ (l .0) (l .1 .0) (l .1 .1) _ g, u)
+    (model-rooted (a .f .now) (a .s) (a .m) (p .0 .called .opened) (p .0 .model) (a .classes .now) (a .calls .now) (a .extent .instances) (a .extent .stmts) (a .extent .nodes) (p .0 .called) (p .0 .classes-long) (p .1) (a .own .now) _ (p .0 .long) (e .lay-flats .ensures) _ _ _ (l .0) (l .1 .0) (l .1 .1) _ g, u)
 
 same-length : tie.Need-same-length
 same-length c = search needs

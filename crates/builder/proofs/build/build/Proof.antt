@@ -7,6 +7,11 @@ use borrow.Author.Needs.{needs}
 use Rattle.builder.proofs.build.build.Statement.{statement}
 use Rattle.builder.proofs.build.build.Tie as tie
 
+-- ---- the place: the entry
+
+abbrev entry : tie.After-open → tie.Start
+entry c = c .before .before .before .before
+
 open-requires : tie.Need-open-requires
 open-requires c κs = search needs
 
@@ -27,8 +32,10 @@ same-length c = search needs
 
 returns : tie.Need-returns
 returns c =
-    let a = c .before .before .before .before .before .before .before .before .before .before .before .args in
-    let o = opens-refused _ _ _ _ (c .before .before .before .before .before .before .before .open .ensures) _ (c .before .before .before .before .before .number .given .1) in
+    let refused = c .before .before .before .before .before in
+    let opened = refused .before .before in
+    let a = entry opened .args in
+    let o = opens-refused _ _ _ _ (opened .open .ensures) _ (refused .number .given .1) in
     let e = built-refused _ (a .root .now) (length (a .area .now)) _ o in
     (c .before .before .refuse .ensures .0 ∙ sym (ap told e), c .before .before .refuse .ensures .1 ∙ sym (ap (resultArea (length (a .area .now))) e))
 

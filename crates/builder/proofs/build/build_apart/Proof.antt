@@ -9,11 +9,11 @@ use Rattle.builder.proofs.build.build_apart.Tie as tie
 blank-requires : tie.Need-blank-requires
 blank-requires c κs = search needs
 
-slice-aggregate-answer : tie.Need-slice-aggregate-answer
-slice-aggregate-answer c = search needs
+slice-aggregate-answer-few : tie.Need-slice-aggregate-answer-few
+slice-aggregate-answer-few c = search needs
 
-answer-requires : tie.Need-answer-requires
-answer-requires c κs = search needs
+answer-few-requires : tie.Need-answer-few-requires
+answer-few-requires c κs = search needs
 
 slice-aggregate-hand-over : tie.Need-slice-aggregate-hand-over
 slice-aggregate-hand-over c = search needs
@@ -26,18 +26,51 @@ same-length c = search needs
 
 returns : tie.Need-returns
 returns c =
-    let room = length (c .before .before .before .before .before .before .before .before .before .before .before .args .area .now) in
-    let e = ap (fittedIn room) (c .before .before .before .before .before .before .answer .ensures .0) in
+    let answered = c .before .before .before .before .before .before in
+    let own = answered .before .before .before .before in
+    let entry = own .before .before .before in
+    let room = length (entry .args .area .now) in
+    let e = ap (fittedIn room) (answered .answer-few .ensures .0) in
     (c .before .before .hand-over .ensures .0 ∙ ap told e, c .before .before .hand-over .ensures .1 ∙ ap (resultArea room) e)
+
+slice-aggregate-answer : tie.Need-slice-aggregate-answer
+slice-aggregate-answer c = search needs
+
+answer-requires : tie.Need-answer-requires
+answer-requires c κs = search needs
+
+slice-aggregate-hand-over-2 : tie.Need-slice-aggregate-hand-over-2
+slice-aggregate-hand-over-2 c = search needs
+
+hand-over-requires-2 : tie.Need-hand-over-requires-2
+hand-over-requires-2 c κs = search needs
+
+same-length-2 : tie.Need-same-length-2
+same-length-2 c = search needs
+
+returns-2 : tie.Need-returns-2
+returns-2 c =
+    let answered = c .before .before .before .before .before .before in
+    let own = answered .before .before .before .before in
+    let entry = own .before .before .before in
+    let room = length (entry .args .area .now) in
+    let e = ap (fittedIn room) (answered .answer .ensures .0) in
+    (c .before .before .hand-over2 .ensures .0 ∙ ap told e, c .before .before .hand-over2 .ensures .1 ∙ ap (resultArea room) e)
 
 pub build-apart-spec : {M : Type 1} → statement M
 build-apart-spec =
     tie.close
     (tie.spec
     blank-requires
-    slice-aggregate-answer
-    answer-requires
+    slice-aggregate-answer-few
+    answer-few-requires
     slice-aggregate-hand-over
     hand-over-requires
     same-length
-    returns)
+    returns
+    slice-aggregate-answer
+    answer-requires
+    slice-aggregate-hand-over-2
+    hand-over-requires-2
+    same-length-2
+    returns-2)

@@ -8,6 +8,11 @@ use borrow.Author.Needs.{needs}
 use Rattle.builder.proofs.build.build_opened.Statement.{statement}
 use Rattle.builder.proofs.build.build_opened.Tie as tie
 
+-- ---- the place: the entry
+
+abbrev entry : tie.After-find-root → tie.Start
+entry c = c .before .before .before .before
+
 find-root-requires : tie.Need-find-root-requires
 find-root-requires c κs = search needs
 
@@ -19,9 +24,10 @@ same-length c = search needs
 
 returns : tie.Need-returns
 returns c =
-    let a = c .before .before .before .before .before .before .before .before .before .args in
+    let found = c .before .before .before .before .before in
+    let a = entry found .args in
     let room = length (a .area .now) in
-    let e = built-none _ (a .root .now) room _ (c .before .before .before .before .before .before .before .before .before .pre .1) (place-none _ _ (c .before .before .before .before .before .find-root .ensures) (c .before .before .before .before .if1 .taken)) in
+    let e = built-none _ (a .root .now) room _ (entry found .pre .1) (place-none _ _ (found .find-root .ensures) (c .before .before .before .before .if1 .taken)) in
     (c .before .before .refuse .ensures .0 ∙ sym (ap told e), c .before .before .refuse .ensures .1 ∙ sym (ap (resultArea room) e))
 
 sub-build-apart : tie.Need-sub-build-apart
@@ -29,17 +35,19 @@ sub-build-apart c = search needs
 
 build-apart-requires : tie.Need-build-apart-requires
 build-apart-requires c κs =
-    let a = c .before .before .before .before .before .before .before .args in
-    (c .before .before .before .before .before .before .before .pre .0, omega (arith, c .before .before .before .find-root .ensures, c .before .before .if1 .left, root-below (a .file .now) (a .s) (a .root .now)))
+    let found = c .before .before .before in
+    let a = entry found .args in
+    (entry found .pre .0, omega (arith, found .find-root .ensures, c .before .before .if1 .left, root-below (a .file .now) (a .s) (a .root .now)))
 
 same-length-2 : tie.Need-same-length-2
 same-length-2 c = search needs
 
 returns-2 : tie.Need-returns-2
 returns-2 c =
-    let a = c .before .before .before .before .before .before .before .before .before .before .args in
+    let found = c .before .before .before .before .before .before in
+    let a = entry found .args in
     let room = length (a .area .now) in
-    let e = built-at _ (a .root .now) room _ (c .before .before .before .before .before .before .before .before .before .before .pre .1) _ (place-of _ _ (c .before .before .before .before .before .before .find-root .ensures) (c .before .before .before .before .before .if1 .left)) in
+    let e = built-at _ (a .root .now) room _ (entry found .pre .1) _ (place-of _ _ (found .find-root .ensures) (c .before .before .before .before .before .if1 .left)) in
     (c .before .before .build-apart .ensures .0 ∙ sym (ap told e), c .before .before .build-apart .ensures .1 ∙ sym (ap (resultArea room) e))
 
 sub-build-within : tie.Need-sub-build-within
@@ -47,17 +55,19 @@ sub-build-within c = search needs
 
 build-within-requires : tie.Need-build-within-requires
 build-within-requires c κs =
-    let a = c .before .before .before .before .before .before .before .args in
-    (c .before .before .before .before .before .before .before .pre .0, omega (arith, c .before .before .before .find-root .ensures, c .before .before .if1 .left, root-below (a .file .now) (a .s) (a .root .now)), omega (arith, c .before .if2 .left))
+    let found = c .before .before .before in
+    let a = entry found .args in
+    (entry found .pre .0, omega (arith, found .find-root .ensures, c .before .before .if1 .left, root-below (a .file .now) (a .s) (a .root .now)), omega (arith, c .before .if2 .left))
 
 same-length-3 : tie.Need-same-length-3
 same-length-3 c = search needs
 
 returns-3 : tie.Need-returns-3
 returns-3 c =
-    let a = c .before .before .before .before .before .before .before .before .before .before .args in
+    let found = c .before .before .before .before .before .before in
+    let a = entry found .args in
     let room = length (a .area .now) in
-    let e = built-at _ (a .root .now) room _ (c .before .before .before .before .before .before .before .before .before .before .pre .1) _ (place-of _ _ (c .before .before .before .before .before .before .find-root .ensures) (c .before .before .before .before .before .if1 .left)) in
+    let e = built-at _ (a .root .now) room _ (entry found .pre .1) _ (place-of _ _ (found .find-root .ensures) (c .before .before .before .before .before .if1 .left)) in
     (c .before .before .build-within .ensures .0 ∙ sym (ap told e), c .before .before .build-within .ensures .1 ∙ sym (ap (resultArea room) e))
 
 pub build-opened-spec : {M : Type 1} → statement M

@@ -8,6 +8,11 @@ use borrow.Author.Needs.{needs}
 use Rattle.builder.proofs.build.hand_over.Statement.{statement}
 use Rattle.builder.proofs.build.hand_over.Tie as tie
 
+-- ---- the place: the entry
+
+abbrev entry : tie.After-slice-known → tie.Start
+entry c = c .before .before
+
 enum-known-a : tie.Need-enum-known-a
 enum-known-a c = search needs
 
@@ -29,8 +34,9 @@ same-length c = search needs
 
 returns : tie.Need-returns
 returns c =
-    let a = c .before .before .before .before .before .before .before .before .before .args in
-    let e = hands-refused (length (a .area .now)) _ _ (a .own .now) (c .before .before .before .before .before .a .given .1) in
+    let refused = c .before .before .before .before .before in
+    let a = entry (refused .before .before) .args in
+    let e = hands-refused (length (a .area .now)) _ _ (a .own .now) (refused .a .given .1) in
     (c .before .before .refuse .ensures .0 ∙ sym (ap told e), c .before .before .refuse .ensures .1 ∙ sym (ap (resultArea (length (a .area .now))) e))
 
 same-length-2 : tie.Need-same-length-2
@@ -38,8 +44,9 @@ same-length-2 c = search needs
 
 returns-2 : tie.Need-returns-2
 returns-2 c =
-    let a = c .before .before .before .before .before .before .before .before .before .args in
-    let e = hands-used (length (a .area .now)) _ _ (a .own .now) (c .before .before .before .before .before .a2 .given .1) in
+    let used = c .before .before .before .before .before in
+    let a = entry (used .before .before) .args in
+    let e = hands-used (length (a .area .now)) _ _ (a .own .now) (used .a2 .given .1) in
     (c .before .before .hand-out .ensures .0 ∙ sym (ap told e), c .before .before .hand-out .ensures .1 ∙ sym (ap (resultArea (length (a .area .now))) e))
 
 pub hand-over-spec : {M : Type 1} → statement M

@@ -25,16 +25,20 @@ clear-requires c κs =
 
 mul-result : tie.Need-mul-result
 mul-result c =
-    let e = used-is _ _ (c .before .before .before .before .before .a2 .given .1) in
-    omega (arith, e, c .before .before .before .before .before .before .before .before .pre .0)
+    let used = c .before .before .before .before .before in
+    let entry = used .before .before .before in
+    let e = used-is _ _ (used .a2 .given .1) in
+    omega (arith, e, entry .pre .0)
 
 same-length : tie.Need-same-length
 same-length c = search needs
 
 returns : tie.Need-returns
 returns c =
-    let d = c .before .before .before .before .before .before .before .before .args .area .now in
-    let e = hands-refused (length d) _ _ d (c .before .before .before .before .before .a .given .1) in
+    let refused = c .before .before .before .before .before in
+    let entry = refused .before .before .before in
+    let d = entry .args .area .now in
+    let e = hands-refused (length d) _ _ d (refused .a .given .1) in
     (c .before .before .refuse .ensures .0 ∙ sym (ap told e), c .before .before .refuse .ensures .1 ∙ sym (ap (resultArea (length d)) e))
 
 same-length-2 : tie.Need-same-length-2
@@ -42,9 +46,11 @@ same-length-2 c = search needs
 
 returns-2 : tie.Need-returns-2
 returns-2 c =
-    let p = c .before .before .before .before .before .before .before .before .pre in
-    let a2 = c .before .before .before .before .before .a2 in
-    let d = c .before .before .before .before .before .before .before .before .args .area .now in
+    let used = c .before .before .before .before .before in
+    let entry = used .before .before .before in
+    let p = entry .pre in
+    let a2 = used .a2 in
+    let d = entry .args .area .now in
     let e = hands-used (length d) _ _ d (a2 .given .1) in
     let u = used-is _ _ (a2 .given .1) in
     let k = kept d _ (a2 .given .0 .0) (omega (arith, u, p .0, p .1)) (c .before .before .clear .ensures) in

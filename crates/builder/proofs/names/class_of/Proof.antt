@@ -14,6 +14,11 @@ Inv-loop name texts places i₀ i = (i ≤ 18) × (classOf name ≡ classFrom i 
 abbrev μ-loop : tie.MeasureT-loop
 μ-loop name texts places i₀ i = 18 - i
 
+-- ---- the place: the entry
+
+abbrev entry : tie.At-loop Inv-loop μ-loop → tie.Start Inv-loop μ-loop
+entry c = c .before .before .before .before
+
 stored-texts-requires : tie.Need-stored-texts-requires Inv-loop μ-loop
 stored-texts-requires c κs = search needs
 
@@ -38,8 +43,9 @@ cast-result c = omega arith
 
 returns : tie.Need-returns Inv-loop μ-loop
 returns c =
-    let loop = c .before .before .before .before .before .loop in
-    sym (loop .inv .1 ∙ class-here (c .before .before .before .before .before .before .before .before .before .args .name .now) (loop .i) (c .before .before .before .before .loop-test .taken) ∙ rw (sym (c .before .is-text .ensures) ∙ c .if1 .taken))
+    let turn = c .before .before .before .before .before in
+    let loop = turn .loop in
+    sym (loop .inv .1 ∙ class-here (entry turn .args .name .now) (loop .i) (c .before .before .before .before .loop-test .taken) ∙ rw (sym (c .before .is-text .ensures) ∙ c .if1 .taken))
 
 add-i : tie.Need-add-i Inv-loop μ-loop
 add-i c = omega arith
@@ -49,13 +55,14 @@ loop-less c = omega arith
 
 loop-again : tie.Need-loop-again Inv-loop μ-loop
 loop-again c =
-    let loop = c .before .before .before .before .before .loop in
-    (omega arith, loop .inv .1 ∙ class-here (c .before .before .before .before .before .before .before .before .before .args .name .now) (loop .i) (c .before .before .before .before .loop-test .taken) ∙ rw (sym (c .before .is-text .ensures) ∙ c .if1 .left))
+    let turn = c .before .before .before .before .before in
+    let loop = turn .loop in
+    (omega arith, loop .inv .1 ∙ class-here (entry turn .args .name .now) (loop .i) (c .before .before .before .before .loop-test .taken) ∙ rw (sym (c .before .is-text .ensures) ∙ c .if1 .left))
 
 returns-2 : tie.Need-returns-2 Inv-loop μ-loop
 returns-2 c =
     let z : c .before .loop .i ≡ 18 = omega arith in
-    sym (c .before .loop .inv .1 ∙ class-end (c .before .before .before .before .before .args .name .now) (c .before .loop .i) (c .loop-test .left) ∙ z)
+    sym (c .before .loop .inv .1 ∙ class-end (entry (c .before) .args .name .now) (c .before .loop .i) (c .loop-test .left) ∙ z)
 
 pub class-of-spec : {M : Type 1} → statement M
 class-of-spec =

@@ -17,6 +17,14 @@ Inv-loop f s out₀ n₀ out n = (n ≤ s .counts .names) × Filled 256 (λ k. r
 abbrev μ-loop : tie.MeasureT-loop
 μ-loop f s out₀ n₀ out n = s .counts .names - n
 
+-- ---- the places: the entry, and the loop's turn
+
+abbrev entry : tie.At-loop Inv-loop μ-loop → tie.Start Inv-loop μ-loop
+entry c = c .before .before
+
+abbrev turn : tie.After-name-text Inv-loop μ-loop → tie.At-loop Inv-loop μ-loop
+turn c = c .before .before .before
+
 loop-holds : tie.Need-loop-holds Inv-loop μ-loop
 loop-holds c = (omega arith, filled-none 256 _ _ refl)
 
@@ -30,18 +38,18 @@ rule-number-requires : tie.Need-rule-number-requires Inv-loop μ-loop
 rule-number-requires c κs = search needs
 
 array-write-out : tie.Need-array-write-out Inv-loop μ-loop
-array-write-out c = omega (arith, c .before .before .before .before .before .before .before .pre .laid .within .names, c .before .before .before .before .before .loop .inv .1 .long)
+array-write-out c = omega (arith, entry (turn (c .before .before)) .pre .laid .within .names, turn (c .before .before) .loop .inv .1 .long)
 
 add-n : tie.Need-add-n Inv-loop μ-loop
-add-n c = omega (arith, c .before .before .before .before .before .before .before .pre .laid .within .names)
+add-n c = omega (arith, entry (turn (c .before .before)) .pre .laid .within .names)
 
 loop-less : tie.Need-loop-less Inv-loop μ-loop
 loop-less c = omega arith
 
 loop-again : tie.Need-loop-again Inv-loop μ-loop
 loop-again c =
-    let loop = c .before .before .before .before .before .loop in
-    (omega arith, filled-more 256 _ (loop .n) _ _ (omega (arith, c .before .before .before .before .before .before .before .pre .laid .within .names)) (c .rule-number .ensures ∙ ap ruleNumber (c .before .function-rule .ensures ∙ ap ruleOf (c .before .before .name-text .ensures))) (loop .inv .1))
+    let loop = turn (c .before .before) .loop in
+    (omega arith, filled-more 256 _ (loop .n) _ _ (omega (arith, entry (turn (c .before .before)) .pre .laid .within .names)) (c .rule-number .ensures ∙ ap ruleNumber (c .before .function-rule .ensures ∙ ap ruleOf (c .before .before .name-text .ensures))) (loop .inv .1))
 
 returns : tie.Need-returns Inv-loop μ-loop
 returns c =

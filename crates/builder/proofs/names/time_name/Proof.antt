@@ -16,6 +16,14 @@ Inv-loop f s classes n₀ n = (n ≤ s .counts .names) × (timeName (fileIn f s 
 abbrev μ-loop : tie.MeasureT-loop
 μ-loop f s classes n₀ n = s .counts .names - n
 
+-- ---- the places: the entry, and the loop's turn
+
+abbrev entry : tie.At-loop Inv-loop μ-loop → tie.Start Inv-loop μ-loop
+entry c = c .before .before
+
+abbrev turn : tie.After-is-time Inv-loop μ-loop → tie.At-loop Inv-loop μ-loop
+turn c = c .before .before .before .before
+
 loop-holds : tie.Need-loop-holds Inv-loop μ-loop
 unfolding timeName place
 loop-holds c = (omega arith, refl)
@@ -27,25 +35,25 @@ is-time-requires : tie.Need-is-time-requires Inv-loop μ-loop
 is-time-requires c κs = tt
 
 add-result : tie.Need-add-result Inv-loop μ-loop
-add-result c = omega (arith, c .before .before .before .before .before .before .before .pre .0 .laid .within .names)
+add-result c = omega (arith, entry (turn (c .before)) .pre .0 .laid .within .names)
 
 returns : tie.Need-returns Inv-loop μ-loop
 returns c =
-    let a = c .before .before .before .before .before .before .before .args in
-    let loop = c .before .before .before .before .before .loop in
-    sym (loop .inv .1 ∙ time-yes (fileIn (a .f .now) (a .s) .names) (a .classes .now) (c .before .before .before .before .before .before .before .pre .1) (loop .n) (omega (arith, names-long (a .f .now) (a .s))) (sym (c .before .is-time .ensures) ∙ c .if2 .taken))
+    let a = entry (turn (c .before)) .args in
+    let loop = turn (c .before) .loop in
+    sym (loop .inv .1 ∙ time-yes (fileIn (a .f .now) (a .s) .names) (a .classes .now) (entry (turn (c .before)) .pre .1) (loop .n) (omega (arith, names-long (a .f .now) (a .s))) (sym (c .before .is-time .ensures) ∙ c .if2 .taken))
 
 add-n : tie.Need-add-n Inv-loop μ-loop
-add-n c = omega (arith, c .before .before .before .before .before .before .before .pre .0 .laid .within .names)
+add-n c = omega (arith, entry (turn (c .before)) .pre .0 .laid .within .names)
 
 loop-less : tie.Need-loop-less Inv-loop μ-loop
 loop-less c = omega arith
 
 loop-again : tie.Need-loop-again Inv-loop μ-loop
 loop-again c =
-    let a = c .before .before .before .before .before .before .before .args in
-    let loop = c .before .before .before .before .before .loop in
-    (omega arith, loop .inv .1 ∙ ap plusOne (time-no (fileIn (a .f .now) (a .s) .names) (a .classes .now) (c .before .before .before .before .before .before .before .pre .1) (loop .n) (omega (arith, names-long (a .f .now) (a .s))) (sym (c .before .is-time .ensures) ∙ c .if2 .left)))
+    let a = entry (turn (c .before)) .args in
+    let loop = turn (c .before) .loop in
+    (omega arith, loop .inv .1 ∙ ap plusOne (time-no (fileIn (a .f .now) (a .s) .names) (a .classes .now) (entry (turn (c .before)) .pre .1) (loop .n) (omega (arith, names-long (a .f .now) (a .s))) (sym (c .before .is-time .ensures) ∙ c .if2 .left)))
 
 returns-2 : tie.Need-returns-2 Inv-loop μ-loop
 returns-2 c =

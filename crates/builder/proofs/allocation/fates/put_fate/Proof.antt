@@ -37,9 +37,13 @@ same-length c = search needs
 returns : tie.Need-returns
 unfolding stmtsAt varsAt depsAt
 returns c =
-    let a = c .before .before .before .before .before .before .before .before .before .before .args in
-    let stmts-at = c .before .before .before .before .before .before .before .before .stmts-at in
-    fate-put (a .z .stmts) (stmtsAt (a .z)) (a .i) (a .area .now) _ _ _ _ (a .fate) (a .v) (omega arith) (omega arith) (λ j. omega (arith, c .before .before .before .before .before .before .before .before .before .slice-known .given j)) (omega (arith, stmts-at .ensures)) (omega (arith, stmts-at .ensures)) (c .before .before .before .before .before .before .put-word .ensures) (c .before .before .put-word2 .ensures)
+    let second = c .before .before in
+    let first = second .before .before .before .before in
+    let placed = first .before .before in
+    let entry = placed .before .before in
+    let a = entry .args in
+    let stmts-at = placed .stmts-at in
+    fate-put (a .z .stmts) (stmtsAt (a .z)) (a .i) (a .area .now) _ _ _ _ (a .fate) (a .v) (omega arith) (omega arith) (λ j. omega (arith, placed .before .slice-known .given j)) (omega (arith, stmts-at .ensures)) (omega (arith, stmts-at .ensures)) (first .put-word .ensures) (second .put-word2 .ensures)
 
 pub put-fate-spec : {M : Type 1} → statement M
 put-fate-spec =

@@ -30,9 +30,13 @@ same-length c = search needs
 
 returns : tie.Need-returns
 returns c =
-    let a = c .before .before .before .before .before .before .before .before .before .before .before .args in
-    let if1 = c .before .before .before .before .before .before .if1 in
-    (rw (left-held (a .states .now) (a .queued) (a .paired) (getD (a .roles .now) (a .i) 0) (omega arith) (if1 .taken) (c .before .before .before .before .before .if2 .taken) (drop (a .i + 1) (take (a .z .stmts) (a .roles .now)))) (c .before .before .put-fate .ensures), omega arith, queue-more (a .states .now) (a .queued) (a .paired) (getD (a .roles .now) (a .i) 0) (omega arith) (if1 .taken))
+    let put = c .before .before in
+    let queued = put .before .before .before in
+    let left = queued .before in
+    let entry = left .before .before .before .before .before in
+    let a = entry .args in
+    let if1 = left .if1 in
+    (rw (left-held (a .states .now) (a .queued) (a .paired) (getD (a .roles .now) (a .i) 0) (omega arith) (if1 .taken) (queued .if2 .taken) (drop (a .i + 1) (take (a .z .stmts) (a .roles .now)))) (put .put-fate .ensures), omega arith, queue-more (a .states .now) (a .queued) (a .paired) (getD (a .roles .now) (a .i) 0) (omega arith) (if1 .taken))
 
 put-fate-requires-2 : tie.Need-put-fate-requires-2
 put-fate-requires-2 c κs = search needs
@@ -42,10 +46,14 @@ same-length-2 c = search needs
 
 returns-2 : tie.Need-returns-2
 returns-2 c =
-    let a = c .before .before .before .before .before .before .before .before .before .before .args in
-    let if1 = c .before .before .before .before .before .if1 in
-    let if2 = c .before .before .before .before .if2 in
-    (rw (left-over (a .states .now) (a .queued) (a .paired) (getD (a .roles .now) (a .i) 0) (omega arith) (if1 .taken) (if2 .left) (drop (a .i + 1) (take (a .z .stmts) (a .roles .now)))) (c .before .before .put-fate2 .ensures), omega arith, queue-out (a .states .now) (a .queued) (a .paired) (getD (a .roles .now) (a .i) 0) (omega arith) (if1 .taken) (if2 .left))
+    let put = c .before .before in
+    let none-queued = put .before .before in
+    let left = none-queued .before in
+    let entry = left .before .before .before .before .before in
+    let a = entry .args in
+    let if1 = left .if1 in
+    let if2 = none-queued .if2 in
+    (rw (left-over (a .states .now) (a .queued) (a .paired) (getD (a .roles .now) (a .i) 0) (omega arith) (if1 .taken) (if2 .left) (drop (a .i + 1) (take (a .z .stmts) (a .roles .now)))) (put .put-fate2 .ensures), omega arith, queue-out (a .states .now) (a .queued) (a .paired) (getD (a .roles .now) (a .i) 0) (omega arith) (if1 .taken) (if2 .left))
 
 sub-v : tie.Need-sub-v
 sub-v c = search needs
@@ -58,9 +66,13 @@ same-length-3 c = search needs
 
 returns-3 : tie.Need-returns-3
 returns-3 c =
-    let a = c .before .before .before .before .before .before .before .before .before .before .args in
-    let if1 = c .before .before .before .before .before .if1 in
-    (rw (is-initial (drop (a .paired) (take (a .queued) (a .states .now))) (getD (a .roles .now) (a .i) 0) (if1 .left) (c .before .before .before .before .if3 .taken) (drop (a .i + 1) (take (a .z .stmts) (a .roles .now)))) (c .before .before .put-fate3 .ensures), omega arith, queue-same (drop (a .paired) (take (a .queued) (a .states .now))) (getD (a .roles .now) (a .i) 0) (if1 .left))
+    let put = c .before .before in
+    let initial = put .before .before in
+    let asked = initial .before in
+    let entry = asked .before .before .before .before .before in
+    let a = entry .args in
+    let if1 = asked .if1 in
+    (rw (is-initial (drop (a .paired) (take (a .queued) (a .states .now))) (getD (a .roles .now) (a .i) 0) (if1 .left) (initial .if3 .taken) (drop (a .i + 1) (take (a .z .stmts) (a .roles .now)))) (put .put-fate3 .ensures), omega arith, queue-same (drop (a .paired) (take (a .queued) (a .states .now))) (getD (a .roles .now) (a .i) 0) (if1 .left))
 
 add-has-role : tie.Need-add-has-role
 add-has-role c = search needs
@@ -76,9 +88,13 @@ same-length-4 c = search needs
 
 returns-4 : tie.Need-returns-4
 returns-4 c =
-    let a = c .before .before .before .before .before .before .before .before .before .before .before .before .args in
-    let if1 = c .before .before .before .before .before .before .before .if1 in
-    (rw (is-replaced (drop (a .paired) (take (a .queued) (a .states .now))) (getD (a .roles .now) (a .i) 0) (if1 .left) (c .before .before .before .before .before .before .if3 .left) (drop (a .i + 1) (take (a .z .stmts) (a .roles .now))) (sym (c .before .before .before .before .before .has-role .ensures) ∙ c .before .before .before .before .if4 .taken)) (c .before .before .put-fate4 .ensures), omega arith, queue-same (drop (a .paired) (take (a .queued) (a .states .now))) (getD (a .roles .now) (a .i) 0) (if1 .left))
+    let put = c .before .before in
+    let looked = put .before .before .before in
+    let asked = looked .before .before in
+    let entry = asked .before .before .before .before .before in
+    let a = entry .args in
+    let if1 = asked .if1 in
+    (rw (is-replaced (drop (a .paired) (take (a .queued) (a .states .now))) (getD (a .roles .now) (a .i) 0) (if1 .left) (looked .before .if3 .left) (drop (a .i + 1) (take (a .z .stmts) (a .roles .now))) (sym (looked .has-role .ensures) ∙ put .before .before .if4 .taken)) (put .put-fate4 .ensures), omega arith, queue-same (drop (a .paired) (take (a .queued) (a .states .now))) (getD (a .roles .now) (a .i) 0) (if1 .left))
 
 put-fate-requires-5 : tie.Need-put-fate-requires-5
 put-fate-requires-5 c κs = search needs
@@ -88,9 +104,13 @@ same-length-5 c = search needs
 
 returns-5 : tie.Need-returns-5
 returns-5 c =
-    let a = c .before .before .before .before .before .before .before .before .before .before .before .before .args in
-    let if1 = c .before .before .before .before .before .before .before .if1 in
-    (rw (is-held (drop (a .paired) (take (a .queued) (a .states .now))) (getD (a .roles .now) (a .i) 0) (if1 .left) (c .before .before .before .before .before .before .if3 .left) (drop (a .i + 1) (take (a .z .stmts) (a .roles .now))) (sym (c .before .before .before .before .before .has-role .ensures) ∙ c .before .before .before .before .if4 .left)) (c .before .before .put-fate5 .ensures), omega arith, queue-same (drop (a .paired) (take (a .queued) (a .states .now))) (getD (a .roles .now) (a .i) 0) (if1 .left))
+    let put = c .before .before in
+    let looked = put .before .before .before in
+    let asked = looked .before .before in
+    let entry = asked .before .before .before .before .before in
+    let a = entry .args in
+    let if1 = asked .if1 in
+    (rw (is-held (drop (a .paired) (take (a .queued) (a .states .now))) (getD (a .roles .now) (a .i) 0) (if1 .left) (looked .before .if3 .left) (drop (a .i + 1) (take (a .z .stmts) (a .roles .now))) (sym (looked .has-role .ensures) ∙ put .before .before .if4 .left)) (put .put-fate5 .ensures), omega arith, queue-same (drop (a .paired) (take (a .queued) (a .states .now))) (getD (a .roles .now) (a .i) 0) (if1 .left))
 
 pub write-fate-spec : {M : Type 1} → statement M
 write-fate-spec =

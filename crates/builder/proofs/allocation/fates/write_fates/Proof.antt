@@ -35,9 +35,12 @@ loop-less c = omega arith
 loop-again : tie.Need-loop-again Inv-loop μ-loop
 unfolding stmtsAt varsAt depsAt
 loop-again c =
-    let a = c .before .before .before .before .before .before .before .before .before .before .args in
-    let loop = c .before .before .before .before .before .before .loop in
-    let write-fate = c .before .before .write-fate in
+    let fated = c .before .before in
+    let turn = fated .before .before .before .before in
+    let start = turn .before .before .before .before in
+    let a = start .args in
+    let loop = turn .loop in
+    let write-fate = fated .write-fate in
     let l : stmtsAt (a .z) + 32 * a .z .stmts ≤ length (loop .area) = omega (arith, loop .inv .2) in
     (omega arith, write-fate .ensures .1, write-fate .kept .0 ∙ loop .inv .2, sym (rest-more (a .z .stmts) (stmtsAt (a .z)) (take (a .queued) (a .states .now)) (a .roles .now) (loop .area) _ (loop .i) (loop .paired) _ (omega arith) (omega arith) l (write-fate .ensures .0) (write-fate .ensures .2)) ∙ loop .inv .3)
 

@@ -8,8 +8,6 @@ use borrow.Author.Tests.{eq-eqb, ne-eqb}
 use Rattle.builder.proofs.laws.RoleLoops.{member-here, member-end}
 use Rattle.builder.proofs.allocation.pairing.has_role.Statement.{statement}
 use Rattle.builder.proofs.allocation.pairing.has_role.Tie as tie
-use Rattle.builder.proofs.allocation.pairing.has_role.Reads as reads
-use Rattle.builder.proofs.allocation.pairing.has_role.Lts as lts
 
 abbrev Inv-loop : tie.InvT-loop
 Inv-loop roles i n role j₀ j = (i ≤ j) × (j ≤ n) × (member role (drop i (take n roles)) ≡ member role (drop j (take n roles)))
@@ -17,41 +15,33 @@ Inv-loop roles i n role j₀ j = (i ≤ j) × (j ≤ n) × (member role (drop i 
 abbrev μ-loop : tie.MeasureT-loop
 μ-loop roles i n role j₀ j = n - j
 
--- src/pairing.rt:15:5
 loop-holds : tie.Need-loop-holds Inv-loop μ-loop
 loop-holds c = (omega arith, omega arith, refl)
 
--- src/pairing.rt:16:20
 mul-if1 : tie.Need-mul-if1 Inv-loop μ-loop
 mul-if1 c = search needs
 
--- src/pairing.rt:16:20
 shared-slice-read-if1 : tie.Need-shared-slice-read-if1 Inv-loop μ-loop
 shared-slice-read-if1 c = omega arith
 
--- src/pairing.rt:17:13
 returns : tie.Need-returns Inv-loop μ-loop
 returns c =
     let a = c .before .before .before .before .args in
     let loop = c .before .before .before .loop in
     sym (loop .inv .2 ∙ member-here (a .roles .now) (a .n) (omega arith) (a .role) (loop .j) (omega arith) ∙ rw (eq-eqb _ _ (c .if1 .taken)) refl)
 
--- src/pairing.rt:19:9
 add-j : tie.Need-add-j Inv-loop μ-loop
 add-j c = omega arith
 
--- src/pairing.rt:15:5
 loop-less : tie.Need-loop-less Inv-loop μ-loop
 loop-less c = omega arith
 
--- src/pairing.rt:15:5
 loop-again : tie.Need-loop-again Inv-loop μ-loop
 loop-again c =
     let a = c .before .before .before .before .args in
     let loop = c .before .before .before .loop in
     (omega arith, omega arith, loop .inv .2 ∙ member-here (a .roles .now) (a .n) (omega arith) (a .role) (loop .j) (omega arith) ∙ rw (ne-eqb _ _ (c .if1 .left)) refl)
 
--- src/pairing.rt:10:1
 returns-2 : tie.Need-returns-2 Inv-loop μ-loop
 returns-2 c =
     let a = c .before .before .args in

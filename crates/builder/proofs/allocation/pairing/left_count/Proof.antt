@@ -8,9 +8,6 @@ use borrow.Author.Needs.{needs}
 use Rattle.builder.proofs.laws.RoleLoops.{times-here, times-end}
 use Rattle.builder.proofs.allocation.pairing.left_count.Statement.{statement}
 use Rattle.builder.proofs.allocation.pairing.left_count.Tie as tie
-use Rattle.builder.proofs.allocation.pairing.left_count.Reads as reads
-use Rattle.builder.proofs.allocation.pairing.left_count.Lts as lts
-use Rattle.builder.proofs.allocation.pairing.none_flag.Reads as none-flag-reads
 
 abbrev Inv-loop : tie.InvT-loop
 Inv-loop roles n total₀ i₀ total i = (i ≤ n) × (total ≤ i) × (times (eqb 0) (take n roles) ≡ total + times (eqb 0) (drop i (take n roles)))
@@ -18,35 +15,27 @@ Inv-loop roles n total₀ i₀ total i = (i ≤ n) × (total ≤ i) × (times (e
 abbrev μ-loop : tie.MeasureT-loop
 μ-loop roles n total₀ i₀ total i = n - i
 
--- src/pairing.rt:38:5
 loop-holds : tie.Need-loop-holds Inv-loop μ-loop
 loop-holds c = (omega arith, omega arith, omega arith)
 
--- src/pairing.rt:39:28
 mul-none-flag : tie.Need-mul-none-flag Inv-loop μ-loop
 mul-none-flag c = search needs
 
--- src/pairing.rt:39:28
 shared-slice-read-none-flag : tie.Need-shared-slice-read-none-flag Inv-loop μ-loop
 shared-slice-read-none-flag c = omega arith
 
--- src/pairing.rt:39:18
 none-flag-requires : tie.Need-none-flag-requires Inv-loop μ-loop
 none-flag-requires c κs = search needs
 
--- src/pairing.rt:39:9
 add-total : tie.Need-add-total Inv-loop μ-loop
 add-total c = omega (arith, c .none-flag .ensures .1)
 
--- src/pairing.rt:40:9
 add-i : tie.Need-add-i Inv-loop μ-loop
 add-i c = omega arith
 
--- src/pairing.rt:38:5
 loop-less : tie.Need-loop-less Inv-loop μ-loop
 loop-less c = omega arith
 
--- src/pairing.rt:38:5
 loop-again : tie.Need-loop-again Inv-loop μ-loop
 loop-again c =
     let a = c .before .before .before .before .before .args in
@@ -54,7 +43,6 @@ loop-again c =
     let t = times-here (a .roles .now) (a .n) (omega arith) (eqb 0) (loop .i) (omega arith) in
     (omega arith, omega (arith, c .none-flag .ensures .1), omega (arith, t, c .none-flag .ensures .0, loop .inv .2))
 
--- src/pairing.rt:32:1
 returns : tie.Need-returns Inv-loop μ-loop
 returns c =
     let a = c .before .before .before .args in

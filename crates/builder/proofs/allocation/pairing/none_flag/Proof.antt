@@ -4,15 +4,11 @@ use borrow.Author.Tests.{eq-eqb, ne-eqb}
 use Rattle.functions.specs.Lists.{flag}
 use Rattle.builder.proofs.allocation.pairing.none_flag.Statement.{statement}
 use Rattle.builder.proofs.allocation.pairing.none_flag.Tie as tie
-use Rattle.builder.proofs.allocation.pairing.none_flag.Reads as reads
-use Rattle.builder.proofs.allocation.pairing.none_flag.Lts as lts
 
--- src/pairing.rt:25:1
 returns : tie.Need-returns
 unfolding flag
 returns c = (rw (eq-eqb _ _ (c .if1 .taken)) refl, omega arith)
 
--- src/pairing.rt:25:1
 returns-2 : tie.Need-returns-2
 unfolding flag
 returns-2 c = (rw (ne-eqb _ _ (c .if1 .left)) refl, omega arith)

@@ -19,34 +19,34 @@ abbrev μ-loop : tie.MeasureT-loop
 
 node-of-requires : tie.Need-node-of-requires Inv-loop μ-loop
 node-of-requires c κs =
-    let F = c .before .pre .0 .1 in
-    (omega (arith, F .long), c .before .pre .1, omega arith)
+    let F = c .before .pre .flattened .1 in
+    (omega (arith, F .long), c .before .pre .within, omega arith)
 
 loop-holds : tie.Need-loop-holds Inv-loop μ-loop
 loop-holds c =
     let p = c .before .before .pre in
-    let F = p .0 .1 in
-    rw (c .node-of .ensures .0) (omega (arith, p .1), p .3, (_, node-ok _ _ _ (F .nodes) _ (p .1) .call (p .2)), refl)
+    let F = p .flattened .1 in
+    rw (c .node-of .ensures .0) (omega (arith, p .within), p .few, (_, node-ok _ _ _ (F .nodes) _ (p .within) .call (p .kind)), refl)
 
 add-loop : tie.Need-add-loop Inv-loop μ-loop
-add-loop c = omega (arith, c .before .before .before .pre .3, c .before .node-of .ensures .0, c .before .node-of .ensures .1)
+add-loop c = omega (arith, c .before .before .before .pre .few, c .before .node-of .ensures .0, c .before .node-of .ensures .1)
 
 sub-node-of : tie.Need-sub-node-of Inv-loop μ-loop
 sub-node-of c =
-    let F = c .before .before .before .before .pre .0 .1 in
+    let F = c .before .before .before .before .pre .flattened .1 in
     let a = last-arg _ _ _ (F .nodes) (c .before .loop .end) (c .before .loop .left) (c .before .loop .inv .2 .0) (c .before .loop .inv .0) (c .before .loop .inv .2 .1) (λ e. omega (arith, c .before .loop .inv .1)) in
     omega (arith, a .two)
 
 node-of-requires-2 : tie.Need-node-of-requires-2 Inv-loop μ-loop
 node-of-requires-2 c κs =
-    let F = c .before .before .before .before .pre .0 .1 in
+    let F = c .before .before .before .before .pre .flattened .1 in
     let a = last-arg _ _ _ (F .nodes) (c .before .loop .end) (c .before .loop .left) (c .before .loop .inv .2 .0) (c .before .loop .inv .0) (c .before .loop .inv .2 .1) (λ e. omega (arith, c .before .loop .inv .1)) in
     (omega (arith, F .long), omega (arith, a .two, c .before .loop .inv .0), omega arith)
 
 sub-end : tie.Need-sub-end Inv-loop μ-loop
 sub-end c =
     let loop = c .before .before .loop in
-    let F = c .before .before .before .before .before .pre .0 .1 in
+    let F = c .before .before .before .before .before .pre .flattened .1 in
     let a = last-arg _ _ _ (F .nodes) (loop .end) (loop .left) (loop .inv .2 .0) (loop .inv .0) (loop .inv .2 .1) (λ e. omega (arith, loop .inv .1)) in
     omega (arith, a .within, c .node-of2 .ensures .0)
 
@@ -59,13 +59,13 @@ loop-less c = omega (arith, c .before .before .loop .inv .1)
 loop-again : tie.Need-loop-again Inv-loop μ-loop
 loop-again c =
     let loop = c .before .before .loop in
-    let F = c .before .before .before .before .before .pre .0 .1 in
+    let F = c .before .before .before .before .before .pre .flattened .1 in
     let a = last-arg _ _ _ (F .nodes) (loop .end) (loop .left) (loop .inv .2 .0) (loop .inv .0) (loop .inv .2 .1) (λ e. omega (arith, loop .inv .1)) in
     rw (c .node-of2 .ensures .0) (omega (arith, loop .inv .0), omega (arith, c .before .loop-test .taken), (_, a .rest), loop .inv .3 ∙ arg-before _ _ _ _ (c .before .loop-test .taken))
 
 sub-result : tie.Need-sub-result Inv-loop μ-loop
 sub-result c =
-    let F = c .before .before .before .before .pre .0 .1 in
+    let F = c .before .before .before .before .pre .flattened .1 in
     let a = last-arg _ _ _ (F .nodes) (c .before .loop .end) (c .before .loop .left) (c .before .loop .inv .2 .0) (c .before .loop .inv .0) (c .before .loop .inv .2 .1) (λ e. omega (arith, c .before .loop .inv .1)) in
     omega (arith, a .two)
 

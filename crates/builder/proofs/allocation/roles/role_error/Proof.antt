@@ -41,7 +41,7 @@ unfolding stmtsAt
 start-error-requires c κs =
     let p = entry (c .before .before .before) .pre in
     let F = p .0 .1 in
-    rw (c .start-of .ensures, c .before .stmt-of2 .ensures .0) (F .small, omega (arith, F .long), left-there (c .before), (start-fits _ _ _ (F .nodes) (F .few) _ _ (p .1) _ (left-there (c .before)), start-calls _ _ _ (F .nodes) (F .few) _ _ _ (left-there (c .before))))
+    rw (c .start-of .ensures, c .before .stmt-of2 .ensures .0) (record { small = F .small; long = omega (arith, F .long); within = left-there (c .before); fits = start-fits _ _ _ (F .nodes) (F .few) _ _ (p .1) _ (left-there (c .before)); calls = start-calls _ _ _ (F .nodes) (F .few) _ _ _ (left-there (c .before)) })
 
 returns : tie.Need-returns
 returns c =

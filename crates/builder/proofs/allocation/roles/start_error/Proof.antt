@@ -12,8 +12,8 @@ enum-known-start c = search needs
 number-error-requires : tie.Need-number-error-requires
 number-error-requires c κs =
     let p = c .before .before .before .before .pre in
-    let n = number-fits _ _ _ _ (c .before .start .given .1) (p .3 .0) in
-    (p .0, p .1, (n .1, n .2), (p .2, number-calls _ _ _ _ _ (c .before .start .given .1) (p .3 .1)))
+    let n = number-fits _ _ _ _ (c .before .start .given .1) (p .fits) in
+    record { small = p .small; long = p .long; behind = n .1; arg-within = n .2; within = p .within; named = number-calls _ _ _ _ _ (c .before .start .given .1) (p .calls) }
 
 enum-told : tie.Need-enum-told
 enum-told c = search needs

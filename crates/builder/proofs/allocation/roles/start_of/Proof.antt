@@ -95,7 +95,7 @@ sub-arg-at c = search needs
 arg-at-requires : tie.Need-arg-at-requires
 arg-at-requires c κs =
     let d = named (timed (c .before)) in
-    (entry d .pre .0, entry d .pre .2, is-call d, omega (arith, c .if4 .left, c .before .node-of3 .ensures .0))
+    record { flattened = entry d .pre .0; within = entry d .pre .2; kind = is-call d; few = omega (arith, c .if4 .left, c .before .node-of3 .ensures .0) }
 
 sub-node-of : tie.Need-sub-node-of
 sub-node-of c = arg-there c .0
@@ -105,8 +105,8 @@ node-of-requires-4 c κs =
     let p = entry (named (timed (counted c))) .pre in
     (omega (arith, p .0 .1 .long), omega (arith, arg-there c), omega arith)
 
-sub-t13 : tie.Need-sub-t13
-sub-t13 c = search needs
+sub-t14 : tie.Need-sub-t14
+sub-t14 c = search needs
 
 returns-5 : tie.Need-returns-5
 returns-5 c =
@@ -142,6 +142,6 @@ start-of-spec =
     arg-at-requires
     sub-node-of
     node-of-requires-4
-    sub-t13
+    sub-t14
     returns-5
     returns-6)

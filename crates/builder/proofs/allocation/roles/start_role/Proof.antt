@@ -6,17 +6,22 @@ use borrow.Author.Needs.{needs}
 use Rattle.builder.proofs.allocation.roles.start_role.Statement.{statement}
 use Rattle.builder.proofs.allocation.roles.start_role.Tie as tie
 
+-- ---- the place: the entry
+
+abbrev entry : tie.After-known-told → tie.Start
+entry c = c .before .before .before .before
+
 enum-known-start : tie.Need-enum-known-start
 enum-known-start c = search needs
 
 sub-record-bits : tie.Need-sub-record-bits
 sub-record-bits c =
-    let N = number-fits _ _ _ _ (c .before .start .given .1) (c .before .before .before .before .pre .2) in
+    let N = number-fits _ _ _ _ (c .before .start .given .1) (entry c .pre .2) in
     N .1
 
 record-bits-requires : tie.Need-record-bits-requires
 record-bits-requires c κs =
-    let p = c .before .before .before .before .pre in
+    let p = entry c .pre in
     let N = number-fits _ _ _ _ (c .before .start .given .1) (p .2) in
     (omega (arith, p .0), omega (arith, N .1, N .2), omega arith)
 
@@ -25,13 +30,13 @@ same-number-requires c κs = search needs
 
 mul-result : tie.Need-mul-result
 mul-result c =
-    let p = c .before .before .before .before .before .before .before .pre in
+    let p = entry (c .before .before .before) .pre in
     let N = number-fits _ _ _ _ (c .before .before .before .before .start .given .1) (p .2) in
     omega (arith, N .0, p .1 .vars)
 
 add-result : tie.Need-add-result
 add-result c =
-    let p = c .before .before .before .before .before .before .before .pre in
+    let p = entry (c .before .before .before) .pre in
     let N = number-fits _ _ _ _ (c .before .before .before .before .start .given .1) (p .2) in
     omega (arith, N .0, p .1 .vars)
 
@@ -46,7 +51,7 @@ enum-told-2 c = search needs
 
 returns : tie.Need-returns
 returns c =
-    let p = c .before .before .before .before .before .before .before .pre in
+    let p = entry (c .before .before .before) .pre in
     let start = c .before .before .before .before .start in
     λ f. let N = number-fits _ _ _ _ (start .given .1) (p .2) in
     let m : (2 * start .given .0 .0 + 1) % 4294967296 ≡ 2 * start .given .0 .0 + 1 = omega (arith, N .0, p .1 .vars) in

@@ -43,7 +43,8 @@ starting-errors-requires c κs =
     let l = c .before .before .before in
     let r = stated l in
     let p = entry (built r) .pre in
-    ((p .0 .called .opened, p .0 .model), p .0 .righted, starting-room (p .0) _ _ _ (p .1) (built r .models-errors .ensures) _ _ _ (r .roles-errors .ensures) _ _ _ _ _ (l .before .count-error .ensures) (l .list .ensures))
+    let room = starting-room (p .0) _ _ _ (p .1) (built r .models-errors .ensures) _ _ _ (r .roles-errors .ensures) _ _ _ _ _ (l .before .count-error .ensures) (l .list .ensures) in
+    record { opened = p .0 .called .opened; model = p .0 .model; righted = p .0 .righted; long = room .0; few = room .1 }
 
 same-length : tie.Need-same-length
 same-length c = search needs

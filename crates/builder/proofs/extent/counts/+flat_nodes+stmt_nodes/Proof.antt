@@ -185,8 +185,10 @@ stmt-nodes-find-replacements-requires t c κs =
 
 stmt-nodes-sub-flat-nodes : (t : ℕ) → stmt-nodes-lts.Need-sub-flat-nodes (stmt-reads.Asked, stmt-reads.Learnt, own-nodes-reads.Asked, own-nodes-reads.Learnt, find-replacements-reads.Asked, find-replacements-reads.Learnt, flat-nodes-below t, flat-nodes.Post) (stmt-nodes-at t) stmt-nodes.Post
 stmt-nodes-sub-flat-nodes t c =
-    let a = c .before .before .before .before .before .before .before .before .before .before .before .before .args in
-    omega (arith, (neither-zero (getD (a .calls .now) (a .q) 0) (a .k) (c .before .before .before .before .before .before .if2 .left) .0))
+    let else2 = c .before .before .before .before .before .before in
+    let start = else2 .before .before .before .before .before .before in
+    let a = start .args in
+    omega (arith, (neither-zero (getD (a .calls .now) (a .q) 0) (a .k) (else2 .if2 .left) .0))
 
 stmt-nodes-add-flat-nodes : (t : ℕ) → stmt-nodes-lts.Need-add-flat-nodes (stmt-reads.Asked, stmt-reads.Learnt, own-nodes-reads.Asked, own-nodes-reads.Learnt, find-replacements-reads.Asked, find-replacements-reads.Learnt, flat-nodes-below t, flat-nodes.Post) (stmt-nodes-at t) stmt-nodes.Post
 stmt-nodes-add-flat-nodes t c =

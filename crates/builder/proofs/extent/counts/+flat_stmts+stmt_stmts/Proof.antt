@@ -106,7 +106,9 @@ flat-stmts-add-total : (t : ℕ) → flat-stmts-lts.Need-add-total (model-reads.
 flat-stmts-add-total t c =
     let le = at-most-le _ _ _ (c .before .before .loop .inv .1) in
     let g = at-most-le _ _ _ (c .stmt-stmts .ensures) in
-    let p = c .before .before .before .before .before .before .before .pre .1 in
+    let after-model = c .before .before .before .before in
+    let start = after-model .before .before .before in
+    let p = start .pre .1 in
     omega arith
 
 flat-stmts-add-i : (t : ℕ) → flat-stmts-lts.Need-add-i (model-reads.Asked, model-reads.Learnt, stmt-stmts-below t, stmt-stmts.Post) (flat-stmts-at t) flat-stmts.Post flat-stmts-Inv-loop flat-stmts-μ-loop

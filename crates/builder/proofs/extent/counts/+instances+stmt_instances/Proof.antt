@@ -118,7 +118,9 @@ instances-add-total : (t : ℕ) → instances-lts.Need-add-total (model-reads.As
 instances-add-total t c =
     let le = at-most-le _ _ _ (c .before .before .loop .inv .1) in
     let g = at-most-le _ _ _ (c .stmt-instances .ensures) in
-    let p = c .before .before .before .before .before .before .before .before .pre .1 in
+    let after-model = c .before .before .before .before in
+    let start = after-model .before .before .before .before in
+    let p = start .pre .1 in
     omega arith
 
 instances-add-i : (t : ℕ) → instances-lts.Need-add-i (model-reads.Asked, model-reads.Learnt, stmt-instances-below t, stmt-instances.Post) (instances-at t) instances.Post instances-Inv-loop instances-μ-loop

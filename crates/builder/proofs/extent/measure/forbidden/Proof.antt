@@ -1,51 +1,66 @@
 use mathlib.Core.Path.{sym, _∙_}
 use Rattle.ast.specs.Opens.{fileIn}
+use Rattle.builder.proofs.laws.Refusals.{cyclic-reason, self-listed-reason, overfull-reason}
 use Rattle.builder.proofs.laws.Measures.{forbids-cycle, forbids-self-listed, forbids-beyond, forbids-none}
 use borrow.Author.Needs.{needs}
 use Rattle.builder.proofs.extent.measure.forbidden.Statement.{statement}
 use Rattle.builder.proofs.extent.measure.forbidden.Tie as tie
 
+-- ---- the place: the entry
+
+abbrev entry : tie.After-any-reason → tie.Start
+entry c = c .before .before .before .before
+
 reach-requires : tie.Need-reach-requires
 reach-requires c κs = search needs
 
-cyclic-requires : tie.Need-cyclic-requires
-cyclic-requires c κs = search needs
+any-reason-requires : tie.Need-any-reason-requires
+any-reason-requires c κs = search needs
 
 returns : tie.Need-returns
 returns c =
-    let a = c .before .before .before .before .before .args in
-    forbids-cycle (fileIn (a .f .now) (a .s)) (a .m) (sym (c .before .cyclic .ensures) ∙ c .if1 .taken)
+    let a = entry (c .before) .args in
+    let file = fileIn (a .f .now) (a .s) in
+    forbids-cycle file (a .m) (cyclic-reason file (a .m) ∙ sym (c .before .any-reason .ensures) ∙ c .if1 .taken)
 
-self-listed-requires : tie.Need-self-listed-requires
-self-listed-requires c κs = search needs
+any-reason-requires-2 : tie.Need-any-reason-requires-2
+any-reason-requires-2 c κs = search needs
 
 returns-2 : tie.Need-returns-2
 returns-2 c =
-    let a = c .before .before .before .before .before .before .before .before .args in
-    forbids-self-listed (fileIn (a .f .now) (a .s)) (a .m) (sym (c .before .before .before .before .cyclic .ensures) ∙ c .before .before .before .if1 .left) (sym (c .before .self-listed .ensures) ∙ c .if2 .taken)
+    let cycle = c .before .before .before .before in
+    let a = entry cycle .args in
+    let file = fileIn (a .f .now) (a .s) in
+    forbids-self-listed file (a .m) (cyclic-reason file (a .m) ∙ sym (cycle .any-reason .ensures) ∙ c .before .before .before .if1 .left) (self-listed-reason file (a .m) ∙ sym (c .before .any-reason2 .ensures) ∙ c .if2 .taken)
 
-overfull-requires : tie.Need-overfull-requires
-overfull-requires c κs = search needs
+any-reason-requires-3 : tie.Need-any-reason-requires-3
+any-reason-requires-3 c κs = search needs
 
 returns-3 : tie.Need-returns-3
 returns-3 c =
-    let a = c .before .before .before .before .before .before .before .before .before .before .before .args in
-    forbids-beyond (fileIn (a .f .now) (a .s)) (a .m) (sym (c .before .before .before .before .before .before .before .cyclic .ensures) ∙ c .before .before .before .before .before .before .if1 .left) (sym (c .before .before .before .before .self-listed .ensures) ∙ c .before .before .before .if2 .left) (sym (c .before .overfull .ensures) ∙ c .if3 .taken)
+    let listed = c .before .before .before .before in
+    let cycle = listed .before .before .before in
+    let a = entry cycle .args in
+    let file = fileIn (a .f .now) (a .s) in
+    forbids-beyond file (a .m) (cyclic-reason file (a .m) ∙ sym (cycle .any-reason .ensures) ∙ listed .before .before .if1 .left) (self-listed-reason file (a .m) ∙ sym (listed .any-reason2 .ensures) ∙ c .before .before .before .if2 .left) (overfull-reason file (a .m) ∙ sym (c .before .any-reason3 .ensures) ∙ c .if3 .taken)
 
 returns-4 : tie.Need-returns-4
 returns-4 c =
-    let a = c .before .before .before .before .before .before .before .before .before .before .before .args in
-    forbids-none (fileIn (a .f .now) (a .s)) (a .m) (sym (c .before .before .before .before .before .before .before .cyclic .ensures) ∙ c .before .before .before .before .before .before .if1 .left) (sym (c .before .before .before .before .self-listed .ensures) ∙ c .before .before .before .if2 .left) (sym (c .before .overfull .ensures) ∙ c .if3 .left)
+    let listed = c .before .before .before .before in
+    let cycle = listed .before .before .before in
+    let a = entry cycle .args in
+    let file = fileIn (a .f .now) (a .s) in
+    forbids-none file (a .m) (cyclic-reason file (a .m) ∙ sym (cycle .any-reason .ensures) ∙ listed .before .before .if1 .left) (self-listed-reason file (a .m) ∙ sym (listed .any-reason2 .ensures) ∙ c .before .before .before .if2 .left) (overfull-reason file (a .m) ∙ sym (c .before .any-reason3 .ensures) ∙ c .if3 .left)
 
 pub forbidden-spec : {M : Type 1} → statement M
 forbidden-spec =
     tie.close
     (tie.spec
     reach-requires
-    cyclic-requires
+    any-reason-requires
     returns
-    self-listed-requires
+    any-reason-requires-2
     returns-2
-    overfull-requires
+    any-reason-requires-3
     returns-3
     returns-4)

@@ -1,6 +1,7 @@
-use mathlib.Core.Path.{ap, _∙_}
+use mathlib.Core.Path.{ap₂, _∙_}
 use mathlib.Core.List.{List}
-use Prim.Native.Nat.{ℕ, _+_, _*_}
+use Prim.Native.Nat.{ℕ}
+use native.Mathlib.Omega.{arith}
 use Rattle.ast.specs.Bytes.{put}
 use Rattle.ast.specs.Encode.{encode}
 use Rattle.ast.specs.Opens.{fileIn}
@@ -11,24 +12,31 @@ use borrow.Author.Needs.{needs}
 use Rattle.builder.proofs.flattening.laid.lay_flats.Statement.{statement}
 use Rattle.builder.proofs.flattening.laid.lay_flats.Tie as tie
 
+-- ---- the places: the entry, and where the nodes are laid
+
+abbrev entry : tie.After-lay-nodes → tie.Start
+entry c = c .before .before .before .before .before .before
+
+abbrev nodes-laid : tie.After-lay-stmts-arg2 → tie.After-lay-nodes
+nodes-laid c = c .before .before .before .before .before .before
+
 lay-nodes-requires : tie.Need-lay-nodes-requires
 lay-nodes-requires c κs = search needs
 
-mul-lay-stmts : tie.Need-mul-lay-stmts
-mul-lay-stmts c = search needs
-
-add-lay-stmts : tie.Need-add-lay-stmts
-add-lay-stmts c = search needs
+nodes-end-requires : tie.Need-nodes-end-requires
+nodes-end-requires c κs =
+    let p = entry (nodes-laid c) .pre in
+    omega (arith, p .0 .few-nodes, p .1)
 
 lay-stmts-requires : tie.Need-lay-stmts-requires
 lay-stmts-requires c κs =
-    let after-lay-nodes = c .before .before .before .before .before .before in
-    let start = after-lay-nodes .before .before .before .before .before .before in
+    let after-lay-nodes = nodes-laid (c .before) in
+    let start = entry after-lay-nodes in
     let a = start .args in
     let p = start .pre in
     let q = after-lay-nodes .lay-nodes .ensures in
     let l = p .0 in
-    (record { linked = l .linked; model = l .model; readable = q .1; few-nodes = l .few-nodes; few-stmts = l .few-stmts }, room-behind (a .own .now) _ (flatsOf (fileIn (a .f .now) (a .s)) (a .m)) (a .n) (q .0) (l .few-nodes) (p .1) (p .2))
+    (record { linked = l .linked; model = l .model; readable = q .1; few-nodes = l .few-nodes; few-stmts = l .few-stmts }, room-behind (a .own .now) _ (flatsOf (fileIn (a .f .now) (a .s)) (a .m)) (a .n) (q .0) (l .few-nodes) (p .1) (p .2) _ (c .nodes-end .ensures))
 
 same-length : tie.Need-same-length
 same-length c = search needs
@@ -38,16 +46,19 @@ same-length-2 c = search needs
 
 returns : tie.Need-returns
 returns c =
-    let a = c .before .before .before .before .before .before .before .before .before .before .before .before .before .before .before .before .before .args in
-    c .before .before .before .before .lay-stmts .ensures ∙ ap (λ (d : List ℕ). put d (40 + 32 * a .n) (encode (unfated 0 (flatsOf (fileIn (a .f .now) (a .s)) (a .m))))) (c .before .before .before .before .before .before .before .before .before .before .before .lay-nodes .ensures .0)
+    let after-lay-stmts = c .before .before .before .before in
+    let end = after-lay-stmts .before in
+    let after-lay-nodes = nodes-laid (end .before) in
+    let a = entry after-lay-nodes .args in
+    let qs = unfated 0 (flatsOf (fileIn (a .f .now) (a .s)) (a .m)) in
+    after-lay-stmts .lay-stmts .ensures ∙ ap₂ (λ (d : List ℕ) (at : ℕ). put d at (encode qs)) (after-lay-nodes .lay-nodes .ensures .0) (end .nodes-end .ensures)
 
 pub lay-flats-spec : {M : Type 1} → statement M
 lay-flats-spec =
     tie.close
     (tie.spec
     lay-nodes-requires
-    mul-lay-stmts
-    add-lay-stmts
+    nodes-end-requires
     lay-stmts-requires
     same-length
     same-length-2

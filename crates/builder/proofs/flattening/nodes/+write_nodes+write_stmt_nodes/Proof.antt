@@ -193,7 +193,9 @@ write-stmt-nodes-returns-2 t c =
 
 write-stmt-nodes-sub-find-replacements : (t : ℕ) → write-stmt-nodes-lts.Need-sub-find-replacements (stmt-reads.Asked, stmt-reads.Learnt, write-own-reads.Asked, write-own-reads.Learnt, find-replacements-reads.Asked, find-replacements-reads.Learnt, write-nodes-below t, write-nodes.Post) (write-stmt-nodes-at t) write-stmt-nodes.Post
 write-stmt-nodes-sub-find-replacements t c =
-    let a = c .before .before .before .before .before .before .before .args in
+    let after-stmt = c .before .before .before in
+    let start = after-stmt .before .before .before .before in
+    let a = start .args in
     omega (arith, (neither-zero (getD (a .calls .now) (a .q) 0) (a .k) (c .if2 .left) .0))
 
 write-stmt-nodes-stmt-requires-2 : (t : ℕ) → write-stmt-nodes-lts.Need-stmt-requires-2 (stmt-reads.Asked, stmt-reads.Learnt, write-own-reads.Asked, write-own-reads.Learnt, find-replacements-reads.Asked, find-replacements-reads.Learnt, write-nodes-below t, write-nodes.Post) (write-stmt-nodes-at t) write-stmt-nodes.Post
@@ -215,8 +217,11 @@ write-stmt-nodes-find-replacements-requires t c κs =
 
 write-stmt-nodes-sub-write-nodes : (t : ℕ) → write-stmt-nodes-lts.Need-sub-write-nodes (stmt-reads.Asked, stmt-reads.Learnt, write-own-reads.Asked, write-own-reads.Learnt, find-replacements-reads.Asked, find-replacements-reads.Learnt, write-nodes-below t, write-nodes.Post) (write-stmt-nodes-at t) write-stmt-nodes.Post
 write-stmt-nodes-sub-write-nodes t c =
-    let a = c .before .before .before .before .before .before .before .before .before .before .before .before .before .args in
-    omega (arith, (neither-zero (getD (a .calls .now) (a .q) 0) (a .k) (c .before .before .before .before .before .before .if2 .left) .0))
+    let else2 = c .before .before .before .before .before .before in
+    let after-stmt = else2 .before .before .before in
+    let start = after-stmt .before .before .before .before in
+    let a = start .args in
+    omega (arith, (neither-zero (getD (a .calls .now) (a .q) 0) (a .k) (else2 .if2 .left) .0))
 
 write-stmt-nodes-add-write-nodes : (t : ℕ) → write-stmt-nodes-lts.Need-add-write-nodes (stmt-reads.Asked, stmt-reads.Learnt, write-own-reads.Asked, write-own-reads.Learnt, find-replacements-reads.Asked, find-replacements-reads.Learnt, write-nodes-below t, write-nodes.Post) (write-stmt-nodes-at t) write-stmt-nodes.Post
 write-stmt-nodes-add-write-nodes t c =

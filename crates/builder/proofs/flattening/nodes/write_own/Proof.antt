@@ -29,8 +29,10 @@ same-length c = search needs
 
 returns : tie.Need-returns
 returns c =
-    let a = c .before .before .before .before .before .before .before .before .before .before .args in
-    λ sub. rate-put (a .f .now) (a .s) (a .rows .now) (a .level) (a .q) sub (a .out .now) (a .done) _ _ _ (sym (c .before .before .before .before .before .stmt2 .ensures .0) ∙ c .before .before .before .before .if1 .taken) (c .before .before .before .before .before .before .stmt .ensures .0) (c .before .before .write-tree .ensures)
+    let after-stmt = c .before .before .before .before .before .before in
+    let start = after-stmt .before .before .before .before in
+    let a = start .args in
+    λ sub. rate-put (a .f .now) (a .s) (a .rows .now) (a .level) (a .q) sub (a .out .now) (a .done) _ _ _ (sym (c .before .before .before .before .before .stmt2 .ensures .0) ∙ c .before .before .before .before .if1 .taken) (after-stmt .stmt .ensures .0) (c .before .before .write-tree .ensures)
 
 stmt-requires-3 : tie.Need-stmt-requires-3
 stmt-requires-3 c κs =

@@ -95,7 +95,9 @@ write-stmt-returns-2 t c =
 
 write-stmt-sub-find-replacements : (t : ℕ) → write-stmt-lts.Need-sub-find-replacements (stmt-reads.Asked, stmt-reads.Learnt, write-record-reads.Asked, write-record-reads.Learnt, find-replacements-reads.Asked, find-replacements-reads.Learnt, write-stmts-below t, write-stmts.Post) (write-stmt-at t) write-stmt.Post
 write-stmt-sub-find-replacements t c =
-    let a = c .before .before .before .before .before .before .before .args in
+    let after-stmt = c .before .before .before in
+    let start = after-stmt .before .before .before .before in
+    let a = start .args in
     omega (arith, (neither-zero (getD (a .calls .now) (a .q) 0) (a .k) (c .if2 .left) .0))
 
 write-stmt-stmt-requires-2 : (t : ℕ) → write-stmt-lts.Need-stmt-requires-2 (stmt-reads.Asked, stmt-reads.Learnt, write-record-reads.Asked, write-record-reads.Learnt, find-replacements-reads.Asked, find-replacements-reads.Learnt, write-stmts-below t, write-stmts.Post) (write-stmt-at t) write-stmt.Post
@@ -116,8 +118,11 @@ write-stmt-find-replacements-requires t c κs =
 
 write-stmt-sub-write-stmts : (t : ℕ) → write-stmt-lts.Need-sub-write-stmts (stmt-reads.Asked, stmt-reads.Learnt, write-record-reads.Asked, write-record-reads.Learnt, find-replacements-reads.Asked, find-replacements-reads.Learnt, write-stmts-below t, write-stmts.Post) (write-stmt-at t) write-stmt.Post
 write-stmt-sub-write-stmts t c =
-    let a = c .before .before .before .before .before .before .before .before .before .before .before .before .before .args in
-    omega (arith, (neither-zero (getD (a .calls .now) (a .q) 0) (a .k) (c .before .before .before .before .before .before .if2 .left) .0))
+    let else2 = c .before .before .before .before .before .before in
+    let after-stmt = else2 .before .before .before in
+    let start = after-stmt .before .before .before .before in
+    let a = start .args in
+    omega (arith, (neither-zero (getD (a .calls .now) (a .q) 0) (a .k) (else2 .if2 .left) .0))
 
 write-stmt-add-write-stmts : (t : ℕ) → write-stmt-lts.Need-add-write-stmts (stmt-reads.Asked, stmt-reads.Learnt, write-record-reads.Asked, write-record-reads.Learnt, find-replacements-reads.Asked, find-replacements-reads.Learnt, write-stmts-below t, write-stmts.Post) (write-stmt-at t) write-stmt.Post
 write-stmt-add-write-stmts t c =

@@ -15,6 +15,11 @@ Inv-loop old models c new₀ a b₀ new b = (b ≤ models) × Added b a (λ y. e
 abbrev μ-loop : tie.MeasureT-loop
 μ-loop old models c new₀ a b₀ new b = models - b
 
+-- ---- the place: the entry
+
+abbrev entry : tie.At-loop Inv-loop μ-loop → tie.Start Inv-loop μ-loop
+entry c = c .before .before .before
+
 loop-holds : tie.Need-loop-holds Inv-loop μ-loop
 loop-holds c = (omega arith, added-none (c .before .before .args .a) (c .before .before .args .new .now) _)
 
@@ -56,8 +61,9 @@ loop-less c = omega arith
 
 loop-again : tie.Need-loop-again Inv-loop μ-loop
 loop-again c =
-    let a = c .before .before .before .before .before .before .before .args in
-    let loop = c .before .before .before .before .loop in
+    let turn = c .before .before .before .before in
+    let a = entry turn .args in
+    let loop = turn .loop in
     (omega arith, added-more (a .a) (a .new .now) (λ y. eqb (getD (a .old .now) (32 * a .c + y) 0) 1) (loop .b) (c .either .result) (loop .new) (omega arith) (c .either .ensures) (loop .inv .1))
 
 mul-new-2 : tie.Need-mul-new-2 Inv-loop μ-loop
@@ -74,9 +80,9 @@ same-length c = length-set (c .before .loop .new) _ 1 ∙ c .before .loop .inv .
 
 returns : tie.Need-returns Inv-loop μ-loop
 returns c =
-    let a = c .before .before .before .before .args in
+    let a = entry (c .before) .args in
     let e : c .before .loop .b ≡ a .models = omega arith in
-    added-last (a .a) (a .new .now) (a .models) (a .c) (a .old .now) (c .before .loop .new) (c .before .before .before .before .pre .called) (omega arith) (rw e at (c .before .loop .inv .1))
+    added-last (a .a) (a .new .now) (a .models) (a .c) (a .old .now) (c .before .loop .new) (entry (c .before) .pre .called) (omega arith) (rw e at (c .before .loop .inv .1))
 
 pub add-reached-spec : {M : Type 1} → statement M
 add-reached-spec =

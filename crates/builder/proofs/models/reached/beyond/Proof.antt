@@ -16,6 +16,11 @@ Inv-loop f s call n end₀ left₀ end left = (total : ℕ) × (end ≤ s .count
 abbrev μ-loop : tie.MeasureT-loop
 μ-loop f s call n end₀ left₀ end left = left
 
+-- ---- the place: the entry
+
+abbrev entry : tie.At-loop Inv-loop μ-loop → tie.Start Inv-loop μ-loop
+entry c = c .before .before .before
+
 node-requires : tie.Need-node-requires Inv-loop μ-loop
 node-requires c κs = (c .before .pre .0, (c .before .pre .1, omega arith))
 
@@ -30,45 +35,49 @@ sub-left c = omega arith
 
 sub-node : tie.Need-sub-node Inv-loop μ-loop
 sub-node c =
-    let args = c .before .before .before .before .args in
-    let a = arg-here (args .f .now) (args .s) (c .before .before .before .before .pre .0) (c .before .loop .end) (c .before .loop .left) (c .before .loop .inv .0) (c .before .loop .inv .1) (c .before .loop .inv .2) (c .loop-test .taken) in
+    let args = entry (c .before) .args in
+    let a = arg-here (args .f .now) (args .s) (entry (c .before) .pre .0) (c .before .loop .end) (c .before .loop .left) (c .before .loop .inv .0) (c .before .loop .inv .1) (c .before .loop .inv .2) (c .loop-test .taken) in
     omega (arith, a .two)
 
 node-requires-2 : tie.Need-node-requires-2 Inv-loop μ-loop
 node-requires-2 c κs =
-    let args = c .before .before .before .before .args in
-    let p = c .before .before .before .before .pre in
+    let args = entry (c .before) .args in
+    let p = entry (c .before) .pre in
     let a = arg-here (args .f .now) (args .s) (p .0) (c .before .loop .end) (c .before .loop .left) (c .before .loop .inv .0) (c .before .loop .inv .1) (c .before .loop .inv .2) (c .loop-test .taken) in
     (p .0, (omega (arith, a .two, c .before .loop .inv .1), omega arith))
 
 returns : tie.Need-returns Inv-loop μ-loop
 returns c =
-    let a = c .before .before .before .before .before .before .args in
-    let loop = c .before .before .before .loop in
-    let o = c .before .before .before .before .before .before .pre .0 in
+    let turn = c .before .before .before in
+    let a = entry turn .args in
+    let loop = turn .loop in
+    let o = entry turn .pre .0 in
     let b = beyond-yes (a .f .now) (a .s) o (loop .end) (loop .left) (loop .inv .0) (loop .inv .1) (loop .inv .2) (c .before .before .loop-test .taken) (a .n) in
     sym (loop .inv .3 ∙ b (rw (← c .before .node2 .ensures .0) (c .if1 .taken)))
 
 sub-node-2 : tie.Need-sub-node-2 Inv-loop μ-loop
 sub-node-2 c =
-    let args = c .before .before .before .before .before .before .args in
-    let loop = c .before .before .before .loop in
-    let a = arg-here (args .f .now) (args .s) (c .before .before .before .before .before .before .pre .0) (loop .end) (loop .left) (loop .inv .0) (loop .inv .1) (loop .inv .2) (c .before .before .loop-test .taken) in
+    let turn = c .before .before .before in
+    let args = entry turn .args in
+    let loop = turn .loop in
+    let a = arg-here (args .f .now) (args .s) (entry turn .pre .0) (loop .end) (loop .left) (loop .inv .0) (loop .inv .1) (loop .inv .2) (c .before .before .loop-test .taken) in
     omega (arith, a .two)
 
 node-requires-3 : tie.Need-node-requires-3 Inv-loop μ-loop
 node-requires-3 c κs =
-    let args = c .before .before .before .before .before .before .args in
-    let p = c .before .before .before .before .before .before .pre in
-    let loop = c .before .before .before .loop in
+    let turn = c .before .before .before in
+    let args = entry turn .args in
+    let p = entry turn .pre in
+    let loop = turn .loop in
     let a = arg-here (args .f .now) (args .s) (p .0) (loop .end) (loop .left) (loop .inv .0) (loop .inv .1) (loop .inv .2) (c .before .before .loop-test .taken) in
     (p .0, (omega (arith, a .two, loop .inv .1), omega arith))
 
 sub-end : tie.Need-sub-end Inv-loop μ-loop
 sub-end c =
-    let args = c .before .before .before .before .before .before .before .args in
-    let loop = c .before .before .before .before .loop in
-    let a = arg-here (args .f .now) (args .s) (c .before .before .before .before .before .before .before .pre .0) (loop .end) (loop .left) (loop .inv .0) (loop .inv .1) (loop .inv .2) (c .before .before .before .loop-test .taken) in
+    let turn = c .before .before .before .before in
+    let args = entry turn .args in
+    let loop = turn .loop in
+    let a = arg-here (args .f .now) (args .s) (entry turn .pre .0) (loop .end) (loop .left) (loop .inv .0) (loop .inv .1) (loop .inv .2) (c .before .before .before .loop-test .taken) in
     omega (arith, a .within, c .node3 .ensures .0)
 
 loop-less : tie.Need-loop-less Inv-loop μ-loop
@@ -76,9 +85,10 @@ loop-less c = omega (arith, c .before .before .before .loop-test .taken)
 
 loop-again : tie.Need-loop-again Inv-loop μ-loop
 loop-again c =
-    let args = c .before .before .before .before .before .before .before .args in
-    let p = c .before .before .before .before .before .before .before .pre in
-    let loop = c .before .before .before .before .loop in
+    let turn = c .before .before .before .before in
+    let args = entry turn .args in
+    let p = entry turn .pre in
+    let loop = turn .loop in
     let loop-test = c .before .before .before .loop-test in
     let a = arg-here (args .f .now) (args .s) (p .0) (loop .end) (loop .left) (loop .inv .0) (loop .inv .1) (loop .inv .2) (loop-test .taken) in
     let b = beyond-no (args .f .now) (args .s) (p .0) (loop .end) (loop .left) (loop .inv .0) (loop .inv .1) (loop .inv .2) (loop-test .taken) (args .n) in

@@ -5,6 +5,11 @@ use borrow.Author.Needs.{needs}
 use Rattle.builder.proofs.models.reached.lists_itself.Statement.{statement}
 use Rattle.builder.proofs.models.reached.lists_itself.Tie as tie
 
+-- ---- the place: the entry
+
+abbrev entry : tie.After-class → tie.Start
+entry c = c .before .before .before
+
 unknown-requires : tie.Need-unknown-requires
 unknown-requires c κs = search needs
 
@@ -20,24 +25,16 @@ is-time-requires c κs = search needs
 is-reserved-requires : tie.Need-is-reserved-requires
 is-reserved-requires c κs = search needs
 
-unknown-requires-2 : tie.Need-unknown-requires-2
-unknown-requires-2 c κs = search needs
-
-unknown-requires-3 : tie.Need-unknown-requires-3
-unknown-requires-3 c κs = search needs
-
-lists-requires : tie.Need-lists-requires
-lists-requires c κs =
-    let a = c .before .before .before .before .before .before .before .args in
-    let p = c .before .before .before .before .before .before .before .pre in
-    (p .0, omega (arith, unknown-is (a .f .now) (a .s) (p .0) (a .u) (p .2) .deps-within, c .before .unknown2 .ensures .0, c .unknown3 .ensures .0))
+names-dep-requires : tie.Need-names-dep-requires
+names-dep-requires c κs = search needs
 
 returns : tie.Need-returns
 returns c =
-    let a = c .before .before .before .before .before .before .before .before .args in
-    let p = c .before .before .before .before .before .before .before .before .pre in
-    let unknown = c .before .before .before .before .before .before .unknown in
-    rw (c .before .before .before .before .is-time .ensures, c .before .before .before .is-reserved .ensures, c .lists .ensures) (lists-itself-is (a .f .now) (a .s) (p .0) (a .classes .now) (p .1) (a .u) (p .2) (unknown .result) (c .before .before .unknown2 .result) (c .before .unknown3 .result) (unknown .ensures .0) (c .before .before .unknown2 .ensures .0) (c .before .unknown3 .ensures .0))
+    let classed = c .before .before .before in
+    let a = entry classed .args in
+    let p = entry classed .pre in
+    let unknown = classed .before .unknown in
+    rw (c .before .before .is-time .ensures, c .before .is-reserved .ensures, c .names-dep .ensures) (lists-itself-is (a .f .now) (a .s) (p .0) (a .classes .now) (p .1) (a .u) (p .2) (unknown .result) (unknown .ensures .0))
 
 pub lists-itself-spec : {M : Type 1} → statement M
 lists-itself-spec =
@@ -47,7 +44,5 @@ lists-itself-spec =
     element-copy-out-class
     is-time-requires
     is-reserved-requires
-    unknown-requires-2
-    unknown-requires-3
-    lists-requires
+    names-dep-requires
     returns)

@@ -39,7 +39,9 @@ model-requires c κs =
 
 model-requires-2 : tie.Need-model-requires-2 Inv-loop μ-loop
 model-requires-2 c κs =
-    let p = c .before .before .before .before .before .before .before .pre in
+    let declared = c .before .before .before in
+    let start = declared .before .before .before .before in
+    let p = start .pre in
     (p .0 .opened, (p .0 .model, omega arith))
 
 loop-holds : tie.Need-loop-holds Inv-loop μ-loop

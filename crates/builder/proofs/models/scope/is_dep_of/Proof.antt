@@ -19,6 +19,11 @@ Inv-loop f s vars m variable name first count i₀ i = (i ≤ count) × (any (li
 abbrev μ-loop : tie.MeasureT-loop
 μ-loop f s vars m variable name first count i₀ i = count - i
 
+-- ---- the place: the entry
+
+abbrev entry : tie.At-loop Inv-loop μ-loop → tie.Start Inv-loop μ-loop
+entry c = c .before .before .before .before .before .before
+
 mul-if1 : tie.Need-mul-if1 Inv-loop μ-loop
 mul-if1 c =
     let g = c .before .pre .0 in
@@ -55,46 +60,47 @@ loop-holds c = (omega arith, refl)
 
 add-unknown : tie.Need-add-unknown Inv-loop μ-loop
 add-unknown c =
-    let g = c .before .before .before .before .before .before .before .pre .0 in
+    let g = entry (c .before) .pre .0 in
     let o = g .opened in
     let r = model-is _ _ o _ (g .model) .unknowns-within in
     omega (arith, r, c .before .before .before .model .ensures .1, c .before .before .model2 .ensures .1, c .loop-test .taken)
 
 unknown-requires : tie.Need-unknown-requires Inv-loop μ-loop
 unknown-requires c κs =
-    let g = c .before .before .before .before .before .before .before .pre .0 in
+    let g = entry (c .before) .pre .0 in
     let o = g .opened in
     let r = model-is _ _ o _ (g .model) .unknowns-within in
     (o, (omega (arith, r, c .before .before .before .model .ensures .0, c .before .before .model2 .ensures .0, c .loop-test .taken), omega arith))
 
 add-names-dep : tie.Need-add-names-dep Inv-loop μ-loop
 add-names-dep c =
-    let g = c .before .before .before .before .before .before .before .before .pre .0 in
+    let g = entry (c .before .before) .pre .0 in
     let o = g .opened in
     let r = model-is _ _ o _ (g .model) .unknowns-within in
     omega (arith, r, c .before .before .before .before .model .ensures .1, c .before .before .before .model2 .ensures .1, c .before .loop-test .taken)
 
 names-dep-requires : tie.Need-names-dep-requires Inv-loop μ-loop
 names-dep-requires c κs =
-    let g = c .before .before .before .before .before .before .before .before .pre .0 in
+    let g = entry (c .before .before) .pre .0 in
     let o = g .opened in
     let r = model-is _ _ o _ (g .model) .unknowns-within in
     (o, omega (arith, r, c .before .before .before .before .model .ensures .0, c .before .before .before .model2 .ensures .0, c .before .loop-test .taken))
 
 returns-2 : tie.Need-returns-2 Inv-loop μ-loop
 returns-2 c =
-    let a = c .before .before .before .before .before .before .before .before .before .before .args in
-    let p = c .before .before .before .before .before .before .before .before .before .before .pre in
-    let model = c .before .before .before .before .before .before .model in
-    let model2 = c .before .before .before .before .before .model2 in
-    let loop = c .before .before .before .before .loop in
+    let turn = c .before .before .before .before in
+    let a = entry turn .args in
+    let p = entry turn .pre in
+    let model = turn .before .before .model in
+    let model2 = turn .before .model2 in
+    let loop = turn .loop in
     let loop-test = c .before .before .before .loop-test in
     let g = p .0 in
     let o = g .opened in
     let n = model-is _ _ o _ (g .model) .unknowns-long in
     let b : loop .i < length (modelAt (fileIn (a .f .now) (a .s)) (a .m) .unknowns) = omega (arith, n, model2 .ensures .0, loop-test .taken) in
     let e = lists-at o _ (g .model) (loop .i) (model .result) (a .variable) (a .name) (c .before .before .unknown .result) (c .before .names-dep .result) noUnknown (model .ensures .0) (omega (arith, model2 .ensures .0, loop-test .taken)) (c .before .before .unknown .ensures .0) (c .before .names-dep .ensures) in
-    sym (kept-listed g _ _ (p .1) (p .2) (c .before .before .before .before .before .before .before .if1 .left) ∙ loop .inv .1 ∙ any-here (listsAs (a .variable) (a .name)) _ noUnknown (loop .i) b (e ∙ c .if2 .taken))
+    sym (kept-listed g _ _ (p .1) (p .2) (turn .before .before .before .if1 .left) ∙ loop .inv .1 ∙ any-here (listsAs (a .variable) (a .name)) _ noUnknown (loop .i) b (e ∙ c .if2 .taken))
 
 add-i : tie.Need-add-i Inv-loop μ-loop
 add-i c = omega arith
@@ -104,12 +110,13 @@ loop-less c = omega arith
 
 loop-again : tie.Need-loop-again Inv-loop μ-loop
 loop-again c =
-    let a = c .before .before .before .before .before .before .before .before .before .before .args in
-    let model = c .before .before .before .before .before .before .model in
-    let model2 = c .before .before .before .before .before .model2 in
-    let loop = c .before .before .before .before .loop in
+    let turn = c .before .before .before .before in
+    let a = entry turn .args in
+    let model = turn .before .before .model in
+    let model2 = turn .before .model2 in
+    let loop = turn .loop in
     let loop-test = c .before .before .before .loop-test in
-    let g = c .before .before .before .before .before .before .before .before .before .before .pre .0 in
+    let g = entry turn .pre .0 in
     let o = g .opened in
     let n = model-is _ _ o _ (g .model) .unknowns-long in
     let b : loop .i < length (modelAt (fileIn (a .f .now) (a .s)) (a .m) .unknowns) = omega (arith, n, model2 .ensures .0, loop-test .taken) in
@@ -118,8 +125,8 @@ loop-again c =
 
 returns-3 : tie.Need-returns-3 Inv-loop μ-loop
 returns-3 c =
-    let a = c .before .before .before .before .before .before .before .args in
-    let p = c .before .before .before .before .before .before .before .pre in
+    let a = entry (c .before) .args in
+    let p = entry (c .before) .pre in
     let g = p .0 in
     let o = g .opened in
     let n = model-is _ _ o _ (g .model) .unknowns-long in

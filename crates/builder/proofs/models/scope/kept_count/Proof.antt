@@ -18,6 +18,11 @@ Inv-loop f s vars u first count total₀ i₀ total i = (i ≤ count) × (total 
 abbrev μ-loop : tie.MeasureT-loop
 μ-loop f s vars u first count total₀ i₀ total i = count - i
 
+-- ---- the place: the entry
+
+abbrev entry : tie.At-loop Inv-loop μ-loop → tie.Start Inv-loop μ-loop
+entry c = c .before .before .before .before .before
+
 unknown-requires : tie.Need-unknown-requires Inv-loop μ-loop
 unknown-requires c κs = (c .before .before .pre .0, (c .before .before .pre .1, omega arith))
 
@@ -33,28 +38,28 @@ loop-holds c =
 
 add-dep : tie.Need-add-dep Inv-loop μ-loop
 add-dep c =
-    let a = c .before .before .before .before .before .before .args in
-    let p = c .before .before .before .before .before .before .pre in
+    let a = entry (c .before) .args in
+    let p = entry (c .before) .pre in
     omega (arith, unknown-is (a .f .now) (a .s) (p .0) (a .u) (p .1) .deps-within, c .before .before .before .unknown .ensures .0, c .before .before .unknown2 .ensures .0, p .0 .laid .within .deps)
 
 dep-requires : tie.Need-dep-requires Inv-loop μ-loop
 dep-requires c κs =
-    let a = c .before .before .before .before .before .before .args in
-    let p = c .before .before .before .before .before .before .pre in
+    let a = entry (c .before) .args in
+    let p = entry (c .before) .pre in
     (p .0, omega (arith, unknown-is (a .f .now) (a .s) (p .0) (a .u) (p .1) .deps-within, c .before .before .before .unknown .ensures .0, c .before .before .unknown2 .ensures .0, p .0 .laid .within .deps))
 
 mul-one-kept : tie.Need-mul-one-kept Inv-loop μ-loop
 mul-one-kept c =
-    let a = c .before .before .before .before .before .before .before .args in
-    let p = c .before .before .before .before .before .before .before .pre in
+    let a = entry (c .before .before) .args in
+    let p = entry (c .before .before) .pre in
     let unknown = c .before .before .before .before .unknown in
     let b = dep-below (a .f .now) (a .s) (p .0) (unknown .result + c .before .before .loop .i) (omega (arith, unknown-is (a .f .now) (a .s) (p .0) (a .u) (p .1) .deps-within, unknown .ensures .0, c .before .before .before .unknown2 .ensures .0, p .0 .laid .within .deps, c .before .loop-test .taken)) in
     omega (arith, c .dep .ensures, b, p .0 .laid .within .names)
 
 shared-slice-read-one-kept : tie.Need-shared-slice-read-one-kept Inv-loop μ-loop
 shared-slice-read-one-kept c =
-    let a = c .before .before .before .before .before .before .before .before .args in
-    let p = c .before .before .before .before .before .before .before .before .pre in
+    let a = entry (c .before .before .before) .args in
+    let p = entry (c .before .before .before) .pre in
     let unknown = c .before .before .before .before .before .unknown in
     let b = dep-below (a .f .now) (a .s) (p .0) (unknown .result + c .before .before .before .loop .i) (omega (arith, unknown-is (a .f .now) (a .s) (p .0) (a .u) (p .1) .deps-within, unknown .ensures .0, c .before .before .before .before .unknown2 .ensures .0, p .0 .laid .within .deps, c .before .before .loop-test .taken)) in
     omega (arith, p .2, c .before .dep .ensures, b, p .0 .laid .within .names)
@@ -64,14 +69,14 @@ one-kept-requires c κs = tt
 
 add-total : tie.Need-add-total Inv-loop μ-loop
 add-total c =
-    let a = c .before .before .before .before .before .before .before .before .before .args in
-    let p = c .before .before .before .before .before .before .before .before .before .pre in
+    let a = entry (c .before .before .before .before) .args in
+    let p = entry (c .before .before .before .before) .pre in
     omega (arith, unknown-is (a .f .now) (a .s) (p .0) (a .u) (p .1) .deps-within, c .before .before .before .before .before .before .unknown .ensures .0, c .before .before .before .before .before .unknown2 .ensures .0, p .0 .laid .within .deps, c .one-kept .ensures, flag-small (not (eqb (getD (a .vars .now) (c .before .before .dep .result) 0) 0)), c .before .before .before .before .loop .inv .2, c .before .before .before .loop-test .taken)
 
 add-i : tie.Need-add-i Inv-loop μ-loop
 add-i c =
-    let a = c .before .before .before .before .before .before .before .before .before .args in
-    let p = c .before .before .before .before .before .before .before .before .before .pre in
+    let a = entry (c .before .before .before .before) .args in
+    let p = entry (c .before .before .before .before) .pre in
     omega (arith, unknown-is (a .f .now) (a .s) (p .0) (a .u) (p .1) .deps-within, c .before .before .before .before .before .before .unknown .ensures .0, c .before .before .before .before .before .unknown2 .ensures .0, p .0 .laid .within .deps, c .before .before .before .loop-test .taken)
 
 loop-less : tie.Need-loop-less Inv-loop μ-loop
@@ -79,18 +84,19 @@ loop-less c = omega (arith, c .before .before .before .loop-test .taken)
 
 loop-again : tie.Need-loop-again Inv-loop μ-loop
 loop-again c =
-    let a = c .before .before .before .before .before .before .before .before .before .args in
-    let p = c .before .before .before .before .before .before .before .before .before .pre in
-    let unknown2 = c .before .before .before .before .before .unknown2 in
-    let loop = c .before .before .before .before .loop in
+    let turn = c .before .before .before .before in
+    let a = entry turn .args in
+    let p = entry turn .pre in
+    let unknown2 = turn .before .unknown2 in
+    let loop = turn .loop in
     let loop-test = c .before .before .before .loop-test in
     let dep = c .before .before .dep in
-    (omega (arith, loop-test .taken), kept-next _ (unknownIn (a .f .now) (a .s) (a .u) .deps) (loop .i) (dep .result) _ _ (omega (arith, unknown-is (a .f .now) (a .s) (p .0) (a .u) (p .1) .deps-long, unknown2 .ensures .0, loop-test .taken)) (dep .ensures ∙ sym (unknown-is (a .f .now) (a .s) (p .0) (a .u) (p .1) .dep (loop .i) (omega (arith, unknown2 .ensures .0, loop-test .taken)) ∙ ap (λ (k : ℕ). getD (contentsIn (a .f .now) (a .s) .deps) (k + loop .i) 0) (sym (c .before .before .before .before .before .before .unknown .ensures .0)))) (c .one-kept .ensures) (loop .inv .1), omega (arith, loop .inv .2, c .one-kept .ensures, flag-small (not (eqb (getD (a .vars .now) (dep .result) 0) 0))))
+    (omega (arith, loop-test .taken), kept-next _ (unknownIn (a .f .now) (a .s) (a .u) .deps) (loop .i) (dep .result) _ _ (omega (arith, unknown-is (a .f .now) (a .s) (p .0) (a .u) (p .1) .deps-long, unknown2 .ensures .0, loop-test .taken)) (dep .ensures ∙ sym (unknown-is (a .f .now) (a .s) (p .0) (a .u) (p .1) .dep (loop .i) (omega (arith, unknown2 .ensures .0, loop-test .taken)) ∙ ap (λ (k : ℕ). getD (contentsIn (a .f .now) (a .s) .deps) (k + loop .i) 0) (sym (turn .before .before .unknown .ensures .0)))) (c .one-kept .ensures) (loop .inv .1), omega (arith, loop .inv .2, c .one-kept .ensures, flag-small (not (eqb (getD (a .vars .now) (dep .result) 0) 0))))
 
 returns : tie.Need-returns Inv-loop μ-loop
 returns c =
-    let a = c .before .before .before .before .before .before .args in
-    let p = c .before .before .before .before .before .before .pre in
+    let a = entry (c .before) .args in
+    let p = entry (c .before) .pre in
     (c .before .loop .inv .1 ∙ kept-all _ (unknownIn (a .f .now) (a .s) (a .u) .deps) (c .before .loop .i) (omega (arith, unknown-is (a .f .now) (a .s) (p .0) (a .u) (p .1) .deps-long, c .before .before .unknown2 .ensures .0, c .loop-test .left)), omega (arith, c .before .loop .inv .2, c .before .loop .inv .0, unknown-is (a .f .now) (a .s) (p .0) (a .u) (p .1) .deps-within, c .before .before .before .unknown .ensures .0, c .before .before .unknown2 .ensures .0, p .0 .laid .within .deps))
 
 pub kept-count-spec : {M : Type 1} → statement M

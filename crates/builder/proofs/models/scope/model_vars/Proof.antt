@@ -6,16 +6,18 @@ use Rattle.ast.specs.Opens.{fileIn}
 use Rattle.definitions.specs.Variables.{variableNames}
 use Rattle.definitions.specs.Flatten.{modelAt}
 use Rattle.builder.specs.Checking.{unknownIn}
+use Rattle.builder.specs.VariableTables.{unknownsIn, rosterIn}
 use Rattle.builder.proofs.laws.Open.{names-long}
 use Rattle.builder.proofs.laws.OpenRecords.{unknown-is, listed-below}
+use Rattle.builder.proofs.laws.PutWords.{kept-few}
 use Rattle.builder.proofs.laws.Runs.{unknowns-below}
 use Rattle.builder.proofs.laws.ModelErrors.{unknown-here, unknown-there, unknowns-past}
-use Rattle.builder.proofs.laws.ScopeTables.{Counted, counted-begin, counted-more, counted-next, counted-vars, name-of}
+use Rattle.builder.proofs.laws.ScopeTables.{Counted, counted-begin, counted-more, counted-next, counted-vars, counted-few, name-of}
 use Rattle.builder.proofs.models.scope.model_vars.Statement.{statement}
 use Rattle.builder.proofs.models.scope.model_vars.Tie as tie
 
 abbrev Inv-loop : tie.InvT-loop
-Inv-loop f s classes m out₀ first count i₀ out i = (i ≤ count) × Counted (s .counts .names) i (variableNames (fileIn f s .names) (modelAt (fileIn f s) m .unknowns)) (take i (modelAt (fileIn f s) m .unknowns)) out
+Inv-loop f s classes m out₀ first count i₀ out i = (i ≤ count) × Counted (s .counts .names) (variableNames (fileIn f s .names) (modelAt (fileIn f s) m .unknowns)) (take i (modelAt (fileIn f s) m .unknowns)) out
 
 abbrev μ-loop : tie.MeasureT-loop
 μ-loop f s classes m out₀ first count i₀ out i = count - i
@@ -36,7 +38,9 @@ model-requires c κs =
 
 model-requires-2 : tie.Need-model-requires-2 Inv-loop μ-loop
 model-requires-2 c κs =
-    let p = c .before .before .before .before .before .before .before .pre in
+    let declared = c .before .before .before in
+    let start = declared .before .before .before .before in
+    let p = start .pre in
     (p .0 .opened, (p .0 .model, omega arith))
 
 loop-holds : tie.Need-loop-holds Inv-loop μ-loop
@@ -100,6 +104,7 @@ slice-read-raised c =
     omega (arith, loop .inv .1 .long, unknown-is (a .f .now) (a .s) (p .0 .opened) (model .result + loop .i) (unknowns-below (a .f .now) (a .s) (p .0 .opened) (a .m) (p .0 .model) (model .result) (model2 .result) (loop .i) (model .ensures .0) (model2 .ensures .0) (c .before .before .before .before .loop-test .taken)) .name-below, c .before .before .before .unknown .ensures .0, p .0 .opened .laid .within .names)
 
 raised-requires : tie.Need-raised-requires Inv-loop μ-loop
+unfolding rosterIn unknownsIn
 raised-requires c κs =
     let turn = c .before .before .before .before .before in
     let a = entry (turn .before) .args in
@@ -110,7 +115,7 @@ raised-requires c κs =
     let loop-test = c .before .before .before .before .loop-test in
     let unknown = c .before .before .before .unknown in
     let b : unknown .result < a .s .counts .names = omega (arith, unknown-is (a .f .now) (a .s) (p .0 .opened) (model .result + loop .i) (unknowns-below (a .f .now) (a .s) (p .0 .opened) (a .m) (p .0 .model) (model .result) (model2 .result) (loop .i) (model .ensures .0) (model2 .ensures .0) (loop-test .taken)) .name-below, unknown .ensures .0) in
-    omega (arith, loop .inv .1 .few (unknown .result) b, c .before .kept-count .ensures .1, unknowns-below (a .f .now) (a .s) (p .0 .opened) (a .m) (p .0 .model) (model .result) (model2 .result) (loop .i) (model .ensures .0) (model2 .ensures .0) (loop-test .taken), p .0 .opened .laid .within .unknowns)
+    omega (arith, counted-few _ (loop .i) _ _ _ (loop .inv .1) (kept-few (a .f .now) (a .s) (p .0 .opened) (a .m)) (unknown .result) b, c .before .kept-count .ensures .1)
 
 mul-out : tie.Need-mul-out Inv-loop μ-loop
 mul-out c =
@@ -155,7 +160,7 @@ loop-again c =
     let loop-test = c .before .before .before .before .before .loop-test in
     let unknown = c .before .before .before .before .unknown in
     let kept-count = c .before .before .kept-count in
-    (omega (arith, loop-test .taken), counted-next _ (loop .i) _ (modelAt (fileIn (a .f .now) (a .s)) (a .m) .unknowns) _ (unknownIn (a .f .now) (a .s) (model .result + loop .i)) (unknown-there (a .f .now) (a .s) (p .0 .opened) (a .m) (p .0 .model) (model .result) (model2 .result) (loop .i) (model .ensures .0) (model2 .ensures .0) (loop-test .taken)) (unknown-here (a .f .now) (a .s) (p .0 .opened) (a .m) (p .0 .model) (model .result) (model2 .result) (loop .i) (model .ensures .0) (model2 .ensures .0) (loop-test .taken)) (counted-more (loop .inv .1) (unknownIn (a .f .now) (a .s) (model .result + loop .i)) (unknown .result) (c .raised .result) (kept-count .result) (unknown .ensures .0 ∙ sym (name-of (a .f .now) (a .s) (model .result + loop .i))) (omega (arith, unknown-is (a .f .now) (a .s) (p .0 .opened) (model .result + loop .i) (unknowns-below (a .f .now) (a .s) (p .0 .opened) (a .m) (p .0 .model) (model .result) (model2 .result) (loop .i) (model .ensures .0) (model2 .ensures .0) (loop-test .taken)) .name-below, unknown .ensures .0)) (p .0 .opened .laid .within .names) (kept-count .ensures .0) (kept-count .ensures .1) (listed-below (a .f .now) (a .s) (p .0 .opened) (model .result + loop .i) (unknowns-below (a .f .now) (a .s) (p .0 .opened) (a .m) (p .0 .model) (model .result) (model2 .result) (loop .i) (model .ensures .0) (model2 .ensures .0) (loop-test .taken))) (c .raised .ensures)))
+    (omega (arith, loop-test .taken), counted-next _ (loop .i) _ (modelAt (fileIn (a .f .now) (a .s)) (a .m) .unknowns) _ (unknownIn (a .f .now) (a .s) (model .result + loop .i)) (unknown-there (a .f .now) (a .s) (p .0 .opened) (a .m) (p .0 .model) (model .result) (model2 .result) (loop .i) (model .ensures .0) (model2 .ensures .0) (loop-test .taken)) (unknown-here (a .f .now) (a .s) (p .0 .opened) (a .m) (p .0 .model) (model .result) (model2 .result) (loop .i) (model .ensures .0) (model2 .ensures .0) (loop-test .taken)) (counted-more (loop .inv .1) (unknownIn (a .f .now) (a .s) (model .result + loop .i)) (unknown .result) (c .raised .result) (kept-count .result) (unknown .ensures .0 ∙ sym (name-of (a .f .now) (a .s) (model .result + loop .i))) (omega (arith, unknown-is (a .f .now) (a .s) (p .0 .opened) (model .result + loop .i) (unknowns-below (a .f .now) (a .s) (p .0 .opened) (a .m) (p .0 .model) (model .result) (model2 .result) (loop .i) (model .ensures .0) (model2 .ensures .0) (loop-test .taken)) .name-below, unknown .ensures .0)) (p .0 .opened .laid .within .names) (kept-count .ensures .0) (listed-below (a .f .now) (a .s) (p .0 .opened) (model .result + loop .i) (unknowns-below (a .f .now) (a .s) (p .0 .opened) (a .m) (p .0 .model) (model .result) (model2 .result) (loop .i) (model .ensures .0) (model2 .ensures .0) (loop-test .taken))) (c .raised .ensures)))
 
 same-length : tie.Need-same-length Inv-loop μ-loop
 same-length c =
@@ -168,7 +173,7 @@ returns c =
     let a = entry (turn .before) .args in
     let p = entry (turn .before) .pre in
     let model = turn .before .before .model in
-    (counted-vars (a .f .now) (a .s) (a .m) _ (turn .loop .i) _ _ (names-long (a .f .now) (a .s)) (unknowns-past (a .f .now) (a .s) (p .0 .opened) (a .m) (p .0 .model) (model .result) (turn .before .model2 .result) (turn .loop .i) (model .ensures .0) (turn .before .model2 .ensures .0) (c .loop-test .left)) (turn .loop .inv .1), turn .loop .inv .1 .long)
+    (counted-vars (a .f .now) (a .s) (a .m) _ (turn .loop .i) _ (names-long (a .f .now) (a .s)) (unknowns-past (a .f .now) (a .s) (p .0 .opened) (a .m) (p .0 .model) (model .result) (turn .before .model2 .result) (turn .loop .i) (model .ensures .0) (turn .before .model2 .ensures .0) (c .loop-test .left)) (turn .loop .inv .1), turn .loop .inv .1 .long)
 
 pub model-vars-spec : {M : Type 1} → statement M
 model-vars-spec =

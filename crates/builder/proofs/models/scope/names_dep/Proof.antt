@@ -18,6 +18,11 @@ Inv-loop f s u name first count i₀ i = (i ≤ count) × (member name (unknownI
 abbrev μ-loop : tie.MeasureT-loop
 μ-loop f s u name first count i₀ i = count - i
 
+-- ---- the place: the entry
+
+abbrev entry : tie.At-loop Inv-loop μ-loop → tie.Start Inv-loop μ-loop
+entry c = c .before .before .before .before
+
 unknown-requires : tie.Need-unknown-requires Inv-loop μ-loop
 unknown-requires c κs = (c .before .pre .0, (c .before .pre .1, omega arith))
 
@@ -30,7 +35,7 @@ loop-holds c = (omega arith, refl)
 
 add-dep : tie.Need-add-dep Inv-loop μ-loop
 add-dep c =
-    let p = c .before .before .before .before .before .pre in
+    let p = entry (c .before) .pre in
     let unknown = c .before .before .before .unknown in
     let o = p .0 in
     let r = unknown-is _ _ o _ (p .1) .deps-within in
@@ -38,18 +43,19 @@ add-dep c =
 
 dep-requires : tie.Need-dep-requires Inv-loop μ-loop
 dep-requires c κs =
-    let p = c .before .before .before .before .before .pre in
+    let p = entry (c .before) .pre in
     let o = p .0 in
     let r = unknown-is _ _ o _ (p .1) .deps-within in
     (o, omega (arith, r, c .before .before .before .unknown .ensures .0, c .before .before .unknown2 .ensures .0, c .loop-test .taken))
 
 returns : tie.Need-returns Inv-loop μ-loop
 returns c =
-    let a = c .before .before .before .before .before .before .before .args in
-    let p = c .before .before .before .before .before .before .before .pre in
-    let unknown = c .before .before .before .before .before .unknown in
-    let unknown2 = c .before .before .before .before .unknown2 in
-    let loop = c .before .before .before .loop in
+    let turn = c .before .before .before in
+    let a = entry turn .args in
+    let p = entry turn .pre in
+    let unknown = turn .before .before .unknown in
+    let unknown2 = turn .before .unknown2 in
+    let loop = turn .loop in
     let o = p .0 in
     let n = unknown-is _ _ o _ (p .1) .deps-long in
     let b : loop .i < length (unknownIn (a .f .now) (a .s) (a .u) .deps) = omega (arith, n, unknown2 .ensures .0, c .before .before .loop-test .taken) in
@@ -64,11 +70,12 @@ loop-less c = omega arith
 
 loop-again : tie.Need-loop-again Inv-loop μ-loop
 loop-again c =
-    let a = c .before .before .before .before .before .before .before .args in
-    let p = c .before .before .before .before .before .before .before .pre in
-    let unknown = c .before .before .before .before .before .unknown in
-    let unknown2 = c .before .before .before .before .unknown2 in
-    let loop = c .before .before .before .loop in
+    let turn = c .before .before .before in
+    let a = entry turn .args in
+    let p = entry turn .pre in
+    let unknown = turn .before .before .unknown in
+    let unknown2 = turn .before .unknown2 in
+    let loop = turn .loop in
     let o = p .0 in
     let n = unknown-is _ _ o _ (p .1) .deps-long in
     let b : loop .i < length (unknownIn (a .f .now) (a .s) (a .u) .deps) = omega (arith, n, unknown2 .ensures .0, c .before .before .loop-test .taken) in
@@ -77,10 +84,10 @@ loop-again c =
 
 returns-2 : tie.Need-returns-2 Inv-loop μ-loop
 returns-2 c =
-    let p = c .before .before .before .before .before .pre in
+    let p = entry (c .before) .pre in
     let o = p .0 in
     let n = unknown-is _ _ o _ (p .1) .deps-long in
-    sym (c .before .loop .inv .1 ∙ any-done (eqb (c .before .before .before .before .before .args .name)) _ 0 (c .before .loop .i) (omega (arith, n, c .before .before .unknown2 .ensures .0, c .loop-test .left)))
+    sym (c .before .loop .inv .1 ∙ any-done (eqb (entry (c .before) .args .name)) _ 0 (c .before .loop .i) (omega (arith, n, c .before .before .unknown2 .ensures .0, c .loop-test .left)))
 
 pub names-dep-spec : {M : Type 1} → statement M
 names-dep-spec =

@@ -18,6 +18,11 @@ Inv-loop f s m name first i₀ i = (i ≤ wordOf (modelRecord f s m) 2) × ((b :
 abbrev μ-loop : tie.MeasureT-loop
 μ-loop f s m name first i₀ i = i
 
+-- ---- the place: the entry
+
+abbrev entry : tie.At-loop Inv-loop μ-loop → tie.Start Inv-loop μ-loop
+entry c = c .before .before .before .before
+
 model-requires : tie.Need-model-requires Inv-loop μ-loop
 model-requires c κs = (c .before .pre .0, (c .before .pre .1, omega arith))
 
@@ -32,8 +37,8 @@ loop-holds c =
 
 add-unknown : tie.Need-add-unknown Inv-loop μ-loop
 add-unknown c =
-    let a = c .before .before .before .before .before .args in
-    let p = c .before .before .before .before .before .pre in
+    let a = entry (c .before) .args in
+    let p = entry (c .before) .pre in
     let run = model-is (a .f .now) (a .s) (p .0) (a .m) (p .1) .unknowns-within in
     let e = c .before .before .before .model .ensures .0 in
     let n = p .0 .laid .within .unknowns in
@@ -44,8 +49,8 @@ sub-unknown c = omega arith
 
 unknown-requires : tie.Need-unknown-requires Inv-loop μ-loop
 unknown-requires c κs =
-    let a = c .before .before .before .before .before .args in
-    let p = c .before .before .before .before .before .pre in
+    let a = entry (c .before) .args in
+    let p = entry (c .before) .pre in
     (p .0, ((let run = model-is (a .f .now) (a .s) (p .0) (a .m) (p .1) .unknowns-within in let e = c .before .before .before .model .ensures .0 in let n = p .0 .laid .within .unknowns in omega arith), omega arith))
 
 add-if1 : tie.Need-add-if1 Inv-loop μ-loop
@@ -53,8 +58,8 @@ add-if1 c = omega (arith, c .unknown .ensures .1)
 
 add-result : tie.Need-add-result Inv-loop μ-loop
 add-result c =
-    let a = c .before .before .before .before .before .before .before .args in
-    let p = c .before .before .before .before .before .before .before .pre in
+    let a = entry (c .before .before .before) .args in
+    let p = entry (c .before .before .before) .pre in
     let run = model-is (a .f .now) (a .s) (p .0) (a .m) (p .1) .unknowns-within in
     let e = c .before .before .before .before .before .model .ensures .0 in
     let n = p .0 .laid .within .unknowns in
@@ -62,10 +67,11 @@ add-result c =
 
 returns : tie.Need-returns Inv-loop μ-loop
 returns c =
-    let a = c .before .before .before .before .before .before .before .args in
-    let p = c .before .before .before .before .before .before .before .pre in
-    let model = c .before .before .before .before .before .model in
-    let loop = c .before .before .before .loop in
+    let turn = c .before .before .before in
+    let a = entry turn .args in
+    let p = entry turn .pre in
+    let model = turn .before .before .model in
+    let loop = turn .loop in
     decided-found (a .f .now) (a .s) (p .0) (a .m) (p .1) (a .name) (loop .i) (model .result) (c .before .unknown .result) (omega arith) (loop .inv .0) (model .ensures .0) (c .before .unknown .ensures .0) (loop .inv .1) (c .if1 .taken)
 
 sub-i : tie.Need-sub-i Inv-loop μ-loop
@@ -76,16 +82,17 @@ loop-less c = omega arith
 
 loop-again : tie.Need-loop-again Inv-loop μ-loop
 loop-again c =
-    let a = c .before .before .before .before .before .before .before .args in
-    let p = c .before .before .before .before .before .before .before .pre in
-    let model = c .before .before .before .before .before .model in
-    let loop = c .before .before .before .loop in
+    let turn = c .before .before .before in
+    let a = entry turn .args in
+    let p = entry turn .pre in
+    let model = turn .before .before .model in
+    let loop = turn .loop in
     (omega arith, decided-next (a .f .now) (a .s) (p .0) (a .m) (p .1) (a .name) (loop .i) (model .result) (c .before .unknown .result) (omega arith) (loop .inv .0) (model .ensures .0) (c .before .unknown .ensures .0) (loop .inv .1) (c .if1 .left))
 
 returns-2 : tie.Need-returns-2 Inv-loop μ-loop
 returns-2 c =
-    let a = c .before .before .before .before .before .args in
-    let p = c .before .before .before .before .before .pre in
+    let a = entry (c .before) .args in
+    let p = entry (c .before) .pre in
     decided-none (a .f .now) (a .s) (p .0) (a .m) (p .1) (a .name) (c .before .loop .i) (omega arith) (c .before .loop .inv .1)
 
 pub last-declared-spec : {M : Type 1} → statement M

@@ -28,8 +28,10 @@ same-length c = search needs
 returns : tie.Need-returns
 unfolding low high
 returns c =
-    let a = c .before .before .before .before .before .before .before .before .before .args in
-    c .before .before .put-word2 .ensures ∙ put-next (a .out .now) _ (low (a .bits) ∷ []) (a .place) _ refl (c .before .before .before .before .before .before .put-word .ensures ∙ put-first (a .out .now) (a .place) (low (a .bits)) (omega arith)) (high (a .bits)) (omega arith)
+    let low-put = c .before .before .before .before .before .before in
+    let entry = low-put .before .before .before in
+    let a = entry .args in
+    c .before .before .put-word2 .ensures ∙ put-next (a .out .now) _ (low (a .bits) ∷ []) (a .place) _ refl (low-put .put-word .ensures ∙ put-first (a .out .now) (a .place) (low (a .bits)) (omega arith)) (high (a .bits)) (omega arith)
 
 pub put-bits-spec : {M : Type 1} → statement M
 put-bits-spec =

@@ -24,8 +24,11 @@ same-length c = search needs
 
 returns : tie.Need-returns
 returns c =
-    let a = c .before .before .before .before .before .before .before .before .before .before .before .before .args in
-    both-put (a .f .now) (a .s) (a .u) (a .b) (a .out .now) _ _ (a .place) _ _ (c .before .before .before .before .before .before .before .before .before .bound-bits .ensures) (c .before .before .before .before .bound-bits2 .ensures) (omega arith) (c .before .before .before .before .before .before .before .put-bits .ensures) (c .before .before .put-bits2 .ensures)
+    let upper = c .before .before .before .before in
+    let lower = upper .before .before .before in
+    let entry = lower .before .before .before .before .before in
+    let a = entry .args in
+    both-put (a .f .now) (a .s) (a .u) (a .b) (a .out .now) _ _ (a .place) _ _ (lower .before .before .bound-bits .ensures) (upper .bound-bits2 .ensures) (omega arith) (lower .put-bits .ensures) (c .before .before .put-bits2 .ensures)
 
 pub put-bounds-spec : {M : Type 1} → statement M
 put-bounds-spec =

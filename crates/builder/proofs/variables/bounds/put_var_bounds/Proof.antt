@@ -29,9 +29,11 @@ same-length c = search needs
 
 returns : tie.Need-returns
 returns c =
-    let a = c .before .before .before .before .before .before .before .before .before .args in
-    let p = c .before .before .before .before .before .before .before .before .before .pre in
-    c .before .before .put-bounds .ensures ∙ rw (stands-bits (a .f .now) (a .s) 0 (boundsFrom true) _ (from-floating true _ (c .before .before .before .before .bounds-from .ensures)) (inl (true, refl)), bounds-of-time (fileIn (a .f .now) (a .s) .names) (modelAt (fileIn (a .f .now) (a .s)) (a .m) .unknowns) (a .name) (a .v) (c .before .before .before .before .before .if1 .taken)) refl
+    let time = c .before .before .before .before .before in
+    let start = time .before .before .before .before in
+    let a = start .args in
+    let p = start .pre in
+    c .before .before .put-bounds .ensures ∙ rw (stands-bits (a .f .now) (a .s) 0 (boundsFrom true) _ (from-floating true _ (c .before .before .before .before .bounds-from .ensures)) (inl (true, refl)), bounds-of-time (fileIn (a .f .now) (a .s) .names) (modelAt (fileIn (a .f .now) (a .s)) (a .m) .unknowns) (a .name) (a .v) (time .if1 .taken)) refl
 
 last-declared-requires : tie.Need-last-declared-requires
 last-declared-requires c κs = search needs

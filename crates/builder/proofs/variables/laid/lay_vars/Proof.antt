@@ -1,26 +1,45 @@
 use mathlib.Core.Path.{refl}
+use native.Mathlib.Omega.{arith}
+use Rattle.area.specs.Sections.{stmtsAt, varsAt, depsAt}
+use Rattle.builder.proofs.laws.VarsLaid.{roster-room, vars-named, sizes-small, written-in, t-marked, laid}
 use borrow.Author.Needs.{needs}
 use Rattle.builder.proofs.variables.laid.lay_vars.Statement.{statement}
 use Rattle.builder.proofs.variables.laid.lay_vars.Tie as tie
 
-no-variables-requires : tie.Need-no-variables-requires
-no-variables-requires c κs = search needs
+-- ---- the places: the entry, the variables listed, and written
 
-slice-aggregate-roster-of : tie.Need-slice-aggregate-roster-of
-slice-aggregate-roster-of c = search needs
+abbrev entry : tie.After-roster-of → tie.Start
+entry c = c .before .before .before .before .before .before
+
+abbrev listed : tie.After-write-vars → tie.After-roster-of
+listed c = c .before .before .before .before .before .before .before
 
 roster-of-requires : tie.Need-roster-of-requires
 roster-of-requires c κs =
-    let p = c .before .before .before .before .before .before .pre in
-    (record { opened = p .0 .opened; classed = p .0 .classed; model = p .0 .model }, c .before .before .no-variables .ensures, record { long = p .3 .0; zeros = p .3 .1 })
+    let a = c .before .before .before .before .before .args in
+    let p = c .before .before .before .before .before .pre in
+    (record { opened = p .0 .opened; classed = p .0 .classed; model = p .0 .model }, roster-room (a .f .now) (a .s) (p .0 .opened) (a .m) (a .n) (a .q) (a .own .now) (p .1), p .2)
 
-slice-aggregate-lay-listed : tie.Need-slice-aggregate-lay-listed
-slice-aggregate-lay-listed c = search needs
+write-vars-requires : tie.Need-write-vars-requires
+write-vars-requires c κs =
+    let r = c .before .before .before .before .before .before in
+    let a = entry r .args in
+    let p = entry r .pre in
+    let (roster, changed) = r .roster-of .ensures in
+    (p .0, record { opened = p .0 .opened; model = p .0 .model; numbered = roster .numbers; long = roster .every }, vars-named (a .f .now) (a .s) (p .0 .opened) (a .m) (a .n) (a .q) (a .own .now) _ _ _ (p .1) roster (changed .long))
 
-lay-listed-requires : tie.Need-lay-listed-requires
-lay-listed-requires c κs =
-    let p = c .before .before .before .before .before .before .before .before .before .before .before .before .before .pre in
-    (p .0, c .before .before .before .before .before .before .roster-of .ensures, p .1 .0, p .1 .1, (refl, p .2))
+reach-time-requires : tie.Need-reach-time-requires
+unfolding stmtsAt varsAt depsAt
+reach-time-requires c κs =
+    let w = c .before .before .before in
+    let r = listed w in
+    let a = entry r .args in
+    let p = entry r .pre in
+    let (roster, changed) = r .roster-of .ensures in
+    let n = vars-named (a .f .now) (a .s) (p .0 .opened) (a .m) (a .n) (a .q) (a .own .now) _ _ _ (p .1) roster (changed .long) in
+    let (count, bytes) = w .write-vars .ensures in
+    let small = sizes-small (a .f .now) (a .s) (p .0 .opened) (a .m) (a .n) (a .q) (a .own .now) _ _ _ (p .1) roster (changed .long) _ count in
+    (written-in (a .f .now) (a .s) (p .0 .opened) (a .m) _ _ _ small (n .vars) count (n .long) bytes, t-marked (a .f .now) (a .s) (p .0 .opened) (a .m) _ _ _ small (n .vars) count (n .long) bytes)
 
 same-length : tie.Need-same-length
 same-length c = search needs
@@ -29,20 +48,25 @@ same-length-2 : tie.Need-same-length-2
 same-length-2 c = search needs
 
 returns : tie.Need-returns
+unfolding stmtsAt varsAt depsAt
 returns c =
-    let r = c .before .before .before .before .before .before .before .before .before .roster-of .ensures in
-    let v = c .before .before .lay-listed .ensures in
-    (record { nodes = v .nodes; stmts = v .stmts; vars = v .vars; deps = v .deps; laid = v .laid }, (r .numbers, r .every))
+    let w = c .before .before .before .before .before .before in
+    let r = listed w in
+    let a = entry r .args in
+    let p = entry r .pre in
+    let (roster, changed) = r .roster-of .ensures in
+    let n = vars-named (a .f .now) (a .s) (p .0 .opened) (a .m) (a .n) (a .q) (a .own .now) _ _ _ (p .1) roster (changed .long) in
+    let (count, bytes) = w .write-vars .ensures in
+    let small = sizes-small (a .f .now) (a .s) (p .0 .opened) (a .m) (a .n) (a .q) (a .own .now) _ _ _ (p .1) roster (changed .long) _ count in
+    (laid (a .f .now) (a .s) (p .0 .opened) (a .m) _ _ _ small (n .vars) count (n .long) bytes _ (λ j. omega (arith, c .slice-known6 .given j)) (c .before .before .reach-time .ensures) (a .n) (a .q) (a .own .now) refl refl (changed .long) (changed .front), (roster .numbers, roster .every))
 
 pub lay-vars-spec : {M : Type 1} → statement M
 lay-vars-spec =
     tie.close
     (tie.spec
-    no-variables-requires
-    slice-aggregate-roster-of
     roster-of-requires
-    slice-aggregate-lay-listed
-    lay-listed-requires
+    write-vars-requires
+    reach-time-requires
     same-length
     same-length-2
     returns)

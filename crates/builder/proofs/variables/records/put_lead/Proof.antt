@@ -32,9 +32,12 @@ same-length c = search needs
 returns : tie.Need-returns
 unfolding leadWords
 returns c =
-    let a = c .before .before .before .before .before .before .before .before .before .args in
-    let e = lent-put (a .area .now) _ _ (a .at) (omega arith) (c .before .before .put-record .ensures) in
-    rw (c .before .before .before .before .flag-of2 .ensures, c .before .before .before .before .before .before .flag-of .ensures) at e
+    let put = c .before .before in
+    let stated = put .before .before .before .before in
+    let entry = stated .before .before .before in
+    let a = entry .args in
+    let e = lent-put (a .area .now) _ _ (a .at) (omega arith) (put .put-record .ensures) in
+    rw (put .before .before .flag-of2 .ensures, stated .flag-of .ensures) at e
 
 pub put-lead-spec : {M : Type 1} → statement M
 put-lead-spec =

@@ -9,7 +9,9 @@ use Rattle.builder.proofs.variables.records.write_header.Statement.{sta
 use Rattle.builder.proofs.variables.records.write_header.Tie as tie
 
 var-of-requires : tie.Need-var-of-requires
-var-of-requires c κs = search needs
+var-of-requires c κs =
+    let p = c .before .before .before .before .pre in
+    (p .small, p .long, p .some, omega arith)
 
 cast-name : tie.Need-cast-name
 cast-name c = search needs
@@ -18,13 +20,16 @@ put-counts-requires : tie.Need-put-counts-requires
 unfolding stmtsAt varsAt depsAt
 put-counts-requires c κs =
     let p = c .before .before .before .before .before .before .pre in
-    (p .1 .0, omega (arith, p .1 .2), p .2 .0, p .2 .1)
+    (p .small, omega (arith, p .long), p .counted, p .instances)
 
 put-time-bounds-requires : tie.Need-put-time-bounds-requires
 unfolding stmtsAt varsAt depsAt
 put-time-bounds-requires c κs =
-    let p = c .before .before .before .before .before .before .before .before .before .before .pre in
-    (p .0 .0, p .0 .1, rw (c .before .before .before .before .before .var-of .ensures) (p .3), omega (arith, p .1 .2, c .before .before .before .put-counts .kept .0))
+    let counted = c .before .before .before in
+    let named = counted .before .before in
+    let entry = named .before .before .before .before .before in
+    let p = entry .pre in
+    (p .opened, p .model, rw (named .var-of .ensures) (p .timed), omega (arith, p .long, counted .put-counts .kept .0))
 
 same-length : tie.Need-same-length
 same-length c = search needs
@@ -32,10 +37,14 @@ same-length c = search needs
 returns : tie.Need-returns
 unfolding headWords stmtsAt varsAt depsAt
 returns c =
-    let a = c .before .before .before .before .before .before .before .before .before .before .before .before .before .args in
+    let bounded = c .before .before in
+    let counted = bounded .before .before .before .before in
+    let named = counted .before .before in
+    let entry = named .before .before .before .before .before in
+    let a = entry .args in
     let z = a .root .sizes in
-    let var-of = c .before .before .before .before .before .before .before .before .var-of in
-    let e = c .before .before .put-time-bounds .ensures ∙ put-more (a .area .now) _ (z .nodes ∷ z .stmts ∷ z .vars ∷ z .deps ∷ a .errors ∷ a .root .instances ∷ []) 0 24 refl (c .before .before .before .before .before .before .put-counts .ensures) _ (omega arith) in
+    let var-of = named .var-of in
+    let e = bounded .put-time-bounds .ensures ∙ put-more (a .area .now) _ (z .nodes ∷ z .stmts ∷ z .vars ∷ z .deps ∷ a .errors ∷ a .root .instances ∷ []) 0 24 refl (counted .put-counts .ensures) _ (omega (arith, entry .pre .long)) in
     rw (var-of .ensures) at e
 
 pub write-header-spec : {M : Type 1} → statement M

@@ -1,95 +1,93 @@
-use mathlib.Core.Path.{_≡_, refl, sym, _∙_}
-use Prim.Native.Nat.{_+_, _*_, _-_, _≤_}
+use mathlib.Core.List.{List}
+use Prim.Native.Nat.{_-_, _≤_}
 use native.Mathlib.Omega.{arith}
-use lib.ListN.{length, drop}
-use Rattle.ast.specs.Bytes.{put}
-use Rattle.ast.specs.Encode.{encode}
+use mathlib.Core.Path.{ap, _∙_}
+use lib.ListN.{length}
+use Rattle.functions.specs.Lists.{each}
 use Rattle.ast.specs.Opens.{fileIn}
-use Rattle.definitions.specs.Flatten.{modelAt}
-use Rattle.area.specs.Sections.{stmtsAt, varsAt, depsAt}
-use Rattle.area.proofs.Puts.{words-none}
-use Rattle.builder.specs.VarRecords.{varRecords}
-use Rattle.builder.proofs.laws.VarLaws.{vars-none, vars-behind, vars-next}
+use Rattle.definitions.specs.Variables.{Variable}
+use Rattle.builder.specs.Root.{scopeAt}
+use Rattle.builder.proofs.laws.RootTables.{model-written}
+use Rattle.builder.proofs.laws.PutWords.{kept-few}
+use Rattle.builder.proofs.laws.VarsWritten.{Written, written-none, written-long, next-few, next-name, written-more, written-all}
 use Rattle.builder.proofs.variables.records.write_vars.Statement.{statement}
 use Rattle.builder.proofs.variables.records.write_vars.Tie as tie
 
 abbrev Inv-loop : tie.InvT-loop
-Inv-loop f s classes m area₀ z names starts reach base v₀ area v =
-    (v ≤ z .vars) × (length area ≡ length area₀) × (area ≡ put area₀ (varsAt z) (encode (varRecords (fileIn f s .names) (modelAt (fileIn f s) m .unknowns) names starts reach (drop (depsAt z) area₀) v)))
+Inv-loop f s classes m own₀ z numbers done₀ v₀ own done v = (v ≤ z .vars) × Written (scopeAt (fileIn f s) m .vars) z own₀ v done own
 
 abbrev μ-loop : tie.MeasureT-loop
-μ-loop f s classes m area₀ z names starts reach base v₀ area v = z .vars - v
+μ-loop f s classes m own₀ z numbers done₀ v₀ own done v = z .vars - v
 
 abbrev entry : tie.At-loop Inv-loop μ-loop → tie.Start Inv-loop μ-loop
-entry c = c .before .before .before .before .before .before .before .before
+entry c = c .before .before .before .before
 
 abbrev turn : tie.After-slice-known2 Inv-loop μ-loop → tie.At-loop Inv-loop μ-loop
-turn c = c .before .before .before .before .before .before .before .before
+turn c = c .before .before .before .before .before .before
 
--- the dependents' bytes stay
-same-deps : (c : tie.At-loop Inv-loop μ-loop) → let a = entry c .args in drop (depsAt (a .z)) (c .loop .area) ≡ drop (depsAt (a .z)) (a .area .now)
-unfolding stmtsAt varsAt depsAt
-same-deps c =
-    let a = entry c .args in
-    let p = entry c .pre in
-    vars-behind (fileIn (a .f .now) (a .s) .names) (modelAt (fileIn (a .f .now) (a .s)) (a .m) .unknowns) (a .names .now) (a .starts .now) (a .reach .now) (drop (depsAt (a .z)) (a .area .now)) (a .area .now) (c .loop .area) (varsAt (a .z)) (c .loop .v) (c .loop .inv .2) (depsAt (a .z)) (omega (arith, c .loop .inv .0)) (omega (arith, p .1 .1))
+-- the variables, and that their dependents are few
+abbrev vars : tie.Start Inv-loop μ-loop → List Variable
+vars c = scopeAt (fileIn (c .args .f .now) (c .args .s)) (c .args .m) .vars
 
-vars-at-requires : tie.Need-vars-at-requires Inv-loop μ-loop
-vars-at-requires c κs = c .before .before .before .before .before .before .pre .1 .0
+few : (c : tie.Start Inv-loop μ-loop) → length (each (λ x. x .deps) (vars c)) ≤ 1024
+few c = omega (arith, ap length (model-written (c .args .f .now) (c .args .s) (c .args .m)), kept-few (c .args .f .now) (c .args .s) (c .pre .0 .opened) (c .args .m))
 
 loop-holds : tie.Need-loop-holds Inv-loop μ-loop
 loop-holds c =
-    let a = c .before .before .before .before .before .before .before .args in
-    (omega arith, refl, rw (vars-none (fileIn (a .f .now) (a .s) .names) (modelAt (fileIn (a .f .now) (a .s)) (a .m) .unknowns) (a .names .now) (a .starts .now) (a .reach .now) (drop (depsAt (a .z)) (a .area .now))) (sym (words-none (a .area .now) (varsAt (a .z)))))
-
-lead-of-requires : tie.Need-lead-of-requires Inv-loop μ-loop
-lead-of-requires c κs =
-    let p = entry (c .before .before .before) .pre in
-    (p .1 .0, omega (arith, p .1 .1, c .before .before .before .loop .inv .1), c .before .if1 .taken, rw (same-deps (c .before .before .before)) (p .2))
-
-mul-write-var : tie.Need-mul-write-var Inv-loop μ-loop
-mul-write-var c = omega (arith, c .before .before .before .if1 .taken, entry (c .before .before .before .before .before) .pre .1 .0 .vars)
-
-add-write-var : tie.Need-add-write-var Inv-loop μ-loop
-unfolding stmtsAt varsAt
-add-write-var c =
-    let small = entry (c .before .before .before .before .before) .pre .1 .0 in
-    omega (arith, c .before .before .before .if1 .taken, c .before .before .before .before .before .before .vars-at .ensures, small .nodes, small .stmts, small .vars)
+    let e = c .before .before .before in
+    let p = e .pre in
+    (omega arith, written-none (vars e) (e .args .z) (e .args .own .now) (p .2 .vars) (few e) (p .2 .long))
 
 write-var-requires : tie.Need-write-var-requires Inv-loop μ-loop
-unfolding stmtsAt varsAt depsAt
 write-var-requires c κs =
-    let p = entry (c .before .before .before .before .before) .pre in
-    let lead-of = c .before .lead-of in
-    let taken = c .before .before .before .if1 .taken in
-    (p .0, omega (arith, p .1 .1, c .before .before .before .before .before .loop .inv .1, taken, c .before .before .before .before .before .before .vars-at .ensures), omega (arith, lead-of .ensures .first, lead-of .ensures .end, p .2 .rises (c .before .before .before .before .before .loop .v) taken))
+    let loop = c .before .before .before .loop in
+    let e = entry (c .before .before .before) in
+    let p = e .pre in
+    let more = c .before .if1 .taken in
+    let w = loop .inv .1 in
+    let b = e .args .own .now in
+    let z = e .args .z in (
+      p .0,
+      p .1,
+      record {
+        small = p .2 .small;
+        vars = p .2 .vars;
+        long = omega (arith, p .2 .long, written-long (vars e) z b (p .2 .vars) (few e) (p .2 .long) (loop .v) (loop .done) (loop .own) w (omega (arith, loop .inv .0, p .2 .vars)));
+        below = more;
+        named = next-name (vars e) z b (p .2 .vars) (few e) (p .2 .long) (loop .v) (loop .done) (loop .own) w (omega (arith, loop .inv .0, p .2 .vars)) (omega (arith, more, p .2 .vars)) ∙ p .2 .named (loop .v) more;
+        few = next-few (vars e) z b (p .2 .vars) (few e) (p .2 .long) (loop .v) (loop .done) (loop .own) w (omega (arith, loop .inv .0, p .2 .vars)) (omega (arith, more, p .2 .vars));
+      },
+    )
 
 add-v : tie.Need-add-v Inv-loop μ-loop
-add-v c = omega (arith, c .before .before .before .before .before .before .if1 .taken, entry (turn c) .pre .1 .0 .vars)
+add-v c = omega (arith, c .before .before .before .before .if1 .taken, entry (turn c) .pre .2 .small .vars)
 
 loop-less : tie.Need-loop-less Inv-loop μ-loop
-loop-less c = omega (arith, c .before .before .before .before .before .before .if1 .taken)
+loop-less c = omega (arith, c .before .before .before .before .if1 .taken)
 
 loop-again : tie.Need-loop-again Inv-loop μ-loop
-unfolding stmtsAt varsAt depsAt
 loop-again c =
-    let a = entry (turn c) .args in
     let loop = turn c .loop in
-    let lead-of = c .before .before .before .before .lead-of in
-    let vars-at = turn c .before .vars-at in
-    let place : vars-at .result + 48 * loop .v ≡ varsAt (a .z) + 48 * loop .v = omega (arith, vars-at .ensures) in
-    let room : varsAt (a .z) ≤ length (a .area .now) = omega (arith, entry (turn c) .pre .1 .1) in
-    let lead = rw (same-deps (turn c)) at (lead-of .ensures) in
-    (omega (arith, c .before .before .before .before .before .before .if1 .taken), c .before .before .write-var .kept .1 .1 .1 .1 .0 ∙ loop .inv .1, vars-next (fileIn (a .f .now) (a .s) .names) (modelAt (fileIn (a .f .now) (a .s)) (a .m) .unknowns) (a .names .now) (a .starts .now) (a .reach .now) (drop (depsAt (a .z)) (a .area .now)) (a .area .now) (loop .area) (varsAt (a .z)) (loop .v) (loop .inv .2) _ (lead-of .result) _ place room lead (c .before .before .write-var .ensures))
+    let e = entry (turn c) in
+    let p = e .pre in
+    let more = c .before .before .before .before .if1 .taken in
+    let r = c .before .before .write-var .ensures in
+    let w = written-more (vars e) (e .args .z) (e .args .own .now) (p .2 .vars) (few e) (p .2 .long) (loop .v) (loop .done) (loop .own) (loop .inv .1) (omega (arith, loop .inv .0, p .2 .vars)) (omega (arith, more, p .2 .vars)) _ (r .1) in
+    (omega (arith, more), record { count = r .0 ∙ w .count; bytes = w .bytes })
 
 same-length : tie.Need-same-length Inv-loop μ-loop
-same-length c = c .before .before .loop .inv .1
+same-length c =
+    let loop = c .before .before .loop in
+    let e = entry (c .before .before) in
+    let p = e .pre in
+    written-long (vars e) (e .args .z) (e .args .own .now) (p .2 .vars) (few e) (p .2 .long) (loop .v) (loop .done) (loop .own) (loop .inv .1) (omega (arith, loop .inv .0, p .2 .vars))
 
 returns : tie.Need-returns Inv-loop μ-loop
 returns c =
     let loop = c .before .before .loop in
-    let e : loop .v ≡ entry (c .before .before) .args .z .vars = omega (arith, loop .inv .0, c .if1 .left) in
-    rw e at (loop .inv .2)
+    let e = entry (c .before .before) in
+    let p = e .pre in
+    written-all (vars e) (e .args .z) (e .args .own .now) (p .2 .vars) (few e) (p .2 .long) (loop .v) (loop .done) (loop .own) (loop .inv .1) (omega (arith, loop .inv .0, p .2 .vars)) (omega (arith, c .if1 .left, p .2 .vars))
 
 pub write-vars-spec : {M : Type 1} → statement M
 write-vars-spec =
@@ -97,11 +95,7 @@ write-vars-spec =
     (tie.spec
     Inv-loop
     μ-loop
-    vars-at-requires
     loop-holds
-    lead-of-requires
-    mul-write-var
-    add-write-var
     write-var-requires
     add-v
     loop-less

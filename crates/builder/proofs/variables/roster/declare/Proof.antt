@@ -1,9 +1,19 @@
 use native.Mathlib.Omega.{arith}
+use Rattle.area.proofs.VarsWritten.{vars-stay}
 use Rattle.builder.specs.VariableTables.{rostered, listed}
-use Rattle.builder.proofs.laws.Rosters.{declare-new, declare-old}
+use Rattle.builder.specs.Allocating.{namesIn}
+use Rattle.builder.proofs.laws.Rosters.{declare-put, declare-old}
 use borrow.Author.Needs.{needs}
 use Rattle.builder.proofs.variables.roster.declare.Statement.{statement}
 use Rattle.builder.proofs.variables.roster.declare.Tie as tie
+
+-- ---- the places: the entry, and where the name is put
+
+abbrev entry : tie.After-slice-known3 → tie.Start
+entry c = c .before .before .before
+
+abbrev put : tie.After-slice-known4 → tie.After-put-var
+put c = c .before .before
 
 mul-if1 : tie.Need-mul-if1
 mul-if1 c = search needs
@@ -13,22 +23,19 @@ slice-read-if1 c = search needs
 
 returns : tie.Need-returns
 returns c =
-    let a = c .before .before .args in
-    let p = c .before .before .pre in
-    let r = rostered (a .count) (a .names .now) (a .numbers .now) in
-    (declare-old (listed r) r (a .name) (p .0) (omega arith) (c .if1 .taken), omega arith)
+    let a = entry (c .before) .args in
+    let p = entry (c .before) .pre in
+    let r = rostered (a .count) (namesIn (a .own .now) (a .z)) (a .numbers .now) in
+    (declare-old (listed r) r (a .name) (p .1) (p .3) (c .if1 .taken), omega arith, vars-stay (a .z) (a .own .now))
 
-add-names : tie.Need-add-names
-add-names c = search needs
+add-put-var : tie.Need-add-put-var
+add-put-var c = search needs
 
-cast-names : tie.Need-cast-names
-cast-names c = search needs
+cast-put-var : tie.Need-cast-put-var
+cast-put-var c = search needs
 
-mul-names : tie.Need-mul-names
-mul-names c = search needs
-
-slice-write-names : tie.Need-slice-write-names
-slice-write-names c = search needs
+put-var-requires : tie.Need-put-var-requires
+put-var-requires c κs = search needs
 
 add-numbers : tie.Need-add-numbers
 add-numbers c = search needs
@@ -53,10 +60,11 @@ same-length-2 c = search needs
 
 returns-2 : tie.Need-returns-2
 returns-2 c =
-    let a = c .before .before .args in
-    let p = c .before .before .pre in
-    let r = rostered (a .count) (a .names .now) (a .numbers .now) in
-    (declare-new (listed r) r (a .name) (p .0) (omega arith) (c .if1 .left) (omega arith), omega arith)
+    let w = put c in
+    let new = w .before .before in
+    let a = entry (new .before) .args in
+    let p = entry (new .before) .pre in
+    declare-put (a .z) (a .own .now) _ (p .0) (a .count) (a .name) (a .numbers .now) _ (p .1) (p .2) (p .3) (new .if1 .left) (w .put-var .ensures)
 
 pub declare-spec : {M : Type 1} → statement M
 declare-spec =
@@ -65,10 +73,9 @@ declare-spec =
     mul-if1
     slice-read-if1
     returns
-    add-names
-    cast-names
-    mul-names
-    slice-write-names
+    add-put-var
+    cast-put-var
+    put-var-requires
     add-numbers
     cast-numbers
     mul-numbers

@@ -19,6 +19,9 @@ mul-put-word c = search needs
 sub-put-word : tie.Need-sub-put-word
 sub-put-word c = search needs
 
+cast-put-word : tie.Need-cast-put-word
+cast-put-word c = search needs
+
 put-word-requires : tie.Need-put-word-requires
 put-word-requires c κs =
     let e = below-one (c .before .before .before .args .v) (c .before .if1 .left) in
@@ -39,4 +42,4 @@ returns-2 c =
 pub put-dep-spec : {M : Type 1} → statement M
 put-dep-spec =
     tie.close
-    (tie.spec returns mul-put-word sub-put-word put-word-requires add-result same-length returns-2)
+    (tie.spec returns mul-put-word sub-put-word cast-put-word put-word-requires add-result same-length returns-2)

@@ -29,10 +29,13 @@ same-length c = search needs
 
 returns : tie.Need-returns
 returns c =
-    let a = c .before .before .before .before .before .before .before .before .before .args in
-    let p = c .before .before .before .before .before .before .before .before .before .pre in
-    let e : eqb (suc (unknownIn (a .f .now) (a .s) (a .u) .name)) (a .name) ≡ true = eq-eqb (suc (unknownIn (a .f .now) (a .s) (a .u) .name)) (a .name) (omega (arith, unknown-name (a .f .now) (a .s) (p .0) (a .u) (p .1), c .before .before .before .before .before .unknown .ensures .0, c .before .before .before .before .if1 .taken)) in
-    (rw e (c .before .before .put-unknown-deps .ensures .0), rw e (c .before .before .put-unknown-deps .ensures .1))
+    let put = c .before .before in
+    let told = put .before .before in
+    let entry = told .before .before .before .before .before in
+    let a = entry .args in
+    let p = entry .pre in
+    let e : eqb (suc (unknownIn (a .f .now) (a .s) (a .u) .name)) (a .name) ≡ true = eq-eqb (suc (unknownIn (a .f .now) (a .s) (a .u) .name)) (a .name) (omega (arith, unknown-name (a .f .now) (a .s) (p .0) (a .u) (p .1), told .before .unknown .ensures .0, told .if1 .taken)) in
+    (rw e (put .put-unknown-deps .ensures .0), rw e (put .put-unknown-deps .ensures .1))
 
 returns-2 : tie.Need-returns-2
 returns-2 c =

@@ -31,51 +31,70 @@ loop-holds c =
 
 add-dep : tie.Need-add-dep Inv-loop μ-loop
 add-dep c =
-    let a = c .before .before .before .before .before .before .before .args in
-    let p = c .before .before .before .before .before .before .before .pre in
-    let unknown = c .before .before .before .unknown in
-    omega (arith, deps-within (a .f .now) (a .s) (p .0) (a .u) (p .1) (unknown .result) (c .before .before .unknown2 .result) (unknown .ensures .0) (c .before .before .unknown2 .ensures .0), p .0 .laid .within .deps)
+    let run = c .before .before in
+    let entry = run .before .before .before .before .before in
+    let a = entry .args in
+    let p = entry .pre in
+    let unknown = run .before .unknown in
+    omega (arith, deps-within (a .f .now) (a .s) (p .0) (a .u) (p .1) (unknown .result) (run .unknown2 .result) (unknown .ensures .0) (run .unknown2 .ensures .0), p .0 .laid .within .deps)
 
 dep-requires : tie.Need-dep-requires Inv-loop μ-loop
 dep-requires c κs =
-    let a = c .before .before .before .before .before .before .before .args in
-    let p = c .before .before .before .before .before .before .before .pre in
-    let unknown = c .before .before .before .unknown in
-    (p .0, omega (arith, deps-within (a .f .now) (a .s) (p .0) (a .u) (p .1) (unknown .result) (c .before .before .unknown2 .result) (unknown .ensures .0) (c .before .before .unknown2 .ensures .0)))
+    let run = c .before .before in
+    let entry = run .before .before .before .before .before in
+    let a = entry .args in
+    let p = entry .pre in
+    let unknown = run .before .unknown in
+    (p .0, omega (arith, deps-within (a .f .now) (a .s) (p .0) (a .u) (p .1) (unknown .result) (run .unknown2 .result) (unknown .ensures .0) (run .unknown2 .ensures .0)))
 
 mul-put-dep : tie.Need-mul-put-dep Inv-loop μ-loop
 mul-put-dep c =
-    let a = c .before .before .before .before .before .before .before .before .args in
-    let p = c .before .before .before .before .before .before .before .before .pre in
-    let unknown = c .before .before .before .before .unknown in
-    let unknown2 = c .before .before .before .unknown2 in
-    omega (arith, deps-at (a .f .now) (a .s) (p .0) (a .u) (p .1) (unknown .result) (unknown2 .result) (unknown .ensures .0) (unknown2 .ensures .0) (c .before .before .loop .i) (c .dep .result) (omega arith) (c .dep .ensures) .1, p .0 .laid .within .names)
+    let turn = c .before .before in
+    let run = turn .before in
+    let entry = run .before .before .before .before .before in
+    let a = entry .args in
+    let p = entry .pre in
+    let unknown = run .before .unknown in
+    let unknown2 = run .unknown2 in
+    omega (arith, deps-at (a .f .now) (a .s) (p .0) (a .u) (p .1) (unknown .result) (unknown2 .result) (unknown .ensures .0) (unknown2 .ensures .0) (turn .loop .i) (c .dep .result) (omega arith) (c .dep .ensures) .1, p .0 .laid .within .names)
 
 shared-slice-read-put-dep : tie.Need-shared-slice-read-put-dep Inv-loop μ-loop
 shared-slice-read-put-dep c =
-    let a = c .before .before .before .before .before .before .before .before .before .args in
-    let p = c .before .before .before .before .before .before .before .before .before .pre in
-    let unknown = c .before .before .before .before .before .unknown in
-    let unknown2 = c .before .before .before .before .unknown2 in
-    omega (arith, deps-at (a .f .now) (a .s) (p .0) (a .u) (p .1) (unknown .result) (unknown2 .result) (unknown .ensures .0) (unknown2 .ensures .0) (c .before .before .before .loop .i) (c .before .dep .result) (omega arith) (c .before .dep .ensures) .1, p .0 .laid .within .names)
+    let read = c .before in
+    let turn = read .before .before in
+    let run = turn .before in
+    let entry = run .before .before .before .before .before in
+    let a = entry .args in
+    let p = entry .pre in
+    let unknown = run .before .unknown in
+    let unknown2 = run .unknown2 in
+    omega (arith, deps-at (a .f .now) (a .s) (p .0) (a .u) (p .1) (unknown .result) (unknown2 .result) (unknown .ensures .0) (unknown2 .ensures .0) (turn .loop .i) (read .dep .result) (omega arith) (read .dep .ensures) .1, p .0 .laid .within .names)
 
 put-dep-requires : tie.Need-put-dep-requires Inv-loop μ-loop
 unfolding keptBy numbered
 put-dep-requires c κs =
-    let a = c .before .before .before .before .before .before .before .before .before .before .args in
-    let p = c .before .before .before .before .before .before .before .before .before .before .pre in
-    let unknown = c .before .before .before .before .before .before .unknown in
-    let unknown2 = c .before .before .before .before .before .unknown2 in
-    let loop = c .before .before .before .before .loop in
-    let dep = c .before .before .dep in
+    let read = c .before .before in
+    let turn = read .before .before in
+    let run = turn .before in
+    let entry = run .before .before .before .before .before in
+    let a = entry .args in
+    let p = entry .pre in
+    let unknown = run .before .unknown in
+    let unknown2 = run .unknown2 in
+    let loop = turn .loop in
+    let dep = read .dep in
     runs-room (numbered (a .numbers .now)) (unknownIn (a .f .now) (a .s) (a .u) .deps) (a .out .now) (a .done) (p .3) (loop .i) (loop .out) (loop .total) (loop .inv .1) 0 (dep .result) (omega (arith, deps-count (a .f .now) (a .s) (p .0) (a .u) (p .1) (unknown .result) (unknown2 .result) (unknown .ensures .0) (unknown2 .ensures .0))) (deps-at (a .f .now) (a .s) (p .0) (a .u) (p .1) (unknown .result) (unknown2 .result) (unknown .ensures .0) (unknown2 .ensures .0) (loop .i) (dep .result) (omega arith) (dep .ensures) .0)
 
 add-i : tie.Need-add-i Inv-loop μ-loop
 add-i c =
-    let a = c .before .before .before .before .before .before .before .before .before .before .before .before .before .args in
-    let p = c .before .before .before .before .before .before .before .before .before .before .before .before .before .pre in
-    let unknown = c .before .before .before .before .before .before .before .before .before .unknown in
-    let unknown2 = c .before .before .before .before .before .before .before .before .unknown2 in
+    let put = c .before .before in
+    let turn = put .before .before .before .before .before in
+    let run = turn .before in
+    let entry = run .before .before .before .before .before in
+    let a = entry .args in
+    let p = entry .pre in
+    let unknown = run .before .unknown in
+    let unknown2 = run .unknown2 in
     omega (arith, deps-within (a .f .now) (a .s) (p .0) (a .u) (p .1) (unknown .result) (unknown2 .result) (unknown .ensures .0) (unknown2 .ensures .0), p .0 .laid .within .deps)
 
 loop-less : tie.Need-loop-less Inv-loop μ-loop
@@ -84,29 +103,40 @@ loop-less c = omega arith
 loop-again : tie.Need-loop-again Inv-loop μ-loop
 unfolding keptBy numbered
 loop-again c =
-    let a = c .before .before .before .before .before .before .before .before .before .before .before .before .before .args in
-    let p = c .before .before .before .before .before .before .before .before .before .before .before .before .before .pre in
-    let unknown = c .before .before .before .before .before .before .before .before .before .unknown in
-    let unknown2 = c .before .before .before .before .before .before .before .before .unknown2 in
-    let loop = c .before .before .before .before .before .before .before .loop in
-    let dep = c .before .before .before .before .before .dep in
-    let put-dep = c .before .before .put-dep in
+    let put = c .before .before in
+    let read = put .before .before .before in
+    let turn = read .before .before in
+    let run = turn .before in
+    let entry = run .before .before .before .before .before in
+    let a = entry .args in
+    let p = entry .pre in
+    let unknown = run .before .unknown in
+    let unknown2 = run .unknown2 in
+    let loop = turn .loop in
+    let dep = read .dep in
+    let put-dep = put .put-dep in
     (omega arith, runs-next (numbered (a .numbers .now)) (unknownIn (a .f .now) (a .s) (a .u) .deps) (a .out .now) (a .done) (p .3) (loop .i) (loop .out) (loop .total) (loop .inv .1) 0 (dep .result) _ (put-dep .result) (omega (arith, deps-count (a .f .now) (a .s) (p .0) (a .u) (p .1) (unknown .result) (unknown2 .result) (unknown .ensures .0) (unknown2 .ensures .0))) (deps-at (a .f .now) (a .s) (p .0) (a .u) (p .1) (unknown .result) (unknown2 .result) (unknown .ensures .0) (unknown2 .ensures .0) (loop .i) (dep .result) (omega arith) (dep .ensures) .0) (put-dep .ensures .0) (put-dep .ensures .1))
 
 same-length : tie.Need-same-length Inv-loop μ-loop
 unfolding keptBy numbered
 same-length c =
-    let a = c .before .before .before .before .before .before .before .args in
-    let p = c .before .before .before .before .before .before .before .pre in
-    runs-length (numbered (a .numbers .now)) (unknownIn (a .f .now) (a .s) (a .u) .deps) (a .out .now) (a .done) (p .3) (c .before .loop .i) (c .before .loop .out) (c .before .loop .total) (c .before .loop .inv .1)
+    let turn = c .before in
+    let run = turn .before in
+    let entry = run .before .before .before .before .before in
+    let a = entry .args in
+    let p = entry .pre in
+    runs-length (numbered (a .numbers .now)) (unknownIn (a .f .now) (a .s) (a .u) .deps) (a .out .now) (a .done) (p .3) (turn .loop .i) (turn .loop .out) (turn .loop .total) (turn .loop .inv .1)
 
 returns : tie.Need-returns Inv-loop μ-loop
 unfolding keptBy numbered
 returns c =
-    let a = c .before .before .before .before .before .before .before .args in
-    let p = c .before .before .before .before .before .before .before .pre in
-    let unknown = c .before .before .before .unknown in
-    runs-last (numbered (a .numbers .now)) (unknownIn (a .f .now) (a .s) (a .u) .deps) (a .out .now) (a .done) (p .3) (c .before .loop .i) (c .before .loop .out) (c .before .loop .total) (c .before .loop .inv .1) (omega (arith, deps-count (a .f .now) (a .s) (p .0) (a .u) (p .1) (unknown .result) (c .before .before .unknown2 .result) (unknown .ensures .0) (c .before .before .unknown2 .ensures .0)))
+    let turn = c .before in
+    let run = turn .before in
+    let entry = run .before .before .before .before .before in
+    let a = entry .args in
+    let p = entry .pre in
+    let unknown = run .before .unknown in
+    runs-last (numbered (a .numbers .now)) (unknownIn (a .f .now) (a .s) (a .u) .deps) (a .out .now) (a .done) (p .3) (turn .loop .i) (turn .loop .out) (turn .loop .total) (turn .loop .inv .1) (omega (arith, deps-count (a .f .now) (a .s) (p .0) (a .u) (p .1) (unknown .result) (run .unknown2 .result) (unknown .ensures .0) (run .unknown2 .ensures .0)))
 
 pub put-unknown-deps-spec : {M : Type 1} → statement M
 put-unknown-deps-spec =

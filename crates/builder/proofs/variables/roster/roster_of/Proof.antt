@@ -6,27 +6,41 @@ use mathlib.Core.Logic.{⊎-elim}
 use lib.ListN.{length, drop}
 use Rattle.ast.specs.Opens.{fileIn}
 use Rattle.definitions.specs.Variables.{declare}
+use Rattle.area.specs.Sections.{areaVars, VarsAre}
+use Rattle.area.proofs.VarsWritten.{vars-stay, vars-then}
 use Rattle.builder.specs.VariableTables.{rostered, listed, Listing, unknownsIn, rosterIn}
+use Rattle.builder.specs.Allocating.{namesIn}
 use Rattle.builder.proofs.laws.Open.{names-long}
 use Rattle.builder.proofs.laws.ScopeTables.{time-below}
 use Rattle.builder.proofs.laws.OpenUnknowns.{run-within, run-count, run-name}
-use Rattle.builder.proofs.laws.Rosters.{reserved-in, roster-first, roster-next, roster-pass, roster-last}
+use Rattle.builder.proofs.laws.Rosters.{room-kept, reserved-in, roster-first, roster-next, roster-pass, roster-last}
 use Rattle.builder.proofs.variables.roster.roster_of.Statement.{statement}
 use Rattle.builder.proofs.variables.roster.roster_of.Tie as tie
 
 abbrev Inv-loop : tie.InvT-loop
-Inv-loop f s classes m names₀ numbers₀ first count vars₀ i₀ names numbers vars i = (i ≤ count) × (vars ≤ i + 1) × (Listing (listed (rostered vars names numbers)) (rostered vars names numbers) × (rosterIn f s m ≡ declare (fileIn f s .names) (listed (rostered vars names numbers)) (drop i (unknownsIn f s m))))
+Inv-loop f s classes m own₀ z numbers₀ first count vars₀ i₀ own numbers vars i =
+    (i ≤ count) × (vars ≤ i + 1)
+    × (Listing (listed (rostered vars (namesIn own z) numbers)) (rostered vars (namesIn own z) numbers) × (rosterIn f s m ≡ declare (fileIn f s .names) (listed (rostered vars (namesIn own z) numbers)) (drop i (unknownsIn f s m))))
+    × VarsAre z own₀ (areaVars own z) own
 
 abbrev μ-loop : tie.MeasureT-loop
-μ-loop f s classes m names₀ numbers₀ first count vars₀ i₀ names numbers vars i = count - i
+μ-loop f s classes m own₀ z numbers₀ first count vars₀ i₀ own numbers vars i = count - i
 
--- ---- the places: the entry, and the run of the model's unknowns
+-- ---- the places: the entry, where t alone is listed, and the run of the model's unknowns
 
 abbrev entry : tie.After-model2 Inv-loop μ-loop → tie.Start Inv-loop μ-loop
 entry c = c .before .before .before .before .before
 
+abbrev alone : tie.After-slice-known4 Inv-loop μ-loop → tie.After-time-alone Inv-loop μ-loop
+alone c = c .before .before .before .before
+
 abbrev run : tie.After-slice-known4 Inv-loop μ-loop → tie.After-model2 Inv-loop μ-loop
-run c = c .before .before .before .before .before .before .before .before
+run c = alone c .before .before .before .before
+
+-- the variables' records, and all else as it was at the entry
+written : (c : tie.At-loop Inv-loop μ-loop)
+    → VarsAre (entry (run (c .before)) .args .z) (entry (run (c .before)) .args .own .now) (areaVars (c .loop .own) (entry (run (c .before)) .args .z)) (c .loop .own)
+written c = vars-then _ _ _ _ _ _ (alone (c .before) .time-alone .ensures .1) (c .loop .inv .3)
 
 model-requires : tie.Need-model-requires Inv-loop μ-loop
 model-requires c κs =
@@ -45,17 +59,16 @@ time-name-requires c κs =
 
 time-alone-requires : tie.Need-time-alone-requires Inv-loop μ-loop
 time-alone-requires c κs =
-    let a = c .before .before .before .before .before .before .before .before .args in
-    let p = c .before .before .before .before .before .before .before .before .pre in
-    (omega (arith, p .0 .opened .laid .within .names, time-below (fileIn (a .f .now) (a .s) .names), names-long (a .f .now) (a .s), c .before .before .time-name .ensures), p .1, p .2)
+    let t = c .before .before in
+    let a = entry (t .before) .args in
+    let p = entry (t .before) .pre in
+    (omega (arith, p .0 .opened .laid .within .names, time-below (fileIn (a .f .now) (a .s) .names), names-long (a .f .now) (a .s), t .time-name .ensures), p .1, p .2)
 
 loop-holds : tie.Need-loop-holds Inv-loop μ-loop
 loop-holds c =
-    let r = run c in
-    let a = entry r .args in
-    let p = entry r .pre in
-    let time-name = c .before .before .before .before .before .before .before .time-name in
-    (omega arith, omega arith, roster-first (a .f .now) (a .s) (a .m) (time-name .result) _ (time-name .ensures) (c .before .before .before .before .time-alone .ensures))
+    let a = entry (run c) .args in
+    let time-name = alone c .before .before .before .time-name in
+    (omega arith, omega arith, roster-first (a .f .now) (a .s) (a .m) (time-name .result) _ (time-name .ensures) (alone c .time-alone .ensures .0), vars-stay (a .z) _)
 
 add-unknown : tie.Need-add-unknown Inv-loop μ-loop
 add-unknown c =
@@ -92,16 +105,17 @@ is-reserved-requires c κs = tt
 
 declare-requires : tie.Need-declare-requires Inv-loop μ-loop
 declare-requires c κs =
-    let turn = c .before .before .before .before .before .before .before in
+    let known = c .before .before .before .before .before in
+    let turn = known .before .before in
     let r = run (turn .before) in
     let a = entry r .args in
     let p = entry r .pre in
     let model = r .before .model in
     let model2 = r .model2 in
     let loop = turn .loop in
-    let more = c .before .before .before .before .before .before .loop-test .taken in
-    let unknown = c .before .before .before .before .before .unknown in
-    (loop .inv .2 .0, omega (arith, more, loop .inv .1, run-within (a .f .now) (a .s) (p .0 .opened) (a .m) (p .0 .model) (model .result) (model2 .result) (model .ensures .0) (model2 .ensures .0), p .0 .opened .laid .within .unknowns), omega (arith, run-name (a .f .now) (a .s) (p .0 .opened) (a .m) (p .0 .model) (model .result) (model2 .result) (model .ensures .0) (model2 .ensures .0) (loop .i) (unknown .result) (omega (arith, more)) (unknown .ensures .0) .1, p .0 .opened .laid .within .names))
+    let more = known .before .loop-test .taken in
+    let unknown = known .unknown in
+    (room-kept (a .z) (a .own .now) (loop .own) (p .1) _ (written turn), loop .inv .2 .0, omega (arith, more, loop .inv .1, run-within (a .f .now) (a .s) (p .0 .opened) (a .m) (p .0 .model) (model .result) (model2 .result) (model .ensures .0) (model2 .ensures .0), p .0 .opened .laid .within .unknowns), omega (arith, run-name (a .f .now) (a .s) (p .0 .opened) (a .m) (p .0 .model) (model .result) (model2 .result) (model .ensures .0) (model2 .ensures .0) (loop .i) (unknown .result) (omega (arith, more)) (unknown .ensures .0) .1, p .0 .opened .laid .within .names))
 
 add-i : tie.Need-add-i Inv-loop μ-loop
 add-i c = omega arith
@@ -124,16 +138,12 @@ loop-again c =
     let below : loop .i < length (unknownsIn (a .f .now) (a .s) (a .m)) = omega (arith, more, run-count (a .f .now) (a .s) (p .0 .opened) (a .m) (p .0 .model) (model .result) (model2 .result) (model .ensures .0) (model2 .ensures .0)) in
     let q = reserved-in (a .f .now) (a .s) (a .classes .now) (p .0 .opened) (p .0 .classed) (unknown .result) (n .1) in
     ⊎-elim
-    (λ w. rw (w .8, w .9, w .10) (omega (arith, more), omega (arith, w .3 .ensures .1, loop .inv .1), roster-next (a .f .now) (a .s) (a .m) (loop .i) (unknown .result) (rostered (loop .vars) (loop .names) (loop .numbers)) (loop .inv .2 .1) below (n .0) _ (sym q ∙ sym (c .before .is-reserved .ensures) ∙ not-true _ (w .0 .taken)) (w .3 .ensures .0)))
-    (λ w. rw (w .1, w .2, w .3) (omega (arith, more), omega (arith, loop .inv .1), roster-pass (a .f .now) (a .s) (a .m) (loop .i) (unknown .result) (rostered (loop .vars) (loop .names) (loop .numbers)) (loop .inv .2 .1) below (n .0) (sym q ∙ sym (c .before .is-reserved .ensures) ∙ not-false _ (w .0 .left)) (loop .inv .2 .0)))
+    (λ w. rw (w .8, w .9, w .10) (omega (arith, more), omega (arith, w .3 .ensures .1, loop .inv .1), roster-next (a .f .now) (a .s) (a .m) (loop .i) (unknown .result) (rostered (loop .vars) (namesIn (loop .own) (a .z)) (loop .numbers)) (loop .inv .2 .1) below (n .0) _ (sym q ∙ sym (c .before .is-reserved .ensures) ∙ not-true _ (w .0 .taken)) (w .3 .ensures .0), vars-then _ _ _ _ _ _ (loop .inv .3) (w .3 .ensures .2)))
+    (λ w. rw (w .1, w .2, w .3) (omega (arith, more), omega (arith, loop .inv .1), roster-pass (a .f .now) (a .s) (a .m) (loop .i) (unknown .result) (rostered (loop .vars) (namesIn (loop .own) (a .z)) (loop .numbers)) (loop .inv .2 .1) below (n .0) (sym q ∙ sym (c .before .is-reserved .ensures) ∙ not-false _ (w .0 .left)) (loop .inv .2 .0), loop .inv .3))
     (c .if1 .came)
 
 same-length : tie.Need-same-length Inv-loop μ-loop
-same-length c =
-    let turn = c .before in
-    let r = run (turn .before) in
-    let p = entry r .pre in
-    turn .loop .inv .2 .0 .room ∙ sym (p .1)
+same-length c = written (c .before) .long
 
 same-length-2 : tie.Need-same-length-2 Inv-loop μ-loop
 same-length-2 c =
@@ -150,7 +160,7 @@ returns c =
     let p = entry r .pre in
     let model = r .before .model in
     let model2 = r .model2 in
-    roster-last (a .f .now) (a .s) (a .m) (turn .loop .i) (rostered (turn .loop .vars) (turn .loop .names) (turn .loop .numbers)) (turn .loop .inv .2 .0) (turn .loop .inv .2 .1) (omega (arith, run-count (a .f .now) (a .s) (p .0 .opened) (a .m) (p .0 .model) (model .result) (model2 .result) (model .ensures .0) (model2 .ensures .0)))
+    (roster-last (a .f .now) (a .s) (a .m) (turn .loop .i) (rostered (turn .loop .vars) (namesIn (turn .loop .own) (a .z)) (turn .loop .numbers)) (turn .loop .inv .2 .0) (turn .loop .inv .2 .1) (omega (arith, run-count (a .f .now) (a .s) (p .0 .opened) (a .m) (p .0 .model) (model .result) (model2 .result) (model .ensures .0) (model2 .ensures .0))), written turn)
 
 pub roster-of-spec : {M : Type 1} → statement M
 roster-of-spec =

@@ -1,14 +1,22 @@
 use native.Mathlib.Omega.{arith}
-use Rattle.builder.proofs.laws.Rosters.{time-listed, none-listed}
+use Rattle.builder.proofs.laws.Rosters.{time-put, none-put}
 use borrow.Author.Needs.{needs}
 use Rattle.builder.proofs.variables.roster.time_alone.Statement.{statement}
 use Rattle.builder.proofs.variables.roster.time_alone.Tie as tie
 
-cast-names : tie.Need-cast-names
-cast-names c = search needs
+-- ---- the places: the entry, and where t's name is put
 
-slice-write-names : tie.Need-slice-write-names
-slice-write-names c = search needs
+abbrev entry : tie.After-put-var → tie.Start
+entry c = c .before .before .before .before
+
+abbrev put : tie.After-slice-known3 → tie.After-put-var
+put c = c .before .before
+
+cast-put-var : tie.Need-cast-put-var
+cast-put-var c = search needs
+
+put-var-requires : tie.Need-put-var-requires
+put-var-requires c κs = search needs
 
 sub-numbers : tie.Need-sub-numbers
 sub-numbers c = search needs
@@ -27,25 +35,27 @@ same-length-2 c = search needs
 
 returns : tie.Need-returns
 returns c =
-    let a = c .before .args in
-    let p = c .before .pre in
-    time-listed (a .time) (a .names .now) (a .numbers .now) (p .1) (p .2 .long) (p .2 .zeros) (omega arith) (omega arith)
+    let w = put (c .before) in
+    let a = entry w .args in
+    let p = entry w .pre in
+    time-put (a .z) (a .own .now) _ (p .1) (a .time) (a .numbers .now) (p .2) (p .0) (w .put-var .ensures) (omega arith)
 
 same-length-3 : tie.Need-same-length-3
 same-length-3 c = search needs
 
 returns-2 : tie.Need-returns-2
 returns-2 c =
-    let a = c .before .args in
-    let p = c .before .pre in
-    none-listed (a .time) (a .names .now) (a .numbers .now) (p .1) (p .2 .long) (p .2 .zeros) (omega arith) (omega arith)
+    let w = put (c .before) in
+    let a = entry w .args in
+    let p = entry w .pre in
+    none-put (a .z) (a .own .now) _ (p .1) (a .time) (a .numbers .now) (p .2) (p .0) (w .put-var .ensures) (omega arith)
 
 pub time-alone-spec : {M : Type 1} → statement M
 time-alone-spec =
     tie.close
     (tie.spec
-    cast-names
-    slice-write-names
+    cast-put-var
+    put-var-requires
     sub-numbers
     mul-numbers
     slice-write-numbers
