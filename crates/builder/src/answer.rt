@@ -50,25 +50,35 @@ fn finish(
     f: &[u8],
     s: Sections,
     classes: &[u8; MOST_NAMES],
-    calls: &[u8; MOST_STMTS],
-    own: &mut [u8],
+    callees: &[u8; MOST_STMTS],
+    area: &mut [u8],
     numbers: &[u16],
     root: Root,
     left: Left,
 ) -> usize
-    requires { ⌜ Rooted (now f) s (now classes) (now calls) (now numbers) (root .model) (root .instances) (root .sizes)
-        (root .time)
-        × Held (fileIn (now f) s) (root .model) (root .sizes) (now own)
+    requires { ⌜ Rooted (now f) s (now classes) (now callees) (now numbers) (root .model) (root .instances)
+        (root .sizes) (root .time)
+        × Held (fileIn (now f) s) (root .model) (root .sizes) (now area)
         × ((left .stmts ≡ leftCount (rolesAt (fileIn (now f) s) (root .model)))
         × (left .states ≡ length (lacking (scopeAt (fileIn (now f) s) (root .model) .vars)
         (rolesAt (fileIn (now f) s) (root .model))))) ⌝ }
-    ensures { λ u. ⌜ (take u (now (own .exit)) ≡ answerBytes (answerAt (fileIn (now (f .entry)) s) (root .model)))
+    ensures { λ u. ⌜ (take u (now (area .exit)) ≡ answerBytes (answerAt (fileIn (now (f .entry)) s) (root .model)))
         × (u ≤ mostBytes) ⌝ }
 {
     let mut errors = no_errors();
-    let count = all_errors(f, s, classes, calls, own, numbers, root, left, &mut errors);
-    put_errors(own, root.sizes, &errors, count);
-    write_header(f, s, root, own, count);
+    let count = all_errors(
+        f,
+        s,
+        classes,
+        callees,
+        area,
+        numbers,
+        root,
+        left,
+        &mut errors,
+    );
+    put_errors(area, root.sizes, &errors, count);
+    write_header(f, s, root, area, count);
     errors_at(root.sizes) + errors_length(count)
 }
 
@@ -77,20 +87,20 @@ fn write_answer(
     f: &[u8],
     s: Sections,
     classes: &[u8; MOST_NAMES],
-    calls: &[u8; MOST_STMTS],
-    own: &mut [u8],
+    callees: &[u8; MOST_STMTS],
+    area: &mut [u8],
     numbers: &[u16],
     root: Root,
 ) -> usize
-    requires { ⌜ Rooted (now f) s (now classes) (now calls) (now numbers) (root .model) (root .instances) (root .sizes)
-        (root .time)
-        × Unfated (fileIn (now f) s) (root .model) (root .sizes) (now own) ⌝ }
-    ensures { λ u. ⌜ (take u (now (own .exit)) ≡ answerBytes (answerAt (fileIn (now (f .entry)) s) (root .model)))
+    requires { ⌜ Rooted (now f) s (now classes) (now callees) (now numbers) (root .model) (root .instances)
+        (root .sizes) (root .time)
+        × Unfated (fileIn (now f) s) (root .model) (root .sizes) (now area) ⌝ }
+    ensures { λ u. ⌜ (take u (now (area .exit)) ≡ answerBytes (answerAt (fileIn (now (f .entry)) s) (root .model)))
         × (u ≤ mostBytes) ⌝ }
 {
-    let left = allocate_stmts(own, root.sizes, numbers, root.time.lower);
-    write_held(own, root.sizes);
-    finish(f, s, classes, calls, own, numbers, root, left)
+    let left = allocate_stmts(area, root.sizes, numbers, root.time.lower);
+    write_held(area, root.sizes);
+    finish(f, s, classes, callees, area, numbers, root, left)
 }
 
 // Refusal 10, or the rest of the answer.
@@ -98,24 +108,24 @@ fn answer_laid(
     f: &[u8],
     s: Sections,
     classes: &[u8; MOST_NAMES],
-    calls: &[u8; MOST_STMTS],
-    own: &mut [u8],
+    callees: &[u8; MOST_STMTS],
+    area: &mut [u8],
     numbers: &[u16],
     root: Root,
 ) -> Answered
-    requires { ⌜ Rooted (now f) s (now classes) (now calls) (now numbers) (root .model) (root .instances) (root .sizes)
-        (root .time)
-        × Unfated (fileIn (now f) s) (root .model) (root .sizes) (now own) ⌝ }
-    ensures { λ a. ⌜ (answeredAs a (now (own .exit)) ≡ bytesIn
+    requires { ⌜ Rooted (now f) s (now classes) (now callees) (now numbers) (root .model) (root .instances)
+        (root .sizes) (root .time)
+        × Unfated (fileIn (now f) s) (root .model) (root .sizes) (now area) ⌝ }
+    ensures { λ a. ⌜ (answeredAs a (now (area .exit)) ≡ bytesIn
         (cond (anyShort (scopeAt (fileIn (now (f .entry)) s) (root .model))
         (flatsOf (fileIn (now (f .entry)) s) (root .model))) (refusal shortLeftSide)
         (accepted (answerAt (fileIn (now (f .entry)) s) (root .model)))))
         × (usedIn a ≤ mostBytes) ⌝ }
 {
-    if any_short(own, root.sizes, numbers) {
+    if any_short(area, root.sizes, numbers) {
         return Answered::Refused(SHORT_LEFT_SIDE);
     }
-    Answered::Used(write_answer(f, s, classes, calls, own, numbers, root))
+    Answered::Used(write_answer(f, s, classes, callees, area, numbers, root))
 }
 
 // The answer of model m, of this extent.
@@ -123,32 +133,32 @@ pub fn fill(
     f: &[u8],
     s: Sections,
     classes: &[u8; MOST_NAMES],
-    calls: &[u8; MOST_STMTS],
+    callees: &[u8; MOST_STMTS],
     rows: &mut [u16],
     m: usize,
-    own: &mut [u8],
+    area: &mut [u8],
     extent: Extent,
 ) -> Answered
-    requires { ⌜ Sources (now f) s (now classes) (now calls) (now rows) m (now own)
+    requires { ⌜ Sources (now f) s (now classes) (now callees) (now rows) m (now area)
         × ExtentOf (fileIn (now f) s) m (extent .instances) (extent .stmts) (extent .nodes) ⌝ }
-    ensures { λ a. ⌜ (answeredAs a (now (own .exit)) ≡ bytesIn
+    ensures { λ a. ⌜ (answeredAs a (now (area .exit)) ≡ bytesIn
         (cond (anyShort (scopeAt (fileIn (now (f .entry)) s) m) (flatsOf (fileIn (now (f .entry)) s) m))
         (refusal shortLeftSide) (accepted (answerAt (fileIn (now (f .entry)) s) m))))
         × (usedIn a ≤ mostBytes) ⌝ }
 {
     let mut numbers = no_marks();
-    lay_flats(f, s, calls, rows, m, own, extent.nodes);
+    lay_flats(f, s, callees, rows, m, area, extent.nodes);
     let z = lay_vars(
         f,
         s,
         classes,
         m,
-        own,
+        area,
         extent.nodes,
         extent.stmts,
         &mut numbers,
     );
-    let name = var_of(own, z, 0, VAR_NAME) as usize;
+    let name = var_of(area, z, 0, VAR_NAME) as usize;
     let time = time_bounds(f, s, classes, m, name);
     let root = Root {
         model: m,
@@ -156,5 +166,5 @@ pub fn fill(
         sizes: z,
         time: time,
     };
-    answer_laid(f, s, classes, calls, own, &numbers, root)
+    answer_laid(f, s, classes, callees, area, &numbers, root)
 }

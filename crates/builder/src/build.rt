@@ -37,17 +37,17 @@ use ast::sections::Sections;
 fn answer_with(
     f: &[u8],
     s: Sections,
-    kinds: &[u8; MOST_NAMES],
-    calls: &[u8; MOST_STMTS],
+    classes: &[u8; MOST_NAMES],
+    callees: &[u8; MOST_STMTS],
     rows: &mut [u16],
     m: usize,
-    own: &mut [u8],
+    area: &mut [u8],
 ) -> Answered
-    requires { ⌜ Sources (now f) s (now kinds) (now calls) (now rows) m (now own) ⌝ }
-    ensures { λ a. ⌜ (answeredAs a (now (own .exit)) ≡ bytesIn (answerOfModel (fileIn (now (f .entry)) s) m))
+    requires { ⌜ Sources (now f) s (now classes) (now callees) (now rows) m (now area) ⌝ }
+    ensures { λ a. ⌜ (answeredAs a (now (area .exit)) ≡ bytesIn (answerOfModel (fileIn (now (f .entry)) s) m))
         × (usedIn a ≤ mostBytes) ⌝ }
 {
-    match measure(f, s, kinds, calls, rows, m) {
+    match measure(f, s, classes, callees, rows, m) {
         Measured::Refused(number) => Answered::Refused(number),
         Measured::Sized(i, q, n) => {
             let extent = Extent {
@@ -55,36 +55,36 @@ fn answer_with(
                 stmts: q,
                 nodes: n,
             };
-            fill(f, s, kinds, calls, rows, m, own, extent)
+            fill(f, s, classes, callees, rows, m, area, extent)
         }
     }
 }
 
 // The answer of model m, in a file of many models or of few. Two functions, each called where an answer is wanted, so that a build of few models does not
 // have the long table of rows on its stack.
-fn answer(f: &[u8], s: Sections, m: usize, own: &mut [u8]) -> Answered
-    requires { ⌜ Open (now f) s × (m < s .counts .models) × (length (now own) ≡ mostBytes) ⌝ }
-    ensures { λ a. ⌜ (answeredAs a (now (own .exit)) ≡ bytesIn (answerOfModel (fileIn (now (f .entry)) s) m))
+fn answer(f: &[u8], s: Sections, m: usize, area: &mut [u8]) -> Answered
+    requires { ⌜ Open (now f) s × (m < s .counts .models) × (length (now area) ≡ mostBytes) ⌝ }
+    ensures { λ a. ⌜ (answeredAs a (now (area .exit)) ≡ bytesIn (answerOfModel (fileIn (now (f .entry)) s) m))
         × (usedIn a ≤ mostBytes) ⌝ }
 {
-    let kinds = classes(f, s);
-    let calls = callees(f, s);
+    let classed = classes(f, s);
+    let called = callees(f, s);
     let mut rows = no_rows();
-    answer_with(f, s, &kinds, &calls, &mut rows, m, own)
+    answer_with(f, s, &classed, &called, &mut rows, m, area)
 }
 
-fn answer_few(f: &[u8], s: Sections, m: usize, own: &mut [u8]) -> Answered
+fn answer_few(f: &[u8], s: Sections, m: usize, area: &mut [u8]) -> Answered
     requires { ⌜ Open (now f) s
         × (m < s .counts .models)
-        × (length (now own) ≡ mostBytes)
+        × (length (now area) ≡ mostBytes)
         × (s .counts .models ≤ fewModels) ⌝ }
-    ensures { λ a. ⌜ (answeredAs a (now (own .exit)) ≡ bytesIn (answerOfModel (fileIn (now (f .entry)) s) m))
+    ensures { λ a. ⌜ (answeredAs a (now (area .exit)) ≡ bytesIn (answerOfModel (fileIn (now (f .entry)) s) m))
         × (usedIn a ≤ mostBytes) ⌝ }
 {
-    let kinds = classes(f, s);
-    let calls = callees(f, s);
+    let classed = classes(f, s);
+    let called = callees(f, s);
     let mut rows = few_rows();
-    answer_with(f, s, &kinds, &calls, &mut rows, m, own)
+    answer_with(f, s, &classed, &called, &mut rows, m, area)
 }
 
 // A refusal, or the answer handed out.

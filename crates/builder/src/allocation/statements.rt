@@ -28,18 +28,18 @@ fn paired(left: usize, states: usize) -> usize
     if left == states { states } else { 0 }
 }
 
-pub fn allocate_stmts(own: &mut [u8], z: Sizes, numbers: &[u16], lower: f64) -> Left
-    requires { ⌜ ((names : ℕ) × Flattened names (now own) z) × Numbered (now own) z (now numbers) ⌝ }
-    ensures { λ r. ⌜ (r .stmts ≡ times (eqb 0) (rolesBy (now (own .entry)) z (now (numbers .entry)) lower))
-        × (r .states ≡ length (lackingBy (now (own .entry)) z (now (numbers .entry)) lower))
-        × (now (own .exit) ≡ put (now (own .entry)) (stmtsAt z)
-        (encode (fatedBy (now (own .entry)) z (now (numbers .entry)) lower))) ⌝ }
+pub fn allocate_stmts(area: &mut [u8], z: Sizes, numbers: &[u16], lower: f64) -> Left
+    requires { ⌜ ((names : ℕ) × Flattened names (now area) z) × Numbered (now area) z (now numbers) ⌝ }
+    ensures { λ r. ⌜ (r .stmts ≡ times (eqb 0) (rolesBy (now (area .entry)) z (now (numbers .entry)) lower))
+        × (r .states ≡ length (lackingBy (now (area .entry)) z (now (numbers .entry)) lower))
+        × (now (area .exit) ≡ put (now (area .entry)) (stmtsAt z)
+        (encode (fatedBy (now (area .entry)) z (now (numbers .entry)) lower))) ⌝ }
 {
-    let role = roles(own, z, numbers, lower);
+    let role = roles(area, z, numbers, lower);
     let left = left_count(&role, z.stmts);
-    let queue = lacking(&role, own, z);
+    let queue = lacking(&role, area, z);
     let states = queue.states;
-    write_fates(own, z, &role, &states, paired(left, queue.count));
+    write_fates(area, z, &role, &states, paired(left, queue.count));
     Left {
         stmts: left,
         states: queue.count,

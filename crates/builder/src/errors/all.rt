@@ -24,11 +24,11 @@ fn models_errors(
     f: &[u8],
     s: Sections,
     classes: &[u8; MOST_NAMES],
-    calls: &[u8; MOST_STMTS],
+    callees: &[u8; MOST_STMTS],
     m: usize,
     out: &mut [u8],
 ) -> usize
-    requires { ⌜ checking.Called (now f) s (now classes) (now calls)
+    requires { ⌜ checking.Called (now f) s (now classes) (now callees)
         × (m < s .counts .models)
         × Room (now out) 0 (errorsOf (fileIn (now f) s) (length (fileIn (now f) s .models)) m) ⌝ }
     ensures { λ r. ⌜ Lists (now (out .entry)) 0 (errorsOf (fileIn (now (f .entry)) s)
@@ -36,21 +36,21 @@ fn models_errors(
 {
     let counts = rules(f, s);
     let k = s.counts.models;
-    builder(f, s, classes, &counts, calls, k, m, out, 0)
+    builder(f, s, classes, &counts, callees, k, m, out, 0)
 }
 
 pub fn all_errors(
     f: &[u8],
     s: Sections,
     classes: &[u8; MOST_NAMES],
-    calls: &[u8; MOST_STMTS],
+    callees: &[u8; MOST_STMTS],
     area: &[u8],
     numbers: &[u16],
     root: Root,
     left: Left,
     out: &mut [u8],
 ) -> usize
-    requires { ⌜ Erring (now f) s (now classes) (now calls) (now area) (now numbers) (root .model) (root .sizes)
+    requires { ⌜ Erring (now f) s (now classes) (now callees) (now area) (now numbers) (root .model) (root .sizes)
         × (length (now out) ≡ listLength) ⌝ }
     ensures { λ r. ⌜ Lists (now (out .entry)) 0 (errorsBy (now (area .entry)) (root .sizes) (now (numbers .entry))
         (root .time .lower) (fileIn (now (f .entry)) s) (root .model) (left .stmts) (left .states)) r
@@ -58,7 +58,7 @@ pub fn all_errors(
 {
     let m = root.model;
     let z = root.sizes;
-    let built = models_errors(f, s, classes, calls, m, out);
+    let built = models_errors(f, s, classes, callees, m, out);
     let stated = roles_errors(area, z, numbers, root.time.lower, out, built);
     let counted = list(out, stated, count_error(f, s, m, left));
     starting_errors(f, s, m, area, z, out, counted)

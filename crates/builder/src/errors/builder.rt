@@ -232,24 +232,24 @@ fn add_submodel(
     s: Sections,
     classes: &[u8; MOST_NAMES],
     rules: &[u8; MOST_NAMES],
-    calls: &[u8; MOST_STMTS],
+    callees: &[u8; MOST_STMTS],
     k: usize,
     q: usize,
     out: &mut [u8],
     count: usize,
 ) -> usize
-    requires { ⌜ TablesRead (now f) s (now classes) (now rules) (now calls)
+    requires { ⌜ TablesRead (now f) s (now classes) (now rules) (now callees)
         × StmtAt s q k
         × (kindOfStmt (getD (contentsIn (now f) s .stmts) q []) ≡ submodelKind)
         × ((c : Scope) → Room (now out) count (errorsAt (now f) s k c q)) ⌝ }
     ensures { λ r. ⌜ ((c : Scope)
         → Lists (now (out .entry)) count (errorsAt (now (f .entry)) s k c q) r (now (out .exit))) ⌝ }
 {
-    let c = calls[q] as usize;
+    let c = callees[q] as usize;
     if c == 0 {
         return list(out, count, missing_error(f, s, q));
     }
-    let listed = builder(f, s, classes, rules, calls, k, c - 1, out, count);
+    let listed = builder(f, s, classes, rules, callees, k, c - 1, out, count);
     let nodes = Nodes {
         at: s.starts.nodes,
         count: s.counts.nodes,
@@ -264,13 +264,13 @@ fn stmt_errors(
     s: Sections,
     classes: &[u8; MOST_NAMES],
     rules: &[u8; MOST_NAMES],
-    calls: &[u8; MOST_STMTS],
+    callees: &[u8; MOST_STMTS],
     vars: &[u16; MOST_NAMES],
     place: Place,
     out: &mut [u8],
     count: usize,
 ) -> usize
-    requires { ⌜ TablesRead (now f) s (now classes) (now rules) (now calls)
+    requires { ⌜ TablesRead (now f) s (now classes) (now rules) (now callees)
         × Against (now f) s (place .model) (now classes) (now rules) (now vars)
         × StmtAt s (place .stmt) (place .depth)
         × Room (now out) count
@@ -283,7 +283,7 @@ fn stmt_errors(
     if stmt(f, s, q, STMT_KIND) != SUBMODEL_KIND {
         return own_errors(f, s, classes, rules, vars, place.model, q, out, count);
     }
-    add_submodel(f, s, classes, rules, calls, place.depth, q, out, count)
+    add_submodel(f, s, classes, rules, callees, place.depth, q, out, count)
 }
 
 // The errors of model m, to a depth of k models.
@@ -292,13 +292,13 @@ pub fn builder(
     s: Sections,
     classes: &[u8; MOST_NAMES],
     rules: &[u8; MOST_NAMES],
-    calls: &[u8; MOST_STMTS],
+    callees: &[u8; MOST_STMTS],
     k: usize,
     m: usize,
     out: &mut [u8],
     count: usize,
 ) -> usize
-    requires { ⌜ TablesRead (now f) s (now classes) (now rules) (now calls)
+    requires { ⌜ TablesRead (now f) s (now classes) (now rules) (now callees)
         × (m < s .counts .models)
         × (k ≤ mostModels)
         × Room (now out) count (errorsOf (fileIn (now f) s) k m) ⌝ }
@@ -321,7 +321,7 @@ pub fn builder(
             stmt: q,
             depth: left,
         };
-        listed = stmt_errors(f, s, classes, rules, calls, &vars, place, out, listed);
+        listed = stmt_errors(f, s, classes, rules, callees, &vars, place, out, listed);
         i += 1;
     }
     listed

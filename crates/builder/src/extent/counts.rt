@@ -30,12 +30,12 @@ use ast::subst::measure_expr;
 pub fn instances(
     f: &[u8],
     s: Sections,
-    calls: &[u8; MOST_STMTS],
+    callees: &[u8; MOST_STMTS],
     k: usize,
     m: usize,
     most: usize,
 ) -> usize
-    requires { ⌜ Linked (now f) s (now calls) × (m < s .counts .models) × (k ≤ mostModels) × (most ≤ 4096) ⌝ }
+    requires { ⌜ Linked (now f) s (now callees) × (m < s .counts .models) × (k ≤ mostModels) × (most ≤ 4096) ⌝ }
     ensures { λ r. ⌜ r ≡ atMost most (Flatten.instances (fileIn (now (f .entry)) s) k m) ⌝ }
 {
     if k == 0 {
@@ -49,7 +49,7 @@ pub fn instances(
     let mut total = 1;
     let mut i = 0;
     while i < count {
-        total += stmt_instances(f, s, calls, k - 1, first + i, most - total);
+        total += stmt_instances(f, s, callees, k - 1, first + i, most - total);
         i += 1;
     }
     total
@@ -59,33 +59,33 @@ pub fn instances(
 fn stmt_instances(
     f: &[u8],
     s: Sections,
-    calls: &[u8; MOST_STMTS],
+    callees: &[u8; MOST_STMTS],
     k: usize,
     q: usize,
     most: usize,
 ) -> usize
-    requires { ⌜ Linked (now f) s (now calls) × (q < s .counts .stmts) × (k ≤ mostModels) × (most ≤ 4096) ⌝ }
+    requires { ⌜ Linked (now f) s (now callees) × (q < s .counts .stmts) × (k ≤ mostModels) × (most ≤ 4096) ⌝ }
     ensures { λ r. ⌜ r ≡ atMost most (sumOf (λ j. Flatten.instances (fileIn (now (f .entry)) s) k j)
         (Flatten.stmtModels (fileIn (now (f .entry)) s)
         (stmtOf (contentsIn (now (f .entry)) s .nodes) (getD (contentsIn (now (f .entry)) s .stmts) q [])))) ⌝ }
 {
-    let c = calls[q] as usize;
+    let c = callees[q] as usize;
     if c == 0 {
         return 0;
     }
-    instances(f, s, calls, k, c - 1, most)
+    instances(f, s, callees, k, c - 1, most)
 }
 
 // The flattened statements of model m, to a depth of k models, at most `most`.
 pub fn flat_stmts(
     f: &[u8],
     s: Sections,
-    calls: &[u8; MOST_STMTS],
+    callees: &[u8; MOST_STMTS],
     k: usize,
     m: usize,
     most: usize,
 ) -> usize
-    requires { ⌜ Linked (now f) s (now calls) × (m < s .counts .models) × (k ≤ mostModels) × (most ≤ 4096) ⌝ }
+    requires { ⌜ Linked (now f) s (now callees) × (m < s .counts .models) × (k ≤ mostModels) × (most ≤ 4096) ⌝ }
     ensures { λ r. ⌜ r ≡ atMost most (length (Flatten.flatten (fileIn (now (f .entry)) s) k m)) ⌝ }
 {
     if k == 0 {
@@ -96,7 +96,7 @@ pub fn flat_stmts(
     let mut total = 0;
     let mut i = 0;
     while i < count {
-        total += stmt_stmts(f, s, calls, k - 1, first + i, most - total);
+        total += stmt_stmts(f, s, callees, k - 1, first + i, most - total);
         i += 1;
     }
     total
@@ -106,12 +106,12 @@ pub fn flat_stmts(
 fn stmt_stmts(
     f: &[u8],
     s: Sections,
-    calls: &[u8; MOST_STMTS],
+    callees: &[u8; MOST_STMTS],
     k: usize,
     q: usize,
     most: usize,
 ) -> usize
-    requires { ⌜ Linked (now f) s (now calls) × (q < s .counts .stmts) × (k ≤ mostModels) × (most ≤ 4096) ⌝ }
+    requires { ⌜ Linked (now f) s (now callees) × (q < s .counts .stmts) × (k ≤ mostModels) × (most ≤ 4096) ⌝ }
     ensures { λ r. ⌜ r ≡ atMost most (length (Flatten.stmtFlats (fileIn (now (f .entry)) s)
         (λ j. Flatten.flatten (fileIn (now (f .entry)) s) k j)
         (stmtOf (contentsIn (now (f .entry)) s .nodes) (getD (contentsIn (now (f .entry)) s .stmts) q [])))) ⌝ }
@@ -122,11 +122,11 @@ fn stmt_stmts(
     if stmt(f, s, q, STMT_KIND) != SUBMODEL_KIND {
         return 1;
     }
-    let c = calls[q] as usize;
+    let c = callees[q] as usize;
     if c == 0 {
         return 0;
     }
-    flat_stmts(f, s, calls, k, c - 1, most)
+    flat_stmts(f, s, callees, k, c - 1, most)
 }
 
 // The nodes of statement q's own trees, read at a level, at most `most`.
@@ -151,14 +151,14 @@ fn own_nodes(f: &[u8], s: Sections, rows: &[u16], level: usize, q: usize, most: 
 pub fn flat_nodes(
     f: &[u8],
     s: Sections,
-    calls: &[u8; MOST_STMTS],
+    callees: &[u8; MOST_STMTS],
     rows: &mut [u16],
     k: usize,
     m: usize,
     level: usize,
     most: usize,
 ) -> usize
-    requires { ⌜ Linked (now f) s (now calls) × (m < s .counts .models) × RowsAt (now f) s (now rows) (level + k) ⌝ }
+    requires { ⌜ Linked (now f) s (now callees) × (m < s .counts .models) × RowsAt (now f) s (now rows) (level + k) ⌝ }
     ensures { λ r. ⌜ (r ≡ atMost most (sumOf flatSize (flatAt (now (f .entry)) s (now (rows .entry)) level k m)))
         × RowsKept (now (f .entry)) s level (now (rows .entry)) (now (rows .exit)) ⌝ }
 {
@@ -170,7 +170,7 @@ pub fn flat_nodes(
     let mut total = 0;
     let mut i = 0;
     while i < count {
-        total += stmt_nodes(f, s, calls, rows, k - 1, first + i, level, most - total);
+        total += stmt_nodes(f, s, callees, rows, k - 1, first + i, level, most - total);
         i += 1;
     }
     total
@@ -180,14 +180,16 @@ pub fn flat_nodes(
 fn stmt_nodes(
     f: &[u8],
     s: Sections,
-    calls: &[u8; MOST_STMTS],
+    callees: &[u8; MOST_STMTS],
     rows: &mut [u16],
     k: usize,
     q: usize,
     level: usize,
     most: usize,
 ) -> usize
-    requires { ⌜ Linked (now f) s (now calls) × (q < s .counts .stmts) × RowsAt (now f) s (now rows) (level + k + 1) ⌝ }
+    requires { ⌜ Linked (now f) s (now callees)
+        × (q < s .counts .stmts)
+        × RowsAt (now f) s (now rows) (level + k + 1) ⌝ }
     ensures { λ r. ⌜ (r ≡ atMost most (sumOf flatSize (broughtAt (now (f .entry)) s (now (rows .entry)) level
         (λ j. Flatten.flatten (fileIn (now (f .entry)) s) k j) q)))
         × RowsKept (now (f .entry)) s level (now (rows .entry)) (now (rows .exit)) ⌝ }
@@ -195,10 +197,10 @@ fn stmt_nodes(
     if stmt(f, s, q, STMT_KIND) != SUBMODEL_KIND {
         return own_nodes(f, s, rows, level, q, most);
     }
-    let c = calls[q] as usize;
+    let c = callees[q] as usize;
     if (c == 0) | (k == 0) {
         return 0;
     }
     find_replacements(f, s, c - 1, stmt(f, s, q, STMT_RIGHT), rows, level);
-    flat_nodes(f, s, calls, rows, k, c - 1, level + 1, most)
+    flat_nodes(f, s, callees, rows, k, c - 1, level + 1, most)
 }

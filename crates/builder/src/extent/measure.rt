@@ -31,43 +31,43 @@ fn forbidden(
     f: &[u8],
     s: Sections,
     classes: &[u8; MOST_NAMES],
-    calls: &[u8; MOST_STMTS],
+    callees: &[u8; MOST_STMTS],
     m: usize,
 ) -> u32
-    requires { ⌜ checking.Called (now f) s (now classes) (now calls) × (m < s .counts .models) ⌝ }
+    requires { ⌜ checking.Called (now f) s (now classes) (now callees) × (m < s .counts .models) ⌝ }
     ensures { λ r. ⌜ r ≡ forbiddenOf (fileIn (now (f .entry)) s) m ⌝ }
 {
-    let table = reach(f, s, calls);
-    if any_reason(f, s, classes, calls, &table, m, MODEL_CYCLE) {
+    let table = reach(f, s, callees);
+    if any_reason(f, s, classes, callees, &table, m, MODEL_CYCLE) {
         return MODEL_CYCLE;
     }
-    if any_reason(f, s, classes, calls, &table, m, SELF_LISTED_UNKNOWN) {
+    if any_reason(f, s, classes, callees, &table, m, SELF_LISTED_UNKNOWN) {
         return SELF_LISTED_UNKNOWN;
     }
-    if any_reason(f, s, classes, calls, &table, m, ARGUMENT_BEYOND) {
+    if any_reason(f, s, classes, callees, &table, m, ARGUMENT_BEYOND) {
         return ARGUMENT_BEYOND;
     }
     0
 }
 
 // Refusal 9, or the sizes.
-fn size(f: &[u8], s: Sections, calls: &[u8; MOST_STMTS], rows: &mut [u16], m: usize) -> Measured
-    requires { ⌜ Linked (now f) s (now calls)
+fn size(f: &[u8], s: Sections, callees: &[u8; MOST_STMTS], rows: &mut [u16], m: usize) -> Measured
+    requires { ⌜ Linked (now f) s (now callees)
         × (m < s .counts .models)
         × RowsAt (now f) s (now rows) (s .counts .models) ⌝ }
     ensures { λ r. ⌜ (measuredAs r ≡ sizeOf (fileIn (now (f .entry)) s) m)
         × RowsAt (now (f .entry)) s (now (rows .exit)) (s .counts .models) ⌝ }
 {
     let k = s.counts.models;
-    let i = instances(f, s, calls, k, m, MOST_INSTANCES + 1);
+    let i = instances(f, s, callees, k, m, MOST_INSTANCES + 1);
     if MOST_INSTANCES < i {
         return Measured::Refused(OVER_MOST);
     }
-    let q = flat_stmts(f, s, calls, k, m, MOST_STMTS + 1);
+    let q = flat_stmts(f, s, callees, k, m, MOST_STMTS + 1);
     if MOST_STMTS < q {
         return Measured::Refused(OVER_MOST);
     }
-    let n = flat_nodes(f, s, calls, rows, k, m, 0, MOST_NODES + 1);
+    let n = flat_nodes(f, s, callees, rows, k, m, 0, MOST_NODES + 1);
     if MOST_NODES < n {
         return Measured::Refused(OVER_MOST);
     }
@@ -79,19 +79,19 @@ pub fn measure(
     f: &[u8],
     s: Sections,
     classes: &[u8; MOST_NAMES],
-    calls: &[u8; MOST_STMTS],
+    callees: &[u8; MOST_STMTS],
     rows: &mut [u16],
     m: usize,
 ) -> Measured
-    requires { ⌜ checking.Called (now f) s (now classes) (now calls)
+    requires { ⌜ checking.Called (now f) s (now classes) (now callees)
         × (m < s .counts .models)
         × RowsAt (now f) s (now rows) (s .counts .models) ⌝ }
     ensures { λ r. ⌜ (measuredAs r ≡ measureOf (fileIn (now (f .entry)) s) m)
         × RowsAt (now (f .entry)) s (now (rows .exit)) (s .counts .models) ⌝ }
 {
-    let number = forbidden(f, s, classes, calls, m);
+    let number = forbidden(f, s, classes, callees, m);
     if number != 0 {
         return Measured::Refused(number);
     }
-    size(f, s, calls, rows, m)
+    size(f, s, callees, rows, m)
 }

@@ -49,25 +49,25 @@ pub fn blank() -> [u8; MOST_BYTES]
 fn lay_nodes(
     f: &[u8],
     s: Sections,
-    calls: &[u8; MOST_STMTS],
+    callees: &[u8; MOST_STMTS],
     rows: &mut [u16],
     m: usize,
-    own: &mut [u8],
+    area: &mut [u8],
 )
-    requires { ⌜ Laying (now f) s (now calls) (now rows) m × (length (now own) ≡ mostBytes) ⌝ }
-    ensures { λ _. ⌜ (now (own .exit) ≡ put (now (own .entry)) nodesAt
+    requires { ⌜ Laying (now f) s (now callees) (now rows) m × (length (now area) ≡ mostBytes) ⌝ }
+    ensures { λ _. ⌜ (now (area .exit) ≡ put (now (area .entry)) nodesAt
         (encode (each flatNodes (flatsOf (fileIn (now (f .entry)) s) m))))
         × RowsAt (now (f .entry)) s (now (rows .exit)) (s .counts .models) ⌝ }
 {
     write_nodes(
         f,
         s,
-        calls,
+        callees,
         rows,
         s.counts.models,
         m,
         0,
-        &mut own[HEADER_BYTES..],
+        &mut area[HEADER_BYTES..],
         0,
     );
 }
@@ -76,26 +76,26 @@ fn lay_nodes(
 fn lay_stmts(
     f: &[u8],
     s: Sections,
-    calls: &[u8; MOST_STMTS],
+    callees: &[u8; MOST_STMTS],
     rows: &mut [u16],
     m: usize,
-    own: &mut [u8],
+    area: &mut [u8],
     at: usize,
 )
-    requires { ⌜ Laying (now f) s (now calls) (now rows) m × (at + 4 * stmtLength * mostStmts ≤ length (now own)) ⌝ }
-    ensures { λ _. ⌜ now (own .exit) ≡ put (now (own .entry)) at
+    requires { ⌜ Laying (now f) s (now callees) (now rows) m × (at + 4 * stmtLength * mostStmts ≤ length (now area)) ⌝ }
+    ensures { λ _. ⌜ now (area .exit) ≡ put (now (area .entry)) at
         (encode (unfated 0 (flatsOf (fileIn (now (f .entry)) s) m))) ⌝ }
 {
     let none = Done { stmts: 0, nodes: 0 };
     write_stmts(
         f,
         s,
-        calls,
+        callees,
         rows,
         s.counts.models,
         m,
         0,
-        &mut own[at..],
+        &mut area[at..],
         none,
     );
 }
@@ -104,19 +104,19 @@ fn lay_stmts(
 pub fn lay_flats(
     f: &[u8],
     s: Sections,
-    calls: &[u8; MOST_STMTS],
+    callees: &[u8; MOST_STMTS],
     rows: &mut [u16],
     m: usize,
-    own: &mut [u8],
+    area: &mut [u8],
     n: usize,
 )
-    requires { ⌜ Laying (now f) s (now calls) (now rows) m
+    requires { ⌜ Laying (now f) s (now callees) (now rows) m
         × (n ≡ sumOf flatSize (flatsOf (fileIn (now f) s) m))
-        × (length (now own) ≡ mostBytes) ⌝ }
-    ensures { λ _. ⌜ now (own .exit) ≡ put (put (now (own .entry)) nodesAt
+        × (length (now area) ≡ mostBytes) ⌝ }
+    ensures { λ _. ⌜ now (area .exit) ≡ put (put (now (area .entry)) nodesAt
         (encode (each flatNodes (flatsOf (fileIn (now (f .entry)) s) m)))) (nodesEnd n)
         (encode (unfated 0 (flatsOf (fileIn (now (f .entry)) s) m))) ⌝ }
 {
-    lay_nodes(f, s, calls, rows, m, own);
-    lay_stmts(f, s, calls, rows, m, own, nodes_end(n));
+    lay_nodes(f, s, callees, rows, m, area);
+    lay_stmts(f, s, callees, rows, m, area, nodes_end(n));
 }

@@ -89,7 +89,7 @@ fn write_own(
 pub fn write_nodes(
     f: &[u8],
     s: Sections,
-    calls: &[u8; MOST_STMTS],
+    callees: &[u8; MOST_STMTS],
     rows: &mut [u16],
     k: usize,
     m: usize,
@@ -97,7 +97,7 @@ pub fn write_nodes(
     out: &mut [u8],
     done: usize,
 ) -> usize
-    requires { ⌜ Linked (now f) s (now calls)
+    requires { ⌜ Linked (now f) s (now callees)
         × (m < s .counts .models)
         × RowsAt (now f) s (now rows) (level + k)
         × NodesFit done (sumOf flatSize (flatAt (now f) s (now rows) level k m)) (length (now out)) ⌝ }
@@ -114,7 +114,7 @@ pub fn write_nodes(
     let mut total = done;
     let mut i = 0;
     while i < count {
-        total = write_stmt_nodes(f, s, calls, rows, k - 1, first + i, level, out, total);
+        total = write_stmt_nodes(f, s, callees, rows, k - 1, first + i, level, out, total);
         i += 1;
     }
     total
@@ -124,7 +124,7 @@ pub fn write_nodes(
 fn write_stmt_nodes(
     f: &[u8],
     s: Sections,
-    calls: &[u8; MOST_STMTS],
+    callees: &[u8; MOST_STMTS],
     rows: &mut [u16],
     k: usize,
     q: usize,
@@ -132,7 +132,7 @@ fn write_stmt_nodes(
     out: &mut [u8],
     done: usize,
 ) -> usize
-    requires { ⌜ Linked (now f) s (now calls)
+    requires { ⌜ Linked (now f) s (now callees)
         × (q < s .counts .stmts)
         × RowsAt (now f) s (now rows) (level + k + 1)
         × NodesFit done (sumOf flatSize (broughtAt (now f) s (now rows) level (λ j. flatten (fileIn (now f) s) k j) q))
@@ -147,10 +147,10 @@ fn write_stmt_nodes(
     if stmt(f, s, q, STMT_KIND) != SUBMODEL_KIND {
         return write_own(f, s, rows, level, q, out, done);
     }
-    let c = calls[q] as usize;
+    let c = callees[q] as usize;
     if (c == 0) | (k == 0) {
         return done;
     }
     find_replacements(f, s, c - 1, stmt(f, s, q, STMT_RIGHT), rows, level);
-    write_nodes(f, s, calls, rows, k, c - 1, level + 1, out, done)
+    write_nodes(f, s, callees, rows, k, c - 1, level + 1, out, done)
 }

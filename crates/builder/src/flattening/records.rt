@@ -117,7 +117,7 @@ fn write_record(
 pub fn write_stmts(
     f: &[u8],
     s: Sections,
-    calls: &[u8; MOST_STMTS],
+    callees: &[u8; MOST_STMTS],
     rows: &mut [u16],
     k: usize,
     m: usize,
@@ -125,7 +125,7 @@ pub fn write_stmts(
     out: &mut [u8],
     done: Done,
 ) -> Done
-    requires { ⌜ Linked (now f) s (now calls)
+    requires { ⌜ Linked (now f) s (now callees)
         × (m < s .counts .models)
         × RowsAt (now f) s (now rows) (level + k)
         × RecordsFit (done .stmts) (done .nodes) (length (now out)) (flatAt (now f) s (now rows) level k m) ⌝ }
@@ -141,7 +141,7 @@ pub fn write_stmts(
     let mut total = done;
     let mut i = 0;
     while i < count {
-        total = write_stmt(f, s, calls, rows, k - 1, first + i, level, out, total);
+        total = write_stmt(f, s, callees, rows, k - 1, first + i, level, out, total);
         i += 1;
     }
     total
@@ -151,7 +151,7 @@ pub fn write_stmts(
 fn write_stmt(
     f: &[u8],
     s: Sections,
-    calls: &[u8; MOST_STMTS],
+    callees: &[u8; MOST_STMTS],
     rows: &mut [u16],
     k: usize,
     q: usize,
@@ -159,7 +159,7 @@ fn write_stmt(
     out: &mut [u8],
     done: Done,
 ) -> Done
-    requires { ⌜ Linked (now f) s (now calls)
+    requires { ⌜ Linked (now f) s (now callees)
         × (q < s .counts .stmts)
         × RowsAt (now f) s (now rows) (level + k + 1)
         × RecordsFit (done .stmts) (done .nodes) (length (now out))
@@ -171,10 +171,10 @@ fn write_stmt(
     if stmt(f, s, q, STMT_KIND) != SUBMODEL_KIND {
         return write_record(f, s, rows, level, q, out, done);
     }
-    let c = calls[q] as usize;
+    let c = callees[q] as usize;
     if (c == 0) | (k == 0) {
         return done;
     }
     find_replacements(f, s, c - 1, stmt(f, s, q, STMT_RIGHT), rows, level);
-    write_stmts(f, s, calls, rows, k, c - 1, level + 1, out, done)
+    write_stmts(f, s, callees, rows, k, c - 1, level + 1, out, done)
 }

@@ -61,13 +61,13 @@ fn add_reached(old: &[u8], models: usize, c: usize, new: &mut [u8], a: usize)
 fn add_called(
     f: &[u8],
     s: Sections,
-    calls: &[u8; MOST_STMTS],
+    callees: &[u8; MOST_STMTS],
     old: &[u8],
     q: usize,
     new: &mut [u8],
     a: usize,
 )
-    requires { ⌜ RoundOf (now f) s (now calls) (now old)
+    requires { ⌜ RoundOf (now f) s (now callees) (now old)
         × (length (now new) ≡ modelPairs)
         × (q < s .counts .stmts)
         × (a < s .counts .models) ⌝ }
@@ -75,7 +75,7 @@ fn add_called(
         (flatten.stmtModels (fileIn (now (f .entry)) s) (stmtIn (now (f .entry)) s q))) (now (new .entry))
         (now (new .exit)) ⌝ }
 {
-    let c = calls[q] as usize;
+    let c = callees[q] as usize;
     if c == 0 {
         return;
     }
@@ -83,8 +83,15 @@ fn add_called(
 }
 
 // Row a of the next table: what model a's statements add.
-fn reach_row(f: &[u8], s: Sections, calls: &[u8; MOST_STMTS], old: &[u8], a: usize, new: &mut [u8])
-    requires { ⌜ RoundOf (now f) s (now calls) (now old)
+fn reach_row(
+    f: &[u8],
+    s: Sections,
+    callees: &[u8; MOST_STMTS],
+    old: &[u8],
+    a: usize,
+    new: &mut [u8],
+)
+    requires { ⌜ RoundOf (now f) s (now callees) (now old)
         × (a < s .counts .models)
         × Stepped (fileIn (now f) s) (s .counts .models) (now old) a (now new) ⌝ }
     ensures { λ _. ⌜ Stepped (fileIn (now (f .entry)) s) (s .counts .models) (now (old .entry)) (a + 1)
@@ -94,35 +101,35 @@ fn reach_row(f: &[u8], s: Sections, calls: &[u8; MOST_STMTS], old: &[u8], a: usi
     let count = model(f, s, a, MODEL_STMTS);
     let mut i = 0;
     while i < count {
-        add_called(f, s, calls, old, first + i, new, a);
+        add_called(f, s, callees, old, first + i, new, a);
         i += 1;
     }
 }
 
 // The next table: one step more.
-fn reach_round(f: &[u8], s: Sections, calls: &[u8; MOST_STMTS], old: &[u8]) -> [u8; MODEL_PAIRS]
-    requires { ⌜ RoundOf (now f) s (now calls) (now old) ⌝ }
+fn reach_round(f: &[u8], s: Sections, callees: &[u8; MOST_STMTS], old: &[u8]) -> [u8; MODEL_PAIRS]
+    requires { ⌜ RoundOf (now f) s (now callees) (now old) ⌝ }
     ensures { λ r. ⌜ Stepped (fileIn (now (f .entry)) s) (s .counts .models) (now (old .entry))
         (s .counts .models) r ⌝ }
 {
     let mut new = [0u8; MODEL_PAIRS];
     let mut a = 0;
     while a < s.counts.models {
-        reach_row(f, s, calls, old, a, &mut new);
+        reach_row(f, s, callees, old, a, &mut new);
         a += 1;
     }
     new
 }
 
 // Whether model b is reached from model a, at 32 a + b.
-pub fn reach(f: &[u8], s: Sections, calls: &[u8; MOST_STMTS]) -> [u8; MODEL_PAIRS]
-    requires { ⌜ Open (now f) s × Callees (now f) s (now calls) ⌝ }
+pub fn reach(f: &[u8], s: Sections, callees: &[u8; MOST_STMTS]) -> [u8; MODEL_PAIRS]
+    requires { ⌜ Open (now f) s × Callees (now f) s (now callees) ⌝ }
     ensures { λ r. ⌜ ReachedIn (now (f .entry)) s r ⌝ }
 {
     let mut table = [0u8; MODEL_PAIRS];
     let mut k = 0;
     while k < s.counts.models {
-        let next = reach_round(f, s, calls, &table);
+        let next = reach_round(f, s, callees, &table);
         table = next;
         k += 1;
     }
@@ -187,11 +194,11 @@ fn beyond(f: &[u8], s: Sections, call: usize, n: usize) -> bool
 }
 
 // Whether statement q calls a model with a positional argument whose number is not below the model's count of unknowns.
-fn too_many(f: &[u8], s: Sections, calls: &[u8; MOST_STMTS], q: usize) -> bool
-    requires { ⌜ Open (now f) s × Callees (now f) s (now calls) × (q < s .counts .stmts) ⌝ }
+fn too_many(f: &[u8], s: Sections, callees: &[u8; MOST_STMTS], q: usize) -> bool
+    requires { ⌜ Open (now f) s × Callees (now f) s (now callees) × (q < s .counts .stmts) ⌝ }
     ensures { λ r. ⌜ r ≡ flatten.stmtBeyond (fileIn (now (f .entry)) s) (stmtIn (now (f .entry)) s q) ⌝ }
 {
-    let c = calls[q] as usize;
+    let c = callees[q] as usize;
     if c == 0 {
         return false;
     }
@@ -204,8 +211,8 @@ fn too_many(f: &[u8], s: Sections, calls: &[u8; MOST_STMTS], q: usize) -> bool
 }
 
 // Whether a statement of model m does.
-fn model_too_many(f: &[u8], s: Sections, calls: &[u8; MOST_STMTS], m: usize) -> bool
-    requires { ⌜ Open (now f) s × Callees (now f) s (now calls) × (m < s .counts .models) ⌝ }
+fn model_too_many(f: &[u8], s: Sections, callees: &[u8; MOST_STMTS], m: usize) -> bool
+    requires { ⌜ Open (now f) s × Callees (now f) s (now callees) × (m < s .counts .models) ⌝ }
     ensures { λ r. ⌜ r ≡ any (flatten.stmtBeyond (fileIn (now (f .entry)) s))
         (flatten.modelAt (fileIn (now (f .entry)) s) m .stmts) ⌝ }
 {
@@ -213,7 +220,7 @@ fn model_too_many(f: &[u8], s: Sections, calls: &[u8; MOST_STMTS], m: usize) -> 
     let count = model(f, s, m, MODEL_STMTS);
     let mut i = 0;
     while i < count {
-        if too_many(f, s, calls, first + i) {
+        if too_many(f, s, callees, first + i) {
             return true;
         }
         i += 1;
@@ -227,12 +234,12 @@ fn is_reason(
     f: &[u8],
     s: Sections,
     classes: &[u8; MOST_NAMES],
-    calls: &[u8; MOST_STMTS],
+    callees: &[u8; MOST_STMTS],
     table: &[u8; MODEL_PAIRS],
     m: usize,
     refusal: u32,
 ) -> bool
-    requires { ⌜ Called (now f) s (now classes) (now calls)
+    requires { ⌜ Called (now f) s (now classes) (now callees)
         × ReachedIn (now f) s (now table)
         × (m < s .counts .models) ⌝ }
     ensures { λ r. ⌜ r ≡ isReason (fileIn (now (f .entry)) s) refusal m ⌝ }
@@ -243,7 +250,7 @@ fn is_reason(
     if refusal == SELF_LISTED_UNKNOWN {
         return model_lists_itself(f, s, classes, m);
     }
-    model_too_many(f, s, calls, m)
+    model_too_many(f, s, callees, m)
 }
 
 // Whether a model, the root or reached from it, is a reason for a refusal.
@@ -251,12 +258,12 @@ pub fn any_reason(
     f: &[u8],
     s: Sections,
     classes: &[u8; MOST_NAMES],
-    calls: &[u8; MOST_STMTS],
+    callees: &[u8; MOST_STMTS],
     table: &[u8; MODEL_PAIRS],
     root: usize,
     refusal: u32,
 ) -> bool
-    requires { ⌜ Called (now f) s (now classes) (now calls)
+    requires { ⌜ Called (now f) s (now classes) (now callees)
         × ReachedIn (now f) s (now table)
         × (root < s .counts .models) ⌝ }
     ensures { λ r. ⌜ r ≡ anyReason (fileIn (now (f .entry)) s) root refusal ⌝ }
@@ -264,7 +271,7 @@ pub fn any_reason(
     let mut m = s.counts.models;
     while 0 < m {
         if is_reached(f, s, table, root, m - 1)
-            & is_reason(f, s, classes, calls, table, m - 1, refusal)
+            & is_reason(f, s, classes, callees, table, m - 1, refusal)
         {
             return true;
         }

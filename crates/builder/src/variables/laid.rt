@@ -21,13 +21,13 @@ pub fn lay_vars(
     s: Sections,
     classes: &[u8; MOST_NAMES],
     m: usize,
-    own: &mut [u8],
+    area: &mut [u8],
     n: usize,
     q: usize,
     numbers: &mut [u16],
 ) -> Sizes
-    requires { ⌜ Bounded (now f) s (now classes) m × VarsRoom n q (now own) × Blank mostNames (now numbers) ⌝ }
-    ensures { λ r. ⌜ VarsLaid (fileIn (now (f .entry)) s) m n q (now (own .entry)) r (now (own .exit))
+    requires { ⌜ Bounded (now f) s (now classes) m × VarsRoom n q (now area) × Blank mostNames (now numbers) ⌝ }
+    ensures { λ r. ⌜ VarsLaid (fileIn (now (f .entry)) s) m n q (now (area .entry)) r (now (area .exit))
         × (Numbers (rosterIn (now (f .entry)) s m) (now (numbers .exit))
         × (length (now (numbers .exit)) ≡ mostNames)) ⌝ }
 {
@@ -37,20 +37,20 @@ pub fn lay_vars(
         vars: MOST_VARS,
         deps: 0,
     };
-    let vars = roster_of(f, s, classes, m, own, room, numbers);
+    let vars = roster_of(f, s, classes, m, area, room, numbers);
     let named = Sizes {
         nodes: n,
         stmts: q,
         vars: vars,
         deps: 0,
     };
-    let deps = write_vars(f, s, classes, m, own, named, numbers);
+    let deps = write_vars(f, s, classes, m, area, named, numbers);
     let z = Sizes {
         nodes: n,
         stmts: q,
         vars: vars,
         deps: deps,
     };
-    reach_time(own, z);
+    reach_time(area, z);
     z
 }

@@ -131,7 +131,7 @@ fn write_var(
     s: Sections,
     classes: &[u8; MOST_NAMES],
     m: usize,
-    own: &mut [u8],
+    area: &mut [u8],
     z: Sizes,
     numbers: &[u16],
     v: usize,
@@ -139,18 +139,18 @@ fn write_var(
 ) -> usize
     requires { ⌜ Bounded (now f) s (now classes) m
         × Numbered (now f) s m (now numbers)
-        × VarNext (fileIn (now f) s) m z (now own) v done ⌝ }
+        × VarNext (fileIn (now f) s) m z (now area) v done ⌝ }
     ensures { λ r. ⌜ (r ≡ done + length (at (scopeAt (fileIn (now (f .entry)) s) m .vars) v .deps))
-        × (now (own .exit) ≡ put (put (now (own .entry)) (depsAt z + 4 * done)
+        × (now (area .exit) ≡ put (put (now (area .entry)) (depsAt z + 4 * done)
         (bytesOf (at (scopeAt (fileIn (now (f .entry)) s) m .vars) v .deps))) (varsAt z + 4 * variableLength * v)
         (bytesOf (unheldWords isTime v done (at (scopeAt (fileIn (now (f .entry)) s) m .vars) v)))) ⌝ }
 {
-    let name = var_of(own, z, v, VAR_NAME);
+    let name = var_of(area, z, v, VAR_NAME);
     let from = deps_at(z);
-    let end = set_dependents(f, s, numbers, m, name as usize, &mut own[from..], done);
-    let lead = lead_of(own, z, v, name, done, end);
+    let end = set_dependents(f, s, numbers, m, name as usize, &mut area[from..], done);
+    let lead = lead_of(area, z, v, name, done, end);
     let place = vars_at(z) + VAR_BYTES * v;
-    put_variable(f, s, classes, m, own, place, v, lead);
+    put_variable(f, s, classes, m, area, place, v, lead);
     end
 }
 
@@ -160,22 +160,22 @@ pub fn write_vars(
     s: Sections,
     classes: &[u8; MOST_NAMES],
     m: usize,
-    own: &mut [u8],
+    area: &mut [u8],
     z: Sizes,
     numbers: &[u16],
 ) -> usize
     requires { ⌜ Bounded (now f) s (now classes) m
         × Numbered (now f) s m (now numbers)
-        × VarsNamed (fileIn (now f) s) m z (now own) ⌝ }
+        × VarsNamed (fileIn (now f) s) m z (now area) ⌝ }
     ensures { λ r. ⌜ (r ≡ length (each (λ x. x .deps) (scopeAt (fileIn (now (f .entry)) s) m .vars)))
-        × (now (own .exit) ≡ put (put (now (own .entry)) (depsAt z)
+        × (now (area .exit) ≡ put (put (now (area .entry)) (depsAt z)
         (bytesOf (each (λ x. x .deps) (scopeAt (fileIn (now (f .entry)) s) m .vars)))) (varsAt z)
         (encode (untimedRecords (scopeAt (fileIn (now (f .entry)) s) m .vars)))) ⌝ }
 {
     let mut done = 0;
     let mut v = 0;
     while v < z.vars {
-        done = write_var(f, s, classes, m, own, z, numbers, v, done);
+        done = write_var(f, s, classes, m, area, z, numbers, v, done);
         v += 1;
     }
     done

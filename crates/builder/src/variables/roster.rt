@@ -33,34 +33,34 @@ use ast::words::read_word;
 
 // Lists t alone: its record has its name's number plus 1 (0 where no name is t), and `numbers`, without entries before, a variable's number plus 1 by a
 // name's number.
-fn time_alone(time: usize, own: &mut [u8], z: Sizes, numbers: &mut [u16])
-    requires { ⌜ (time ≤ mostNames) × RosterRoom z (now own) × Blank mostNames (now numbers) ⌝ }
-    ensures { λ _. ⌜ Listing (time ∷ []) (rostered 1 (namesIn (now (own .exit)) z) (now (numbers .exit)))
-        × VarsAre z (now (own .entry)) (areaVars (now (own .exit)) z) (now (own .exit)) ⌝ }
+fn time_alone(time: usize, area: &mut [u8], z: Sizes, numbers: &mut [u16])
+    requires { ⌜ (time ≤ mostNames) × RosterRoom z (now area) × Blank mostNames (now numbers) ⌝ }
+    ensures { λ _. ⌜ Listing (time ∷ []) (rostered 1 (namesIn (now (area .exit)) z) (now (numbers .exit)))
+        × VarsAre z (now (area .entry)) (areaVars (now (area .exit)) z) (now (area .exit)) ⌝ }
 {
-    put_var(own, z, 0, VAR_NAME, time as u32);
+    put_var(area, z, 0, VAR_NAME, time as u32);
     if 0 < time {
         numbers[time - 1] = 1;
     }
 }
 
 // Lists a name behind `count` variables unless it is there, and gives their new count.
-fn declare(own: &mut [u8], z: Sizes, numbers: &mut [u16], count: usize, name: usize) -> usize
-    requires { ⌜ RosterRoom z (now own)
-        × Listing (listed (rostered count (namesIn (now own) z) (now numbers)))
-        (rostered count (namesIn (now own) z) (now numbers))
+fn declare(area: &mut [u8], z: Sizes, numbers: &mut [u16], count: usize, name: usize) -> usize
+    requires { ⌜ RosterRoom z (now area)
+        × Listing (listed (rostered count (namesIn (now area) z) (now numbers)))
+        (rostered count (namesIn (now area) z) (now numbers))
         × (count < mostVariables)
         × (name < mostNames) ⌝ }
     ensures { λ r. ⌜ Listing
-        (declareOne (listed (rostered count (namesIn (now (own .entry)) z) (now (numbers .entry)))) name)
-        (rostered r (namesIn (now (own .exit)) z) (now (numbers .exit)))
+        (declareOne (listed (rostered count (namesIn (now (area .entry)) z) (now (numbers .entry)))) name)
+        (rostered r (namesIn (now (area .exit)) z) (now (numbers .exit)))
         × (r ≤ count + 1)
-        × VarsAre z (now (own .entry)) (areaVars (now (own .exit)) z) (now (own .exit)) ⌝ }
+        × VarsAre z (now (area .entry)) (areaVars (now (area .exit)) z) (now (area .exit)) ⌝ }
 {
     if numbers[name] != 0 {
         return count;
     }
-    put_var(own, z, count, VAR_NAME, (name + 1) as u32);
+    put_var(area, z, count, VAR_NAME, (name + 1) as u32);
     numbers[name] = (count + 1) as u16;
     count + 1
 }
@@ -71,24 +71,24 @@ pub fn roster_of(
     s: Sections,
     classes: &[u8; MOST_NAMES],
     m: usize,
-    own: &mut [u8],
+    area: &mut [u8],
     z: Sizes,
     numbers: &mut [u16],
 ) -> usize
-    requires { ⌜ ClassedModel (now f) s (now classes) m × RosterRoom z (now own) × Blank mostNames (now numbers) ⌝ }
+    requires { ⌜ ClassedModel (now f) s (now classes) m × RosterRoom z (now area) × Blank mostNames (now numbers) ⌝ }
     ensures { λ r. ⌜ Listing (rosterIn (now (f .entry)) s m)
-        (rostered r (namesIn (now (own .exit)) z) (now (numbers .exit)))
-        × VarsAre z (now (own .entry)) (areaVars (now (own .exit)) z) (now (own .exit)) ⌝ }
+        (rostered r (namesIn (now (area .exit)) z) (now (numbers .exit)))
+        × VarsAre z (now (area .entry)) (areaVars (now (area .exit)) z) (now (area .exit)) ⌝ }
 {
     let first = model(f, s, m, MODEL_FIRST_UNKNOWN);
     let count = model(f, s, m, MODEL_UNKNOWNS);
-    time_alone(time_name(f, s, classes), own, z, numbers);
+    time_alone(time_name(f, s, classes), area, z, numbers);
     let mut vars = 1;
     let mut i = 0;
     while i < count {
         let name = unknown(f, s, first + i, UNKNOWN_NAME);
         if !is_reserved(classes[name]) {
-            vars = declare(own, z, numbers, vars, name);
+            vars = declare(area, z, numbers, vars, name);
         }
         i += 1;
     }

@@ -29,7 +29,7 @@ all-errors-requires : tie.Need-all-errors-requires
 all-errors-requires c κs =
     let s = entry c in
     let a = s .args in
-    (errors-needs (a .f .now) (a .s) (a .classes .now) (a .calls .now) (a .numbers .now) (a .root .model) (a .root .instances) (a .root .sizes) (a .root .time) (s .pre .0) (a .own .now) (s .pre .1), c .before .before .no-errors .ensures)
+    (errors-needs (a .f .now) (a .s) (a .classes .now) (a .callees .now) (a .numbers .now) (a .root .model) (a .root .instances) (a .root .sizes) (a .root .time) (s .pre .0) (a .area .now) (s .pre .1), c .before .before .no-errors .ensures)
 
 slice-aggregate-put-errors : tie.Need-slice-aggregate-put-errors
 slice-aggregate-put-errors c = search needs
@@ -39,7 +39,7 @@ put-errors-requires c κs =
     let e = listed c in
     let s = entry (e .before) in
     let a = s .args in
-    let n = copy-needs (a .f .now) (a .s) (a .classes .now) (a .calls .now) (a .numbers .now) (a .root .model) (a .root .instances) (a .root .sizes) (a .root .time) (s .pre .0) (a .left .stmts) (a .left .states) (s .pre .2 .0) (s .pre .2 .1) _ _ (a .own .now) _ (s .pre .1) (e .before .before .before .no-errors .ensures) (e .all-errors .ensures) in
+    let n = copy-needs (a .f .now) (a .s) (a .classes .now) (a .callees .now) (a .numbers .now) (a .root .model) (a .root .instances) (a .root .sizes) (a .root .time) (s .pre .0) (a .left .stmts) (a .left .states) (s .pre .2 .0) (s .pre .2 .1) _ _ (a .area .now) _ (s .pre .1) (e .before .before .before .no-errors .ensures) (e .all-errors .ensures) in
     (n .0, n .1, omega arith)
 
 write-header-requires : tie.Need-write-header-requires
@@ -48,7 +48,7 @@ write-header-requires c κs =
     let e = listed (d .before) in
     let s = entry (e .before) in
     let a = s .args in
-    header-needs (a .f .now) (a .s) (a .classes .now) (a .calls .now) (a .numbers .now) (a .root .model) (a .root .instances) (a .root .sizes) (a .root .time) (s .pre .0) (a .left .stmts) (a .left .states) (s .pre .2 .0) (s .pre .2 .1) _ _ (a .own .now) _ (s .pre .1) (e .before .before .before .no-errors .ensures) (e .all-errors .ensures) _ (d .put-errors .ensures)
+    header-needs (a .f .now) (a .s) (a .classes .now) (a .callees .now) (a .numbers .now) (a .root .model) (a .root .instances) (a .root .sizes) (a .root .time) (s .pre .0) (a .left .stmts) (a .left .states) (s .pre .2 .0) (s .pre .2 .1) _ _ (a .area .now) _ (s .pre .1) (e .before .before .before .no-errors .ensures) (e .all-errors .ensures) _ (d .put-errors .ensures)
 
 errors-at-requires : tie.Need-errors-at-requires
 errors-at-requires c κs = entry (listed (copied (c .before .before .before) .before) .before) .pre .0 .known .sizes .small
@@ -72,7 +72,7 @@ returns c =
     let e = listed (d .before) in
     let s = entry (e .before) in
     let a = s .args in
-    finished (a .f .now) (a .s) (a .classes .now) (a .calls .now) (a .numbers .now) (a .root .model) (a .root .instances) (a .root .sizes) (a .root .time) (s .pre .0) (a .left .stmts) (a .left .states) (s .pre .2 .0) (s .pre .2 .1) _ _ (a .own .now) _ (s .pre .1) (e .before .before .before .no-errors .ensures) (e .all-errors .ensures) _ (d .put-errors .ensures) _ _ (w .write-header .ensures) (omega (arith, c .before .errors-at .ensures, c .errors-length .ensures .0))
+    finished (a .f .now) (a .s) (a .classes .now) (a .callees .now) (a .numbers .now) (a .root .model) (a .root .instances) (a .root .sizes) (a .root .time) (s .pre .0) (a .left .stmts) (a .left .states) (s .pre .2 .0) (s .pre .2 .1) _ _ (a .area .now) _ (s .pre .1) (e .before .before .before .no-errors .ensures) (e .all-errors .ensures) _ (d .put-errors .ensures) _ _ (w .write-header .ensures) (omega (arith, c .before .errors-at .ensures, c .errors-length .ensures .0))
 
 pub finish-spec : {M : Type 1} → statement M
 finish-spec =

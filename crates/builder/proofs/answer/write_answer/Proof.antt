@@ -18,14 +18,14 @@ allocate-stmts-requires : tie.Need-allocate-stmts-requires
 allocate-stmts-requires c κs =
     let s = entry c in
     let a = s .args in
-    allocate-needs (a .f .now) (a .s) (a .classes .now) (a .calls .now) (a .numbers .now) (a .root .model) (a .root .instances) (a .root .sizes) (a .root .time) (s .pre .0) (a .own .now) (s .pre .1)
+    allocate-needs (a .f .now) (a .s) (a .classes .now) (a .callees .now) (a .numbers .now) (a .root .model) (a .root .instances) (a .root .sizes) (a .root .time) (s .pre .0) (a .area .now) (s .pre .1)
 
 write-held-requires : tie.Need-write-held-requires
 write-held-requires c κs =
     let e = fated c in
     let s = entry (e .before) in
     let a = s .args in
-    held-needs (a .f .now) (a .s) (a .classes .now) (a .calls .now) (a .numbers .now) (a .root .model) (a .root .instances) (a .root .sizes) (a .root .time) (s .pre .0) _ (fates-are (a .f .now) (a .s) (a .classes .now) (a .calls .now) (a .numbers .now) (a .root .model) (a .root .instances) (a .root .sizes) (a .root .time) (s .pre .0) (a .own .now) _ (s .pre .1) _ _ (e .allocate-stmts .ensures))
+    held-needs (a .f .now) (a .s) (a .classes .now) (a .callees .now) (a .numbers .now) (a .root .model) (a .root .instances) (a .root .sizes) (a .root .time) (s .pre .0) _ (fates-are (a .f .now) (a .s) (a .classes .now) (a .callees .now) (a .numbers .now) (a .root .model) (a .root .instances) (a .root .sizes) (a .root .time) (s .pre .0) (a .area .now) _ (s .pre .1) _ _ (e .allocate-stmts .ensures))
 
 finish-requires : tie.Need-finish-requires
 finish-requires c κs =
@@ -35,8 +35,8 @@ finish-requires c κs =
     let a = s .args in
     let l = e .allocate-stmts .ensures in (
       s .pre .0,
-      held-is (a .f .now) (a .s) (a .classes .now) (a .calls .now) (a .numbers .now) (a .root .model) (a .root .instances) (a .root .sizes) (a .root .time) (s .pre .0) _ _ (fates-are (a .f .now) (a .s) (a .classes .now) (a .calls .now) (a .numbers .now) (a .root .model) (a .root .instances) (a .root .sizes) (a .root .time) (s .pre .0) (a .own .now) _ (s .pre .1) _ _ l) (h .write-held .ensures),
-      (left-is (a .f .now) (a .s) (a .classes .now) (a .calls .now) (a .numbers .now) (a .root .model) (a .root .instances) (a .root .sizes) (a .root .time) (s .pre .0) (a .own .now) _ (s .pre .1) _ _ l, states-are (a .f .now) (a .s) (a .classes .now) (a .calls .now) (a .numbers .now) (a .root .model) (a .root .instances) (a .root .sizes) (a .root .time) (s .pre .0) (a .own .now) _ (s .pre .1) _ _ l),
+      held-is (a .f .now) (a .s) (a .classes .now) (a .callees .now) (a .numbers .now) (a .root .model) (a .root .instances) (a .root .sizes) (a .root .time) (s .pre .0) _ _ (fates-are (a .f .now) (a .s) (a .classes .now) (a .callees .now) (a .numbers .now) (a .root .model) (a .root .instances) (a .root .sizes) (a .root .time) (s .pre .0) (a .area .now) _ (s .pre .1) _ _ l) (h .write-held .ensures),
+      (left-is (a .f .now) (a .s) (a .classes .now) (a .callees .now) (a .numbers .now) (a .root .model) (a .root .instances) (a .root .sizes) (a .root .time) (s .pre .0) (a .area .now) _ (s .pre .1) _ _ l, states-are (a .f .now) (a .s) (a .classes .now) (a .callees .now) (a .numbers .now) (a .root .model) (a .root .instances) (a .root .sizes) (a .root .time) (s .pre .0) (a .area .now) _ (s .pre .1) _ _ l),
     )
 
 same-length : tie.Need-same-length

@@ -74,7 +74,7 @@ add-submodel-cast-c : (t : ℕ) → add-submodel-lts.Need-cast-c (missing-error-
 add-submodel-cast-c t c =
     let a = c .before .before .before .args in
     let p = c .before .before .before .pre in
-    omega (arith, entry-below (a .f .now) (a .s) (p .1 .0 .opened) (a .calls .now) (p .1 .0 .callees) (a .q) (p .1 .1 .within), p .1 .0 .opened .laid .within .models)
+    omega (arith, entry-below (a .f .now) (a .s) (p .1 .0 .opened) (a .callees .now) (p .1 .0 .callees) (a .q) (p .1 .1 .within), p .1 .0 .opened .laid .within .models)
 
 add-submodel-missing-error-requires : (t : ℕ) → add-submodel-lts.Need-missing-error-requires (missing-error-reads.Asked, missing-error-reads.Learnt, list-reads.Asked, list-reads.Learnt, builder-below t, builder.Post, stmt-reads.Asked, stmt-reads.Learnt, run-of-reads.Asked, run-of-reads.Learnt, order-errors-reads.Asked, order-errors-reads.Learnt) (add-submodel-at t) add-submodel.Post
 add-submodel-missing-error-requires t c κs =
@@ -109,7 +109,7 @@ add-submodel-builder-requires t c κs =
     let a = c .before .before .before .before .before .args in
     let if1 = c .before .if1 in
     let e = submodel-found (p .1 .0) (a .q) (p .1 .1 .within) 3 (sym (p .1 .2)) refl (λ j. errorsOf (fileIn (a .f .now) (a .s)) (a .k) j) (scopeIn (a .f .now) (a .s) 0) (if1 .left) _ refl _ refl in
-    (omega (arith, p .0), (p .1 .0, omega (arith, entry-below (a .f .now) (a .s) (p .1 .0 .opened) (a .calls .now) (p .1 .0 .callees) (a .q) (p .1 .1 .within), if1 .left), p .1 .1 .deep, room-first e (p .1 .3 (scopeIn (a .f .now) (a .s) 0))))
+    (omega (arith, p .0), (p .1 .0, omega (arith, entry-below (a .f .now) (a .s) (p .1 .0 .opened) (a .callees .now) (p .1 .0 .callees) (a .q) (p .1 .1 .within), if1 .left), p .1 .1 .deep, room-first e (p .1 .3 (scopeIn (a .f .now) (a .s) 0))))
 
 add-submodel-stmt-requires : (t : ℕ) → add-submodel-lts.Need-stmt-requires (missing-error-reads.Asked, missing-error-reads.Learnt, list-reads.Asked, list-reads.Learnt, builder-below t, builder.Post, stmt-reads.Asked, stmt-reads.Learnt, run-of-reads.Asked, run-of-reads.Learnt, order-errors-reads.Asked, order-errors-reads.Learnt) (add-submodel-at t) add-submodel.Post
 add-submodel-stmt-requires t c κs =

@@ -156,18 +156,18 @@ stmt-nodes-cast-c : (t : ℕ) → stmt-nodes-lts.Need-cast-c (stmt-reads.Asked, 
 stmt-nodes-cast-c t c =
     let a = c .before .before .before .before .before .args in
     let p = c .before .before .before .before .before .pre in
-    omega (arith, called-within (a .f .now) (a .s) (p .1 .0 .opened) (a .q) (p .1 .1) (a .calls .now) (p .1 .0 .callees) _ refl (sym (c .before .before .stmt .ensures .0) ∙ c .before .if1 .left), p .1 .0 .opened .laid .within .models)
+    omega (arith, called-within (a .f .now) (a .s) (p .1 .0 .opened) (a .q) (p .1 .1) (a .callees .now) (p .1 .0 .callees) _ refl (sym (c .before .before .stmt .ensures .0) ∙ c .before .if1 .left), p .1 .0 .opened .laid .within .models)
 
 stmt-nodes-returns-2 : (t : ℕ) → stmt-nodes-lts.Need-returns-2 (stmt-reads.Asked, stmt-reads.Learnt, own-nodes-reads.Asked, own-nodes-reads.Learnt, find-replacements-reads.Asked, find-replacements-reads.Learnt, flat-nodes-below t, flat-nodes.Post) (stmt-nodes-at t) stmt-nodes.Post
 stmt-nodes-returns-2 t c =
     let a = c .before .before .before .before .before .before .args in
     let p = c .before .before .before .before .before .before .pre in
-    (nothing-counted _ _ (brought-none (a .f .now) (a .s) (p .1 .0 .opened) (a .q) (p .1 .1) (sym (c .before .before .before .stmt .ensures .0) ∙ c .before .before .if1 .left) (levelsOf (contentsIn (a .f .now) (a .s) .nodes) (a .rows .now) (a .level)) (a .calls .now) (p .1 .0 .callees) _ refl (a .k) (either-zero _ _ (c .if2 .taken))), (refl, refl, p .1 .2 .fit))
+    (nothing-counted _ _ (brought-none (a .f .now) (a .s) (p .1 .0 .opened) (a .q) (p .1 .1) (sym (c .before .before .before .stmt .ensures .0) ∙ c .before .before .if1 .left) (levelsOf (contentsIn (a .f .now) (a .s) .nodes) (a .rows .now) (a .level)) (a .callees .now) (p .1 .0 .callees) _ refl (a .k) (either-zero _ _ (c .if2 .taken))), (refl, refl, p .1 .2 .fit))
 
 stmt-nodes-sub-find-replacements : (t : ℕ) → stmt-nodes-lts.Need-sub-find-replacements (stmt-reads.Asked, stmt-reads.Learnt, own-nodes-reads.Asked, own-nodes-reads.Learnt, find-replacements-reads.Asked, find-replacements-reads.Learnt, flat-nodes-below t, flat-nodes.Post) (stmt-nodes-at t) stmt-nodes.Post
 stmt-nodes-sub-find-replacements t c =
     let a = c .before .before .before .before .before .before .args in
-    omega (arith, (neither-zero (getD (a .calls .now) (a .q) 0) (a .k) (c .if2 .left) .0))
+    omega (arith, (neither-zero (getD (a .callees .now) (a .q) 0) (a .k) (c .if2 .left) .0))
 
 stmt-nodes-stmt-requires-2 : (t : ℕ) → stmt-nodes-lts.Need-stmt-requires-2 (stmt-reads.Asked, stmt-reads.Learnt, own-nodes-reads.Asked, own-nodes-reads.Learnt, find-replacements-reads.Asked, find-replacements-reads.Learnt, flat-nodes-below t, flat-nodes.Post) (stmt-nodes-at t) stmt-nodes.Post
 stmt-nodes-stmt-requires-2 t c κs =
@@ -181,14 +181,14 @@ stmt-nodes-find-replacements-requires t c κs =
     let a = start .args in
     let if1 = c .before .before .before .before .if1 in
     let p = start .pre .1 in
-    (calls-model (a .f .now) (a .s) (p .0 .opened) _ _ _ (called-some (a .f .now) (a .s) (p .0 .opened) (a .q) (p .1) (a .calls .now) (p .0 .callees) _ refl (sym (after-stmt .stmt .ensures .0) ∙ if1 .left) (neither-zero (getD (a .calls .now) (a .q) 0) (a .k) (c .before .before .if2 .left) .0) .1) (c .before .stmt2 .ensures .0) (submodel-call (a .f .now) (a .s) (p .0 .opened) (a .q) (p .1) (sym (after-stmt .stmt .ensures .0) ∙ if1 .left)), record { deep = omega (arith, p .2 .deep); long = omega (arith, p .2 .long); fit = p .2 .fit })
+    (calls-model (a .f .now) (a .s) (p .0 .opened) _ _ _ (called-some (a .f .now) (a .s) (p .0 .opened) (a .q) (p .1) (a .callees .now) (p .0 .callees) _ refl (sym (after-stmt .stmt .ensures .0) ∙ if1 .left) (neither-zero (getD (a .callees .now) (a .q) 0) (a .k) (c .before .before .if2 .left) .0) .1) (c .before .stmt2 .ensures .0) (submodel-call (a .f .now) (a .s) (p .0 .opened) (a .q) (p .1) (sym (after-stmt .stmt .ensures .0) ∙ if1 .left)), record { deep = omega (arith, p .2 .deep); long = omega (arith, p .2 .long); fit = p .2 .fit })
 
 stmt-nodes-sub-flat-nodes : (t : ℕ) → stmt-nodes-lts.Need-sub-flat-nodes (stmt-reads.Asked, stmt-reads.Learnt, own-nodes-reads.Asked, own-nodes-reads.Learnt, find-replacements-reads.Asked, find-replacements-reads.Learnt, flat-nodes-below t, flat-nodes.Post) (stmt-nodes-at t) stmt-nodes.Post
 stmt-nodes-sub-flat-nodes t c =
     let else2 = c .before .before .before .before .before .before in
     let start = else2 .before .before .before .before .before .before in
     let a = start .args in
-    omega (arith, (neither-zero (getD (a .calls .now) (a .q) 0) (a .k) (else2 .if2 .left) .0))
+    omega (arith, (neither-zero (getD (a .callees .now) (a .q) 0) (a .k) (else2 .if2 .left) .0))
 
 stmt-nodes-add-flat-nodes : (t : ℕ) → stmt-nodes-lts.Need-add-flat-nodes (stmt-reads.Asked, stmt-reads.Learnt, own-nodes-reads.Asked, own-nodes-reads.Learnt, find-replacements-reads.Asked, find-replacements-reads.Learnt, flat-nodes-below t, flat-nodes.Post) (stmt-nodes-at t) stmt-nodes.Post
 stmt-nodes-add-flat-nodes t c =
@@ -204,7 +204,7 @@ stmt-nodes-flat-nodes-requires t c κs =
     let pre = start .pre in
     let p = pre .1 in
     let g = c .before .before .before .find-replacements .ensures in
-    (omega (arith, pre .0), (p .0, called-some (a .f .now) (a .s) (p .0 .opened) (a .q) (p .1) (a .calls .now) (p .0 .callees) _ refl (sym (else2 .before .before .before .stmt .ensures .0) ∙ else2 .before .before .if1 .left) (neither-zero (getD (a .calls .now) (a .q) 0) (a .k) (else2 .if2 .left) .0) .1, record { deep = omega (arith, p .2 .deep); long = omega (arith, p .2 .long, g .0 .0); fit = g .0 .2 }))
+    (omega (arith, pre .0), (p .0, called-some (a .f .now) (a .s) (p .0 .opened) (a .q) (p .1) (a .callees .now) (p .0 .callees) _ refl (sym (else2 .before .before .before .stmt .ensures .0) ∙ else2 .before .before .if1 .left) (neither-zero (getD (a .callees .now) (a .q) 0) (a .k) (else2 .if2 .left) .0) .1, record { deep = omega (arith, p .2 .deep); long = omega (arith, p .2 .long, g .0 .0); fit = g .0 .2 }))
 
 stmt-nodes-same-length-2 : (t : ℕ) → stmt-nodes-lts.Need-same-length-2 (stmt-reads.Asked, stmt-reads.Learnt, own-nodes-reads.Asked, own-nodes-reads.Learnt, find-replacements-reads.Asked, find-replacements-reads.Learnt, flat-nodes-below t, flat-nodes.Post) (stmt-nodes-at t) stmt-nodes.Post
 stmt-nodes-same-length-2 t c = search needs
@@ -218,7 +218,7 @@ stmt-nodes-returns-3 t c =
     let p = start .pre .1 in
     let g = after-find-replacements .find-replacements .ensures in
     let h = c .before .before .flat-nodes .ensures in
-    (h .0 ∙ ap (λ (x : List Flat). atMost (a .most) (sumOf flatSize x)) (deeper (a .f .now) (a .s) (p .0 .opened) (a .q) (p .1) (sym (after-stmt .stmt .ensures .0) ∙ after-find-replacements .before .before .before .before .before .if1 .left) (levelsOf (contentsIn (a .f .now) (a .s) .nodes) (a .rows .now) (a .level)) (a .calls .now) (p .0 .callees) _ refl (a .rows .now) _ (a .level) (a .k) _ (neither-zero (getD (a .calls .now) (a .q) 0) (a .k) (after-find-replacements .before .before .before .if2 .left) .0) refl (after-find-replacements .before .before .stmt2 .ensures .0) (g .0 .1) (g .1)), (h .1 .0 ∙ g .0 .0, kept-less _ _ (256 * (a .level + 1)) (256 * a .level) (omega arith) (h .1 .1) ∙ g .0 .1, h .1 .2))
+    (h .0 ∙ ap (λ (x : List Flat). atMost (a .most) (sumOf flatSize x)) (deeper (a .f .now) (a .s) (p .0 .opened) (a .q) (p .1) (sym (after-stmt .stmt .ensures .0) ∙ after-find-replacements .before .before .before .before .before .if1 .left) (levelsOf (contentsIn (a .f .now) (a .s) .nodes) (a .rows .now) (a .level)) (a .callees .now) (p .0 .callees) _ refl (a .rows .now) _ (a .level) (a .k) _ (neither-zero (getD (a .callees .now) (a .q) 0) (a .k) (after-find-replacements .before .before .before .if2 .left) .0) refl (after-find-replacements .before .before .stmt2 .ensures .0) (g .0 .1) (g .1)), (h .1 .0 ∙ g .0 .0, kept-less _ _ (256 * (a .level + 1)) (256 * a .level) (omega arith) (h .1 .1) ∙ g .0 .1, h .1 .2))
 
 pub +flat-nodes+stmt-nodes-spec : {M : Type 1} → statement M
 +flat-nodes+stmt-nodes-spec = close μ-flat-nodes μ-stmt-nodes (λ t. flat-nodes-lts.spec (model-reads.Asked, model-reads.Learnt, stmt-nodes-below t, stmt-nodes.Post)

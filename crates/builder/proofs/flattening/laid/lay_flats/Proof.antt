@@ -36,7 +36,7 @@ lay-stmts-requires c κs =
     let p = start .pre in
     let q = after-lay-nodes .lay-nodes .ensures in
     let l = p .0 in
-    (record { linked = l .linked; model = l .model; readable = q .1; few-nodes = l .few-nodes; few-stmts = l .few-stmts }, room-behind (a .own .now) _ (flatsOf (fileIn (a .f .now) (a .s)) (a .m)) (a .n) (q .0) (l .few-nodes) (p .1) (p .2) _ (c .nodes-end .ensures))
+    (record { linked = l .linked; model = l .model; readable = q .1; few-nodes = l .few-nodes; few-stmts = l .few-stmts }, room-behind (a .area .now) _ (flatsOf (fileIn (a .f .now) (a .s)) (a .m)) (a .n) (q .0) (l .few-nodes) (p .1) (p .2) _ (c .nodes-end .ensures))
 
 same-length : tie.Need-same-length
 same-length c = search needs

@@ -16,7 +16,7 @@ write-nodes-requires : tie.Need-write-nodes-requires
 write-nodes-requires c κs =
     let a = c .before .before .before .before .before .args in
     let p = c .before .before .before .before .before .pre in
-    (p .0 .linked, p .0 .model, rows-root (a .f .now) (a .s) (a .rows .now) (a .m) (p .0 .readable), nodes-room (a .f .now) (a .s) (a .rows .now) (a .m) (a .own .now) (p .0 .few-nodes) (p .1))
+    (p .0 .linked, p .0 .model, rows-root (a .f .now) (a .s) (a .rows .now) (a .m) (p .0 .readable), nodes-room (a .f .now) (a .s) (a .rows .now) (a .m) (a .area .now) (p .0 .few-nodes) (p .1))
 
 same-length : tie.Need-same-length
 same-length c = search needs
@@ -31,7 +31,7 @@ returns c =
     let a = start .args in
     let p = start .pre in
     let write-nodes = after-write-nodes .write-nodes in
-    nodes-laid (a .f .now) (a .s) (a .rows .now) (a .m) (a .own .now) _ (write-nodes .last .1 .1 .1 .0) _ (p .1) (p .0 .readable) (write-nodes .ensures)
+    nodes-laid (a .f .now) (a .s) (a .rows .now) (a .m) (a .area .now) _ (write-nodes .last .1 .1 .1 .0) _ (p .1) (p .0 .readable) (write-nodes .ensures)
 
 pub lay-nodes-spec : {M : Type 1} → statement M
 lay-nodes-spec =

@@ -16,7 +16,7 @@ write-stmts-requires : tie.Need-write-stmts-requires
 write-stmts-requires c κs =
     let a = c .before .before .before .before .before .args in
     let p = c .before .before .before .before .before .pre in
-    (p .0 .linked, p .0 .model, rows-root (a .f .now) (a .s) (a .rows .now) (a .m) (p .0 .readable), stmts-room (a .f .now) (a .s) (a .rows .now) (a .m) (a .own .now) (a .at) (p .0 .few-nodes) (p .0 .few-stmts) (p .1))
+    (p .0 .linked, p .0 .model, rows-root (a .f .now) (a .s) (a .rows .now) (a .m) (p .0 .readable), stmts-room (a .f .now) (a .s) (a .rows .now) (a .m) (a .area .now) (a .at) (p .0 .few-nodes) (p .0 .few-stmts) (p .1))
 
 same-length : tie.Need-same-length
 same-length c = search needs
@@ -30,7 +30,7 @@ returns c =
     let start = after-write-stmts .before .before .before .before .before .before in
     let a = start .args in
     let p = start .pre in
-    stmts-laid (a .f .now) (a .s) (a .rows .now) (a .m) (a .own .now) _ (a .at) _ _ (p .1) (after-write-stmts .write-stmts .ensures .0)
+    stmts-laid (a .f .now) (a .s) (a .rows .now) (a .m) (a .area .now) _ (a .at) _ _ (p .1) (after-write-stmts .write-stmts .ensures .0)
 
 pub lay-stmts-spec : {M : Type 1} → statement M
 lay-stmts-spec =

@@ -180,7 +180,7 @@ write-stmt-nodes-cast-c : (t : ℕ) → write-stmt-nodes-lts.Need-cast-c (stmt-r
 write-stmt-nodes-cast-c t c =
     let a = c .before .before .before .before .before .before .args in
     let p = c .before .before .before .before .before .before .pre in
-    omega (arith, called-within (a .f .now) (a .s) (p .1 .0 .opened) (a .q) (p .1 .1) (a .calls .now) (p .1 .0 .callees) _ refl (sym (c .before .before .stmt .ensures .0) ∙ c .before .if1 .left), p .1 .0 .opened .laid .within .models)
+    omega (arith, called-within (a .f .now) (a .s) (p .1 .0 .opened) (a .q) (p .1 .1) (a .callees .now) (p .1 .0 .callees) _ refl (sym (c .before .before .stmt .ensures .0) ∙ c .before .if1 .left), p .1 .0 .opened .laid .within .models)
 
 write-stmt-nodes-returns-2 : (t : ℕ) → write-stmt-nodes-lts.Need-returns-2 (stmt-reads.Asked, stmt-reads.Learnt, write-own-reads.Asked, write-own-reads.Learnt, find-replacements-reads.Asked, find-replacements-reads.Learnt, write-nodes-below t, write-nodes.Post) (write-stmt-nodes-at t) write-stmt-nodes.Post
 write-stmt-nodes-returns-2 t c =
@@ -188,7 +188,7 @@ write-stmt-nodes-returns-2 t c =
     let start = after-stmt .before .before .before .before in
     let a = start .args in
     let p = start .pre in
-    let e = nothing-put (a .out .now) (a .done) _ (brought-none (a .f .now) (a .s) (p .1 .0 .opened) (a .q) (p .1 .1) (sym (after-stmt .stmt .ensures .0) ∙ c .before .before .if1 .left) (levelsOf (contentsIn (a .f .now) (a .s) .nodes) (a .rows .now) (a .level)) (a .calls .now) (p .1 .0 .callees) _ refl (a .k) (either-zero (getD (a .calls .now) (a .q) 0) (a .k) (c .if2 .taken))) in
+    let e = nothing-put (a .out .now) (a .done) _ (brought-none (a .f .now) (a .s) (p .1 .0 .opened) (a .q) (p .1 .1) (sym (after-stmt .stmt .ensures .0) ∙ c .before .before .if1 .left) (levelsOf (contentsIn (a .f .now) (a .s) .nodes) (a .rows .now) (a .level)) (a .callees .now) (p .1 .0 .callees) _ refl (a .k) (either-zero (getD (a .callees .now) (a .q) 0) (a .k) (c .if2 .taken))) in
     (e .0, e .1, (refl, refl, p .1 .2 .fit))
 
 write-stmt-nodes-sub-find-replacements : (t : ℕ) → write-stmt-nodes-lts.Need-sub-find-replacements (stmt-reads.Asked, stmt-reads.Learnt, write-own-reads.Asked, write-own-reads.Learnt, find-replacements-reads.Asked, find-replacements-reads.Learnt, write-nodes-below t, write-nodes.Post) (write-stmt-nodes-at t) write-stmt-nodes.Post
@@ -196,7 +196,7 @@ write-stmt-nodes-sub-find-replacements t c =
     let after-stmt = c .before .before .before in
     let start = after-stmt .before .before .before .before in
     let a = start .args in
-    omega (arith, (neither-zero (getD (a .calls .now) (a .q) 0) (a .k) (c .if2 .left) .0))
+    omega (arith, (neither-zero (getD (a .callees .now) (a .q) 0) (a .k) (c .if2 .left) .0))
 
 write-stmt-nodes-stmt-requires-2 : (t : ℕ) → write-stmt-nodes-lts.Need-stmt-requires-2 (stmt-reads.Asked, stmt-reads.Learnt, write-own-reads.Asked, write-own-reads.Learnt, find-replacements-reads.Asked, find-replacements-reads.Learnt, write-nodes-below t, write-nodes.Post) (write-stmt-nodes-at t) write-stmt-nodes.Post
 write-stmt-nodes-stmt-requires-2 t c κs =
@@ -213,7 +213,7 @@ write-stmt-nodes-find-replacements-requires t c κs =
     let a = start .args in
     let if1 = c .before .before .before .before .if1 in
     let p = start .pre .1 in
-    (calls-model (a .f .now) (a .s) (p .0 .opened) _ _ _ (called-some (a .f .now) (a .s) (p .0 .opened) (a .q) (p .1) (a .calls .now) (p .0 .callees) _ refl (sym (after-stmt .stmt .ensures .0) ∙ if1 .left) (neither-zero (getD (a .calls .now) (a .q) 0) (a .k) (c .before .before .if2 .left) .0) .1) (c .before .stmt2 .ensures .0) (submodel-call (a .f .now) (a .s) (p .0 .opened) (a .q) (p .1) (sym (after-stmt .stmt .ensures .0) ∙ if1 .left)), record { deep = omega (arith, p .2 .deep); long = omega (arith, p .2 .long); fit = p .2 .fit })
+    (calls-model (a .f .now) (a .s) (p .0 .opened) _ _ _ (called-some (a .f .now) (a .s) (p .0 .opened) (a .q) (p .1) (a .callees .now) (p .0 .callees) _ refl (sym (after-stmt .stmt .ensures .0) ∙ if1 .left) (neither-zero (getD (a .callees .now) (a .q) 0) (a .k) (c .before .before .if2 .left) .0) .1) (c .before .stmt2 .ensures .0) (submodel-call (a .f .now) (a .s) (p .0 .opened) (a .q) (p .1) (sym (after-stmt .stmt .ensures .0) ∙ if1 .left)), record { deep = omega (arith, p .2 .deep); long = omega (arith, p .2 .long); fit = p .2 .fit })
 
 write-stmt-nodes-sub-write-nodes : (t : ℕ) → write-stmt-nodes-lts.Need-sub-write-nodes (stmt-reads.Asked, stmt-reads.Learnt, write-own-reads.Asked, write-own-reads.Learnt, find-replacements-reads.Asked, find-replacements-reads.Learnt, write-nodes-below t, write-nodes.Post) (write-stmt-nodes-at t) write-stmt-nodes.Post
 write-stmt-nodes-sub-write-nodes t c =
@@ -221,7 +221,7 @@ write-stmt-nodes-sub-write-nodes t c =
     let after-stmt = else2 .before .before .before in
     let start = after-stmt .before .before .before .before in
     let a = start .args in
-    omega (arith, (neither-zero (getD (a .calls .now) (a .q) 0) (a .k) (else2 .if2 .left) .0))
+    omega (arith, (neither-zero (getD (a .callees .now) (a .q) 0) (a .k) (else2 .if2 .left) .0))
 
 write-stmt-nodes-add-write-nodes : (t : ℕ) → write-stmt-nodes-lts.Need-add-write-nodes (stmt-reads.Asked, stmt-reads.Learnt, write-own-reads.Asked, write-own-reads.Learnt, find-replacements-reads.Asked, find-replacements-reads.Learnt, write-nodes-below t, write-nodes.Post) (write-stmt-nodes-at t) write-stmt-nodes.Post
 write-stmt-nodes-add-write-nodes t c =
@@ -241,8 +241,8 @@ write-stmt-nodes-write-nodes-requires t c κs =
     let if2 = after-stmt2 .before .if2 in
     let p = pre .1 in
     let g = c .before .before .before .before .find-replacements .ensures in
-    let z = ap (sumOf flatSize) (deeper (a .f .now) (a .s) (p .0 .opened) (a .q) (p .1) (sym (after-stmt .stmt .ensures .0) ∙ if1 .left) (levelsOf (contentsIn (a .f .now) (a .s) .nodes) (a .rows .now) (a .level)) (a .calls .now) (p .0 .callees) _ refl (a .rows .now) _ (a .level) (a .k) _ (neither-zero (getD (a .calls .now) (a .q) 0) (a .k) (if2 .left) .0) refl (after-stmt2 .stmt2 .ensures .0) (g .0 .1) (g .1)) in
-    (omega (arith, pre .0), (p .0, called-some (a .f .now) (a .s) (p .0 .opened) (a .q) (p .1) (a .calls .now) (p .0 .callees) _ refl (sym (after-stmt .stmt .ensures .0) ∙ if1 .left) (neither-zero (getD (a .calls .now) (a .q) 0) (a .k) (if2 .left) .0) .1, record { deep = omega (arith, p .2 .deep); long = omega (arith, p .2 .long, g .0 .0); fit = g .0 .2 }, record { few = omega (arith, z, p .3 .few); fit = omega (arith, z, p .3 .fit) }))
+    let z = ap (sumOf flatSize) (deeper (a .f .now) (a .s) (p .0 .opened) (a .q) (p .1) (sym (after-stmt .stmt .ensures .0) ∙ if1 .left) (levelsOf (contentsIn (a .f .now) (a .s) .nodes) (a .rows .now) (a .level)) (a .callees .now) (p .0 .callees) _ refl (a .rows .now) _ (a .level) (a .k) _ (neither-zero (getD (a .callees .now) (a .q) 0) (a .k) (if2 .left) .0) refl (after-stmt2 .stmt2 .ensures .0) (g .0 .1) (g .1)) in
+    (omega (arith, pre .0), (p .0, called-some (a .f .now) (a .s) (p .0 .opened) (a .q) (p .1) (a .callees .now) (p .0 .callees) _ refl (sym (after-stmt .stmt .ensures .0) ∙ if1 .left) (neither-zero (getD (a .callees .now) (a .q) 0) (a .k) (if2 .left) .0) .1, record { deep = omega (arith, p .2 .deep); long = omega (arith, p .2 .long, g .0 .0); fit = g .0 .2 }, record { few = omega (arith, z, p .3 .few); fit = omega (arith, z, p .3 .fit) }))
 
 write-stmt-nodes-same-length-3 : (t : ℕ) → write-stmt-nodes-lts.Need-same-length-3 (stmt-reads.Asked, stmt-reads.Learnt, write-own-reads.Asked, write-own-reads.Learnt, find-replacements-reads.Asked, find-replacements-reads.Learnt, write-nodes-below t, write-nodes.Post) (write-stmt-nodes-at t) write-stmt-nodes.Post
 write-stmt-nodes-same-length-3 t c = search needs
@@ -260,7 +260,7 @@ write-stmt-nodes-returns-3 t c =
     let p = start .pre .1 in
     let g = after-find-replacements .find-replacements .ensures in
     let h = after-write-nodes .write-nodes .ensures in
-    let e = deeper (a .f .now) (a .s) (p .0 .opened) (a .q) (p .1) (sym (after-stmt .stmt .ensures .0) ∙ after-find-replacements .before .before .before .before .before .if1 .left) (levelsOf (contentsIn (a .f .now) (a .s) .nodes) (a .rows .now) (a .level)) (a .calls .now) (p .0 .callees) _ refl (a .rows .now) _ (a .level) (a .k) _ (neither-zero (getD (a .calls .now) (a .q) 0) (a .k) (after-find-replacements .before .before .before .if2 .left) .0) refl (after-find-replacements .before .before .stmt2 .ensures .0) (g .0 .1) (g .1) in
+    let e = deeper (a .f .now) (a .s) (p .0 .opened) (a .q) (p .1) (sym (after-stmt .stmt .ensures .0) ∙ after-find-replacements .before .before .before .before .before .if1 .left) (levelsOf (contentsIn (a .f .now) (a .s) .nodes) (a .rows .now) (a .level)) (a .callees .now) (p .0 .callees) _ refl (a .rows .now) _ (a .level) (a .k) _ (neither-zero (getD (a .callees .now) (a .q) 0) (a .k) (after-find-replacements .before .before .before .if2 .left) .0) refl (after-find-replacements .before .before .stmt2 .ensures .0) (g .0 .1) (g .1) in
     (h .0 ∙ ap (λ (x : List Flat). a .done + sumOf flatSize x) e, h .1 ∙ ap (λ (x : List Flat). put (a .out .now) (32 * a .done) (encode (each flatNodes x))) e, (h .2 .0 ∙ g .0 .0, kept-less _ _ (256 * (a .level + 1)) (256 * a .level) (omega arith) (h .2 .1) ∙ g .0 .1, h .2 .2))
 
 pub +write-nodes+write-stmt-nodes-spec : {M : Type 1} → statement M

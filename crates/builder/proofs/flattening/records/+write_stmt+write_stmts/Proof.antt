@@ -83,7 +83,7 @@ write-stmt-cast-c : (t : ℕ) → write-stmt-lts.Need-cast-c (stmt-reads.Asked, 
 write-stmt-cast-c t c =
     let a = c .before .before .before .before .before .before .args in
     let p = c .before .before .before .before .before .before .pre in
-    omega (arith, called-within (a .f .now) (a .s) (p .1 .0 .opened) (a .q) (p .1 .1) (a .calls .now) (p .1 .0 .callees) _ refl (sym (c .before .before .stmt .ensures .0) ∙ c .before .if1 .left), p .1 .0 .opened .laid .within .models)
+    omega (arith, called-within (a .f .now) (a .s) (p .1 .0 .opened) (a .q) (p .1 .1) (a .callees .now) (p .1 .0 .callees) _ refl (sym (c .before .before .stmt .ensures .0) ∙ c .before .if1 .left), p .1 .0 .opened .laid .within .models)
 
 write-stmt-returns-2 : (t : ℕ) → write-stmt-lts.Need-returns-2 (stmt-reads.Asked, stmt-reads.Learnt, write-record-reads.Asked, write-record-reads.Learnt, find-replacements-reads.Asked, find-replacements-reads.Learnt, write-stmts-below t, write-stmts.Post) (write-stmt-at t) write-stmt.Post
 write-stmt-returns-2 t c =
@@ -91,14 +91,14 @@ write-stmt-returns-2 t c =
     let start = after-stmt .before .before .before .before in
     let a = start .args in
     let p = start .pre in
-    (nothing-recorded (a .out .now) (a .done .stmts) (a .done .nodes) _ (brought-none (a .f .now) (a .s) (p .1 .0 .opened) (a .q) (p .1 .1) (sym (after-stmt .stmt .ensures .0) ∙ c .before .before .if1 .left) (levelsOf (contentsIn (a .f .now) (a .s) .nodes) (a .rows .now) (a .level)) (a .calls .now) (p .1 .0 .callees) _ refl (a .k) (either-zero _ _ (c .if2 .taken))), (refl, refl, p .1 .2 .fit))
+    (nothing-recorded (a .out .now) (a .done .stmts) (a .done .nodes) _ (brought-none (a .f .now) (a .s) (p .1 .0 .opened) (a .q) (p .1 .1) (sym (after-stmt .stmt .ensures .0) ∙ c .before .before .if1 .left) (levelsOf (contentsIn (a .f .now) (a .s) .nodes) (a .rows .now) (a .level)) (a .callees .now) (p .1 .0 .callees) _ refl (a .k) (either-zero _ _ (c .if2 .taken))), (refl, refl, p .1 .2 .fit))
 
 write-stmt-sub-find-replacements : (t : ℕ) → write-stmt-lts.Need-sub-find-replacements (stmt-reads.Asked, stmt-reads.Learnt, write-record-reads.Asked, write-record-reads.Learnt, find-replacements-reads.Asked, find-replacements-reads.Learnt, write-stmts-below t, write-stmts.Post) (write-stmt-at t) write-stmt.Post
 write-stmt-sub-find-replacements t c =
     let after-stmt = c .before .before .before in
     let start = after-stmt .before .before .before .before in
     let a = start .args in
-    omega (arith, (neither-zero (getD (a .calls .now) (a .q) 0) (a .k) (c .if2 .left) .0))
+    omega (arith, (neither-zero (getD (a .callees .now) (a .q) 0) (a .k) (c .if2 .left) .0))
 
 write-stmt-stmt-requires-2 : (t : ℕ) → write-stmt-lts.Need-stmt-requires-2 (stmt-reads.Asked, stmt-reads.Learnt, write-record-reads.Asked, write-record-reads.Learnt, find-replacements-reads.Asked, find-replacements-reads.Learnt, write-stmts-below t, write-stmts.Post) (write-stmt-at t) write-stmt.Post
 write-stmt-stmt-requires-2 t c κs =
@@ -114,7 +114,7 @@ write-stmt-find-replacements-requires t c κs =
     let a = start .args in
     let if1 = c .before .before .before .before .if1 in
     let p = start .pre .1 in
-    (calls-model (a .f .now) (a .s) (p .0 .opened) _ _ _ (called-some (a .f .now) (a .s) (p .0 .opened) (a .q) (p .1) (a .calls .now) (p .0 .callees) _ refl (sym (after-stmt .stmt .ensures .0) ∙ if1 .left) (neither-zero (getD (a .calls .now) (a .q) 0) (a .k) (c .before .before .if2 .left) .0) .1) (c .before .stmt2 .ensures .0) (submodel-call (a .f .now) (a .s) (p .0 .opened) (a .q) (p .1) (sym (after-stmt .stmt .ensures .0) ∙ if1 .left)), record { deep = omega (arith, p .2 .deep); long = omega (arith, p .2 .long); fit = p .2 .fit })
+    (calls-model (a .f .now) (a .s) (p .0 .opened) _ _ _ (called-some (a .f .now) (a .s) (p .0 .opened) (a .q) (p .1) (a .callees .now) (p .0 .callees) _ refl (sym (after-stmt .stmt .ensures .0) ∙ if1 .left) (neither-zero (getD (a .callees .now) (a .q) 0) (a .k) (c .before .before .if2 .left) .0) .1) (c .before .stmt2 .ensures .0) (submodel-call (a .f .now) (a .s) (p .0 .opened) (a .q) (p .1) (sym (after-stmt .stmt .ensures .0) ∙ if1 .left)), record { deep = omega (arith, p .2 .deep); long = omega (arith, p .2 .long); fit = p .2 .fit })
 
 write-stmt-sub-write-stmts : (t : ℕ) → write-stmt-lts.Need-sub-write-stmts (stmt-reads.Asked, stmt-reads.Learnt, write-record-reads.Asked, write-record-reads.Learnt, find-replacements-reads.Asked, find-replacements-reads.Learnt, write-stmts-below t, write-stmts.Post) (write-stmt-at t) write-stmt.Post
 write-stmt-sub-write-stmts t c =
@@ -122,7 +122,7 @@ write-stmt-sub-write-stmts t c =
     let after-stmt = else2 .before .before .before in
     let start = after-stmt .before .before .before .before in
     let a = start .args in
-    omega (arith, (neither-zero (getD (a .calls .now) (a .q) 0) (a .k) (else2 .if2 .left) .0))
+    omega (arith, (neither-zero (getD (a .callees .now) (a .q) 0) (a .k) (else2 .if2 .left) .0))
 
 write-stmt-add-write-stmts : (t : ℕ) → write-stmt-lts.Need-add-write-stmts (stmt-reads.Asked, stmt-reads.Learnt, write-record-reads.Asked, write-record-reads.Learnt, find-replacements-reads.Asked, find-replacements-reads.Learnt, write-stmts-below t, write-stmts.Post) (write-stmt-at t) write-stmt.Post
 write-stmt-add-write-stmts t c =
@@ -142,8 +142,8 @@ write-stmt-write-stmts-requires t c κs =
     let if2 = after-stmt2 .before .if2 in
     let p = pre .1 in
     let g = c .before .before .before .before .find-replacements .ensures in
-    let e = deeper (a .f .now) (a .s) (p .0 .opened) (a .q) (p .1) (sym (after-stmt .stmt .ensures .0) ∙ if1 .left) (levelsOf (contentsIn (a .f .now) (a .s) .nodes) (a .rows .now) (a .level)) (a .calls .now) (p .0 .callees) _ refl (a .rows .now) _ (a .level) (a .k) _ (neither-zero (getD (a .calls .now) (a .q) 0) (a .k) (if2 .left) .0) refl (after-stmt2 .stmt2 .ensures .0) (g .0 .1) (g .1) in
-    (omega (arith, pre .0), (p .0, called-some (a .f .now) (a .s) (p .0 .opened) (a .q) (p .1) (a .calls .now) (p .0 .callees) _ refl (sym (after-stmt .stmt .ensures .0) ∙ if1 .left) (neither-zero (getD (a .calls .now) (a .q) 0) (a .k) (if2 .left) .0) .1, record { deep = omega (arith, p .2 .deep); long = omega (arith, p .2 .long, g .0 .0); fit = g .0 .2 }, fits-same _ _ _ _ _ e (p .3)))
+    let e = deeper (a .f .now) (a .s) (p .0 .opened) (a .q) (p .1) (sym (after-stmt .stmt .ensures .0) ∙ if1 .left) (levelsOf (contentsIn (a .f .now) (a .s) .nodes) (a .rows .now) (a .level)) (a .callees .now) (p .0 .callees) _ refl (a .rows .now) _ (a .level) (a .k) _ (neither-zero (getD (a .callees .now) (a .q) 0) (a .k) (if2 .left) .0) refl (after-stmt2 .stmt2 .ensures .0) (g .0 .1) (g .1) in
+    (omega (arith, pre .0), (p .0, called-some (a .f .now) (a .s) (p .0 .opened) (a .q) (p .1) (a .callees .now) (p .0 .callees) _ refl (sym (after-stmt .stmt .ensures .0) ∙ if1 .left) (neither-zero (getD (a .callees .now) (a .q) 0) (a .k) (if2 .left) .0) .1, record { deep = omega (arith, p .2 .deep); long = omega (arith, p .2 .long, g .0 .0); fit = g .0 .2 }, fits-same _ _ _ _ _ e (p .3)))
 
 write-stmt-same-length-3 : (t : ℕ) → write-stmt-lts.Need-same-length-3 (stmt-reads.Asked, stmt-reads.Learnt, write-record-reads.Asked, write-record-reads.Learnt, find-replacements-reads.Asked, find-replacements-reads.Learnt, write-stmts-below t, write-stmts.Post) (write-stmt-at t) write-stmt.Post
 write-stmt-same-length-3 t c = search needs
@@ -161,7 +161,7 @@ write-stmt-returns-3 t c =
     let p = start .pre .1 in
     let g = after-find-replacements .find-replacements .ensures in
     let h = after-write-stmts .write-stmts .ensures in
-    let e = deeper (a .f .now) (a .s) (p .0 .opened) (a .q) (p .1) (sym (after-stmt .stmt .ensures .0) ∙ after-find-replacements .before .before .before .before .before .if1 .left) (levelsOf (contentsIn (a .f .now) (a .s) .nodes) (a .rows .now) (a .level)) (a .calls .now) (p .0 .callees) _ refl (a .rows .now) _ (a .level) (a .k) _ (neither-zero (getD (a .calls .now) (a .q) 0) (a .k) (after-find-replacements .before .before .before .if2 .left) .0) refl (after-find-replacements .before .before .stmt2 .ensures .0) (g .0 .1) (g .1) in
+    let e = deeper (a .f .now) (a .s) (p .0 .opened) (a .q) (p .1) (sym (after-stmt .stmt .ensures .0) ∙ after-find-replacements .before .before .before .before .before .if1 .left) (levelsOf (contentsIn (a .f .now) (a .s) .nodes) (a .rows .now) (a .level)) (a .callees .now) (p .0 .callees) _ refl (a .rows .now) _ (a .level) (a .k) _ (neither-zero (getD (a .callees .now) (a .q) 0) (a .k) (after-find-replacements .before .before .before .if2 .left) .0) refl (after-find-replacements .before .before .stmt2 .ensures .0) (g .0 .1) (g .1) in
     (recorded-same _ _ _ _ _ _ _ _ e (h .0), (h .1 .0 ∙ g .0 .0, kept-less _ _ (256 * (a .level + 1)) (256 * a .level) (omega arith) (h .1 .1) ∙ g .0 .1, h .1 .2))
 
 abbrev write-stmts-Inv-loop : write-stmts-lts.InvT-loop

@@ -16,13 +16,13 @@ cast-c : tie.Need-cast-c
 cast-c c =
     let a = c .before .before .before .before .args in
     let p = c .before .before .before .before .pre in
-    omega (arith, entry-few (a .f .now) (a .s) (p .0 .opened) (a .calls .now) (p .0 .callees) (a .q) (p .2))
+    omega (arith, entry-few (a .f .now) (a .s) (p .0 .opened) (a .callees .now) (p .0 .callees) (a .q) (p .2))
 
 returns : tie.Need-returns
 returns c =
     let a = c .before .before .before .before .before .args in
     let p = c .before .before .before .before .before .pre in
-    called-none (a .f .now) (a .s) (a .calls .now) (p .0 .callees) (a .q) (p .2) (a .old .now) (a .s .counts .models) (a .a) (a .new .now) (c .if1 .taken)
+    called-none (a .f .now) (a .s) (a .callees .now) (p .0 .callees) (a .q) (p .2) (a .old .now) (a .s .counts .models) (a .a) (a .new .now) (c .if1 .taken)
 
 sub-add-reached : tie.Need-sub-add-reached
 sub-add-reached c = search needs
@@ -36,7 +36,7 @@ add-reached-requires c κs =
       old-long = p .0 .old-long;
       new-long = p .1;
       few = p .0 .opened .laid .within .models;
-      called = omega (arith, entry-below (a .f .now) (a .s) (p .0 .opened) (a .calls .now) (p .0 .callees) (a .q) (p .2), called .if1 .left);
+      called = omega (arith, entry-below (a .f .now) (a .s) (p .0 .opened) (a .callees .now) (p .0 .callees) (a .q) (p .2), called .if1 .left);
       row = p .3;
     }
 
@@ -48,7 +48,7 @@ returns-2 c =
     let called = c .before .before .before .before in
     let a = entry called .args in
     let p = entry called .pre in
-    called-one (a .f .now) (a .s) (a .calls .now) (p .0 .callees) (a .q) (p .2) (a .old .now) (a .s .counts .models) (a .a) (a .new .now) _ (called .if1 .left) (c .before .before .add-reached .ensures)
+    called-one (a .f .now) (a .s) (a .callees .now) (p .0 .callees) (a .q) (p .2) (a .old .now) (a .s .counts .models) (a .a) (a .new .now) _ (called .if1 .left) (c .before .before .add-reached .ensures)
 
 pub add-called-spec : {M : Type 1} → statement M
 add-called-spec =

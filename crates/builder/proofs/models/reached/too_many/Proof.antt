@@ -14,7 +14,7 @@ cast-c : tie.Need-cast-c
 cast-c c =
     let a = c .before .before .args in
     let p = c .before .before .pre in
-    omega (arith, entry-few (a .f .now) (a .s) (p .0) (a .calls .now) (p .1) (a .q) (p .2))
+    omega (arith, entry-few (a .f .now) (a .s) (p .0) (a .callees .now) (p .1) (a .q) (p .2))
 
 returns : tie.Need-returns
 returns c =
@@ -32,7 +32,7 @@ model-requires : tie.Need-model-requires
 model-requires c κs =
     let a = c .before .before .before .before .args in
     let p = c .before .before .before .before .pre in
-    (p .0, (omega (arith, entry-below (a .f .now) (a .s) (p .0) (a .calls .now) (p .1) (a .q) (p .2)), omega arith))
+    (p .0, (omega (arith, entry-below (a .f .now) (a .s) (p .0) (a .callees .now) (p .1) (a .q) (p .2)), omega arith))
 
 beyond-requires : tie.Need-beyond-requires
 beyond-requires c κs =
@@ -45,7 +45,7 @@ returns-2 : tie.Need-returns-2
 returns-2 c =
     let a = c .before .before .before .before .before .before .args in
     let p = c .before .before .before .before .before .before .pre in
-    c .beyond .ensures ∙ entry-beyond (a .f .now) (a .s) (p .0) (a .calls .now) (p .1) (a .q) (p .2) (c .before .model .result) (c .before .before .stmt .result) (c .before .before .before .if1 .left) (c .before .model .ensures .0) (c .before .before .stmt .ensures .0)
+    c .beyond .ensures ∙ entry-beyond (a .f .now) (a .s) (p .0) (a .callees .now) (p .1) (a .q) (p .2) (c .before .model .result) (c .before .before .stmt .result) (c .before .before .before .if1 .left) (c .before .model .ensures .0) (c .before .before .stmt .ensures .0)
 
 pub too-many-spec : {M : Type 1} → statement M
 too-many-spec =

@@ -18,7 +18,7 @@ roster-of-requires : tie.Need-roster-of-requires
 roster-of-requires c κs =
     let a = c .before .before .before .before .before .args in
     let p = c .before .before .before .before .before .pre in
-    (record { opened = p .0 .opened; classed = p .0 .classed; model = p .0 .model }, roster-room (a .f .now) (a .s) (p .0 .opened) (a .m) (a .n) (a .q) (a .own .now) (p .1), p .2)
+    (record { opened = p .0 .opened; classed = p .0 .classed; model = p .0 .model }, roster-room (a .f .now) (a .s) (p .0 .opened) (a .m) (a .n) (a .q) (a .area .now) (p .1), p .2)
 
 write-vars-requires : tie.Need-write-vars-requires
 write-vars-requires c κs =
@@ -26,7 +26,7 @@ write-vars-requires c κs =
     let a = entry r .args in
     let p = entry r .pre in
     let (roster, changed) = r .roster-of .ensures in
-    (p .0, record { opened = p .0 .opened; model = p .0 .model; numbered = roster .numbers; long = roster .every }, vars-named (a .f .now) (a .s) (p .0 .opened) (a .m) (a .n) (a .q) (a .own .now) _ _ _ (p .1) roster (changed .long))
+    (p .0, record { opened = p .0 .opened; model = p .0 .model; numbered = roster .numbers; long = roster .every }, vars-named (a .f .now) (a .s) (p .0 .opened) (a .m) (a .n) (a .q) (a .area .now) _ _ _ (p .1) roster (changed .long))
 
 reach-time-requires : tie.Need-reach-time-requires
 unfolding stmtsAt varsAt depsAt
@@ -36,9 +36,9 @@ reach-time-requires c κs =
     let a = entry r .args in
     let p = entry r .pre in
     let (roster, changed) = r .roster-of .ensures in
-    let n = vars-named (a .f .now) (a .s) (p .0 .opened) (a .m) (a .n) (a .q) (a .own .now) _ _ _ (p .1) roster (changed .long) in
+    let n = vars-named (a .f .now) (a .s) (p .0 .opened) (a .m) (a .n) (a .q) (a .area .now) _ _ _ (p .1) roster (changed .long) in
     let (count, bytes) = w .write-vars .ensures in
-    let small = sizes-small (a .f .now) (a .s) (p .0 .opened) (a .m) (a .n) (a .q) (a .own .now) _ _ _ (p .1) roster (changed .long) _ count in
+    let small = sizes-small (a .f .now) (a .s) (p .0 .opened) (a .m) (a .n) (a .q) (a .area .now) _ _ _ (p .1) roster (changed .long) _ count in
     (written-in (a .f .now) (a .s) (p .0 .opened) (a .m) _ _ _ small (n .vars) count (n .long) bytes, t-marked (a .f .now) (a .s) (p .0 .opened) (a .m) _ _ _ small (n .vars) count (n .long) bytes)
 
 same-length : tie.Need-same-length
@@ -55,10 +55,10 @@ returns c =
     let a = entry r .args in
     let p = entry r .pre in
     let (roster, changed) = r .roster-of .ensures in
-    let n = vars-named (a .f .now) (a .s) (p .0 .opened) (a .m) (a .n) (a .q) (a .own .now) _ _ _ (p .1) roster (changed .long) in
+    let n = vars-named (a .f .now) (a .s) (p .0 .opened) (a .m) (a .n) (a .q) (a .area .now) _ _ _ (p .1) roster (changed .long) in
     let (count, bytes) = w .write-vars .ensures in
-    let small = sizes-small (a .f .now) (a .s) (p .0 .opened) (a .m) (a .n) (a .q) (a .own .now) _ _ _ (p .1) roster (changed .long) _ count in
-    (laid (a .f .now) (a .s) (p .0 .opened) (a .m) _ _ _ small (n .vars) count (n .long) bytes _ (λ j. omega (arith, c .slice-known6 .given j)) (c .before .before .reach-time .ensures) (a .n) (a .q) (a .own .now) refl refl (changed .long) (changed .front), (roster .numbers, roster .every))
+    let small = sizes-small (a .f .now) (a .s) (p .0 .opened) (a .m) (a .n) (a .q) (a .area .now) _ _ _ (p .1) roster (changed .long) _ count in
+    (laid (a .f .now) (a .s) (p .0 .opened) (a .m) _ _ _ small (n .vars) count (n .long) bytes _ (λ j. omega (arith, c .slice-known6 .given j)) (c .before .before .reach-time .ensures) (a .n) (a .q) (a .area .now) refl refl (changed .long) (changed .front), (roster .numbers, roster .every))
 
 pub lay-vars-spec : {M : Type 1} → statement M
 lay-vars-spec =

@@ -34,7 +34,7 @@ set-dependents-requires c κs =
     let a = start .args in
     let p = start .pre in
     let name = named .var-of .ensures ∙ p .2 .named in
-    (p .1, next-room (a .f .now) (a .s) (a .m) (a .z) (a .own .now) (a .v) (a .done) (p .2) _ _ name (c .before .deps-at .ensures))
+    (p .1, next-room (a .f .now) (a .s) (a .m) (a .z) (a .area .now) (a .v) (a .done) (p .2) _ _ name (c .before .deps-at .ensures))
 
 lead-of-requires : tie.Need-lead-of-requires
 lead-of-requires c κs =
@@ -45,8 +45,8 @@ lead-of-requires c κs =
     let name = r .before .before .before .var-of .ensures ∙ p .2 .named in
     let at = r .before .before .deps-at .ensures in
     let behind = r .set-dependents .ensures in
-    let b = next-put (a .f .now) (a .s) (a .m) (a .z) (a .own .now) (a .v) (a .done) (p .2) _ _ _ _ name at behind in
-    lead-asked (a .f .now) (a .s) (a .m) (a .z) (a .own .now) (a .v) (a .done) (p .2) _ _ _ _ name at behind _ b
+    let b = next-put (a .f .now) (a .s) (a .m) (a .z) (a .area .now) (a .v) (a .done) (p .2) _ _ _ _ name at behind in
+    lead-asked (a .f .now) (a .s) (a .m) (a .z) (a .area .now) (a .v) (a .done) (p .2) _ _ _ _ name at behind _ b
 
 vars-at-requires : tie.Need-vars-at-requires
 vars-at-requires c κs = search needs
@@ -70,10 +70,10 @@ put-variable-requires c κs =
     let name = r .before .before .before .var-of .ensures ∙ p .2 .named in
     let at = r .before .before .deps-at .ensures in
     let behind = r .set-dependents .ensures in
-    let b = next-put (a .f .now) (a .s) (a .m) (a .z) (a .own .now) (a .v) (a .done) (p .2) _ _ _ _ name at behind in
+    let b = next-put (a .f .now) (a .s) (a .m) (a .z) (a .area .now) (a .v) (a .done) (p .2) _ _ _ _ name at behind in
     let lead = led .lead-of .ensures in
-    let order = next-end (a .f .now) (a .s) (a .m) (a .z) (a .own .now) (a .v) (a .done) (p .2) _ _ _ _ name at behind in
-    (p .0, record-room (a .f .now) (a .s) (a .m) (a .z) (a .own .now) (a .v) (a .done) (p .2) _ _ _ _ name at behind _ b _ (c .before .before .vars-at .ensures), omega (arith, lead .first-of, lead .end-of, order))
+    let order = next-end (a .f .now) (a .s) (a .m) (a .z) (a .area .now) (a .v) (a .done) (p .2) _ _ _ _ name at behind in
+    (p .0, record-room (a .f .now) (a .s) (a .m) (a .z) (a .area .now) (a .v) (a .done) (p .2) _ _ _ _ name at behind _ b _ (c .before .before .vars-at .ensures), omega (arith, lead .first-of, lead .end-of, order))
 
 same-length : tie.Need-same-length
 same-length c = search needs
@@ -89,8 +89,8 @@ returns c =
     let name = r .before .before .before .var-of .ensures ∙ p .2 .named in
     let at = r .before .before .deps-at .ensures in
     let behind = r .set-dependents .ensures in
-    let b = next-put (a .f .now) (a .s) (a .m) (a .z) (a .own .now) (a .v) (a .done) (p .2) _ _ _ _ name at behind in
-    (next-end (a .f .now) (a .s) (a .m) (a .z) (a .own .now) (a .v) (a .done) (p .2) _ _ _ _ name at behind, next-written (a .f .now) (a .s) (a .m) (a .z) (a .own .now) (a .v) (a .done) (p .2) _ _ _ _ name at behind _ b _ _ _ (put .before .before .before .vars-at .ensures) (led .lead-of .ensures) (put .put-variable .ensures))
+    let b = next-put (a .f .now) (a .s) (a .m) (a .z) (a .area .now) (a .v) (a .done) (p .2) _ _ _ _ name at behind in
+    (next-end (a .f .now) (a .s) (a .m) (a .z) (a .area .now) (a .v) (a .done) (p .2) _ _ _ _ name at behind, next-written (a .f .now) (a .s) (a .m) (a .z) (a .area .now) (a .v) (a .done) (p .2) _ _ _ _ name at behind _ b _ _ _ (put .before .before .before .vars-at .ensures) (led .lead-of .ensures) (put .put-variable .ensures))
 
 pub write-var-spec : {M : Type 1} → statement M
 write-var-spec =

@@ -36,7 +36,7 @@ loop-holds : tie.Need-loop-holds Inv-loop μ-loop
 loop-holds c =
     let e = c .before .before .before in
     let p = e .pre in
-    (omega arith, written-none (vars e) (e .args .z) (e .args .own .now) (p .2 .vars) (few e) (p .2 .long))
+    (omega arith, written-none (vars e) (e .args .z) (e .args .area .now) (p .2 .vars) (few e) (p .2 .long))
 
 write-var-requires : tie.Need-write-var-requires Inv-loop μ-loop
 write-var-requires c κs =
@@ -45,17 +45,17 @@ write-var-requires c κs =
     let p = e .pre in
     let more = c .before .if1 .taken in
     let w = loop .inv .1 in
-    let b = e .args .own .now in
+    let b = e .args .area .now in
     let z = e .args .z in (
       p .0,
       p .1,
       record {
         small = p .2 .small;
         vars = p .2 .vars;
-        long = omega (arith, p .2 .long, written-long (vars e) z b (p .2 .vars) (few e) (p .2 .long) (loop .v) (loop .done) (loop .own) w (omega (arith, loop .inv .0, p .2 .vars)));
+        long = omega (arith, p .2 .long, written-long (vars e) z b (p .2 .vars) (few e) (p .2 .long) (loop .v) (loop .done) (loop .area) w (omega (arith, loop .inv .0, p .2 .vars)));
         below = more;
-        named = next-name (vars e) z b (p .2 .vars) (few e) (p .2 .long) (loop .v) (loop .done) (loop .own) w (omega (arith, loop .inv .0, p .2 .vars)) (omega (arith, more, p .2 .vars)) ∙ p .2 .named (loop .v) more;
-        few = next-few (vars e) z b (p .2 .vars) (few e) (p .2 .long) (loop .v) (loop .done) (loop .own) w (omega (arith, loop .inv .0, p .2 .vars)) (omega (arith, more, p .2 .vars));
+        named = next-name (vars e) z b (p .2 .vars) (few e) (p .2 .long) (loop .v) (loop .done) (loop .area) w (omega (arith, loop .inv .0, p .2 .vars)) (omega (arith, more, p .2 .vars)) ∙ p .2 .named (loop .v) more;
+        few = next-few (vars e) z b (p .2 .vars) (few e) (p .2 .long) (loop .v) (loop .done) (loop .area) w (omega (arith, loop .inv .0, p .2 .vars)) (omega (arith, more, p .2 .vars));
       },
     )
 
@@ -72,7 +72,7 @@ loop-again c =
     let p = e .pre in
     let more = c .before .before .before .before .if1 .taken in
     let r = c .before .before .write-var .ensures in
-    let w = written-more (vars e) (e .args .z) (e .args .own .now) (p .2 .vars) (few e) (p .2 .long) (loop .v) (loop .done) (loop .own) (loop .inv .1) (omega (arith, loop .inv .0, p .2 .vars)) (omega (arith, more, p .2 .vars)) _ (r .1) in
+    let w = written-more (vars e) (e .args .z) (e .args .area .now) (p .2 .vars) (few e) (p .2 .long) (loop .v) (loop .done) (loop .area) (loop .inv .1) (omega (arith, loop .inv .0, p .2 .vars)) (omega (arith, more, p .2 .vars)) _ (r .1) in
     (omega (arith, more), record { count = r .0 ∙ w .count; bytes = w .bytes })
 
 same-length : tie.Need-same-length Inv-loop μ-loop
@@ -80,14 +80,14 @@ same-length c =
     let loop = c .before .before .loop in
     let e = entry (c .before .before) in
     let p = e .pre in
-    written-long (vars e) (e .args .z) (e .args .own .now) (p .2 .vars) (few e) (p .2 .long) (loop .v) (loop .done) (loop .own) (loop .inv .1) (omega (arith, loop .inv .0, p .2 .vars))
+    written-long (vars e) (e .args .z) (e .args .area .now) (p .2 .vars) (few e) (p .2 .long) (loop .v) (loop .done) (loop .area) (loop .inv .1) (omega (arith, loop .inv .0, p .2 .vars))
 
 returns : tie.Need-returns Inv-loop μ-loop
 returns c =
     let loop = c .before .before .loop in
     let e = entry (c .before .before) in
     let p = e .pre in
-    written-all (vars e) (e .args .z) (e .args .own .now) (p .2 .vars) (few e) (p .2 .long) (loop .v) (loop .done) (loop .own) (loop .inv .1) (omega (arith, loop .inv .0, p .2 .vars)) (omega (arith, c .if1 .left, p .2 .vars))
+    written-all (vars e) (e .args .z) (e .args .area .now) (p .2 .vars) (few e) (p .2 .long) (loop .v) (loop .done) (loop .area) (loop .inv .1) (omega (arith, loop .inv .0, p .2 .vars)) (omega (arith, c .if1 .left, p .2 .vars))
 
 pub write-vars-spec : {M : Type 1} → statement M
 write-vars-spec =

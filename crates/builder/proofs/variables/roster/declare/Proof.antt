@@ -25,8 +25,8 @@ returns : tie.Need-returns
 returns c =
     let a = entry (c .before) .args in
     let p = entry (c .before) .pre in
-    let r = rostered (a .count) (namesIn (a .own .now) (a .z)) (a .numbers .now) in
-    (declare-old (listed r) r (a .name) (p .1) (p .3) (c .if1 .taken), omega arith, vars-stay (a .z) (a .own .now))
+    let r = rostered (a .count) (namesIn (a .area .now) (a .z)) (a .numbers .now) in
+    (declare-old (listed r) r (a .name) (p .1) (p .3) (c .if1 .taken), omega arith, vars-stay (a .z) (a .area .now))
 
 add-put-var : tie.Need-add-put-var
 add-put-var c = search needs
@@ -64,7 +64,7 @@ returns-2 c =
     let new = w .before .before in
     let a = entry (new .before) .args in
     let p = entry (new .before) .pre in
-    declare-put (a .z) (a .own .now) _ (p .0) (a .count) (a .name) (a .numbers .now) _ (p .1) (p .2) (p .3) (new .if1 .left) (w .put-var .ensures)
+    declare-put (a .z) (a .area .now) _ (p .0) (a .count) (a .name) (a .numbers .now) _ (p .1) (p .2) (p .3) (new .if1 .left) (w .put-var .ensures)
 
 pub declare-spec : {M : Type 1} → statement M
 declare-spec =

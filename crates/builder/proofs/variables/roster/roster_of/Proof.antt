@@ -39,7 +39,7 @@ run c = alone c .before .before .before .before
 
 -- the variables' records, and all else as it was at the entry
 written : (c : tie.At-loop Inv-loop μ-loop)
-    → VarsAre (entry (run (c .before)) .args .z) (entry (run (c .before)) .args .own .now) (areaVars (c .loop .own) (entry (run (c .before)) .args .z)) (c .loop .own)
+    → VarsAre (entry (run (c .before)) .args .z) (entry (run (c .before)) .args .area .now) (areaVars (c .loop .area) (entry (run (c .before)) .args .z)) (c .loop .area)
 written c = vars-then _ _ _ _ _ _ (alone (c .before) .time-alone .ensures .1) (c .loop .inv .3)
 
 model-requires : tie.Need-model-requires Inv-loop μ-loop
@@ -115,7 +115,7 @@ declare-requires c κs =
     let loop = turn .loop in
     let more = known .before .loop-test .taken in
     let unknown = known .unknown in
-    (room-kept (a .z) (a .own .now) (loop .own) (p .1) _ (written turn), loop .inv .2 .0, omega (arith, more, loop .inv .1, run-within (a .f .now) (a .s) (p .0 .opened) (a .m) (p .0 .model) (model .result) (model2 .result) (model .ensures .0) (model2 .ensures .0), p .0 .opened .laid .within .unknowns), omega (arith, run-name (a .f .now) (a .s) (p .0 .opened) (a .m) (p .0 .model) (model .result) (model2 .result) (model .ensures .0) (model2 .ensures .0) (loop .i) (unknown .result) (omega (arith, more)) (unknown .ensures .0) .1, p .0 .opened .laid .within .names))
+    (room-kept (a .z) (a .area .now) (loop .area) (p .1) _ (written turn), loop .inv .2 .0, omega (arith, more, loop .inv .1, run-within (a .f .now) (a .s) (p .0 .opened) (a .m) (p .0 .model) (model .result) (model2 .result) (model .ensures .0) (model2 .ensures .0), p .0 .opened .laid .within .unknowns), omega (arith, run-name (a .f .now) (a .s) (p .0 .opened) (a .m) (p .0 .model) (model .result) (model2 .result) (model .ensures .0) (model2 .ensures .0) (loop .i) (unknown .result) (omega (arith, more)) (unknown .ensures .0) .1, p .0 .opened .laid .within .names))
 
 add-i : tie.Need-add-i Inv-loop μ-loop
 add-i c = omega arith
@@ -138,8 +138,8 @@ loop-again c =
     let below : loop .i < length (unknownsIn (a .f .now) (a .s) (a .m)) = omega (arith, more, run-count (a .f .now) (a .s) (p .0 .opened) (a .m) (p .0 .model) (model .result) (model2 .result) (model .ensures .0) (model2 .ensures .0)) in
     let q = reserved-in (a .f .now) (a .s) (a .classes .now) (p .0 .opened) (p .0 .classed) (unknown .result) (n .1) in
     ⊎-elim
-    (λ w. rw (w .8, w .9, w .10) (omega (arith, more), omega (arith, w .3 .ensures .1, loop .inv .1), roster-next (a .f .now) (a .s) (a .m) (loop .i) (unknown .result) (rostered (loop .vars) (namesIn (loop .own) (a .z)) (loop .numbers)) (loop .inv .2 .1) below (n .0) _ (sym q ∙ sym (c .before .is-reserved .ensures) ∙ not-true _ (w .0 .taken)) (w .3 .ensures .0), vars-then _ _ _ _ _ _ (loop .inv .3) (w .3 .ensures .2)))
-    (λ w. rw (w .1, w .2, w .3) (omega (arith, more), omega (arith, loop .inv .1), roster-pass (a .f .now) (a .s) (a .m) (loop .i) (unknown .result) (rostered (loop .vars) (namesIn (loop .own) (a .z)) (loop .numbers)) (loop .inv .2 .1) below (n .0) (sym q ∙ sym (c .before .is-reserved .ensures) ∙ not-false _ (w .0 .left)) (loop .inv .2 .0), loop .inv .3))
+    (λ w. rw (w .8, w .9, w .10) (omega (arith, more), omega (arith, w .3 .ensures .1, loop .inv .1), roster-next (a .f .now) (a .s) (a .m) (loop .i) (unknown .result) (rostered (loop .vars) (namesIn (loop .area) (a .z)) (loop .numbers)) (loop .inv .2 .1) below (n .0) _ (sym q ∙ sym (c .before .is-reserved .ensures) ∙ not-true _ (w .0 .taken)) (w .3 .ensures .0), vars-then _ _ _ _ _ _ (loop .inv .3) (w .3 .ensures .2)))
+    (λ w. rw (w .1, w .2, w .3) (omega (arith, more), omega (arith, loop .inv .1), roster-pass (a .f .now) (a .s) (a .m) (loop .i) (unknown .result) (rostered (loop .vars) (namesIn (loop .area) (a .z)) (loop .numbers)) (loop .inv .2 .1) below (n .0) (sym q ∙ sym (c .before .is-reserved .ensures) ∙ not-false _ (w .0 .left)) (loop .inv .2 .0), loop .inv .3))
     (c .if1 .came)
 
 same-length : tie.Need-same-length Inv-loop μ-loop
@@ -160,7 +160,7 @@ returns c =
     let p = entry r .pre in
     let model = r .before .model in
     let model2 = r .model2 in
-    (roster-last (a .f .now) (a .s) (a .m) (turn .loop .i) (rostered (turn .loop .vars) (namesIn (turn .loop .own) (a .z)) (turn .loop .numbers)) (turn .loop .inv .2 .0) (turn .loop .inv .2 .1) (omega (arith, run-count (a .f .now) (a .s) (p .0 .opened) (a .m) (p .0 .model) (model .result) (model2 .result) (model .ensures .0) (model2 .ensures .0))), written turn)
+    (roster-last (a .f .now) (a .s) (a .m) (turn .loop .i) (rostered (turn .loop .vars) (namesIn (turn .loop .area) (a .z)) (turn .loop .numbers)) (turn .loop .inv .2 .0) (turn .loop .inv .2 .1) (omega (arith, run-count (a .f .now) (a .s) (p .0 .opened) (a .m) (p .0 .model) (model .result) (model2 .result) (model .ensures .0) (model2 .ensures .0))), written turn)
 
 pub roster-of-spec : {M : Type 1} → statement M
 roster-of-spec =

@@ -38,7 +38,7 @@ returns c =
     let w = put (c .before) in
     let a = entry w .args in
     let p = entry w .pre in
-    time-put (a .z) (a .own .now) _ (p .1) (a .time) (a .numbers .now) (p .2) (p .0) (w .put-var .ensures) (omega arith)
+    time-put (a .z) (a .area .now) _ (p .1) (a .time) (a .numbers .now) (p .2) (p .0) (w .put-var .ensures) (omega arith)
 
 same-length-3 : tie.Need-same-length-3
 same-length-3 c = search needs
@@ -48,7 +48,7 @@ returns-2 c =
     let w = put (c .before) in
     let a = entry w .args in
     let p = entry w .pre in
-    none-put (a .z) (a .own .now) _ (p .1) (a .time) (a .numbers .now) (p .2) (p .0) (w .put-var .ensures) (omega arith)
+    none-put (a .z) (a .area .now) _ (p .1) (a .time) (a .numbers .now) (p .2) (p .0) (w .put-var .ensures) (omega arith)
 
 pub time-alone-spec : {M : Type 1} → statement M
 time-alone-spec =
