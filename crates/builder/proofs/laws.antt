@@ -10,6 +10,7 @@ pub mod Runs
 pub mod Calling
 pub mod Rounds
 pub mod Refusals
+pub mod Reasons
 pub mod Checks
 pub mod Calls
 pub mod Exprs

@@ -3,6 +3,7 @@ pub mod Stored
 pub mod VariableTables
 pub mod Rounds
 pub mod Checking
+pub mod Reasons
 pub mod Descent
 pub mod Overlay
 pub mod Allocating

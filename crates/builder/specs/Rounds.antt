@@ -9,8 +9,8 @@ use Rattle.functions.specs.Lists.{any, flag}
 use Rattle.ast.specs.Tree.{File}
 use Rattle.ast.specs.Opens.{Open}
 use Rattle.ast.specs.declared.sections.Sections.{Sections}
-use Rattle.definitions.specs.Numbers.{mostModels, modelCycle, selfListedUnknown}
-use Rattle.definitions.specs.Flatten.{modelAt, submodels, reached, anyReached, listsItself, stmtBeyond}
+use Rattle.definitions.specs.Numbers.{mostModels}
+use Rattle.definitions.specs.Flatten.{submodels}
 use Rattle.builder.specs.Tables.{Callees}
 
 -- The entries of a table of models reached: one for each two models.
@@ -51,16 +51,3 @@ pub record RowsOf (models c a : ℕ) (old new : List ℕ) : Type 0 where
   pub few : models ≤ mostModels
   pub called : c < models
   pub row : a < models
-
--- ---- refusals 6, 7 and 8
-
-module _ (f : File) where
-  -- Whether model m is a reason for a refusal: 6 where it is reached from itself, 7 where an unknown of it lists itself, else 8, where a statement of it has an argument beyond its model's unknowns.
-  unfoldable pub isReason : ℕ → ℕ → Bool
-  isReason refusal m =
-      cond (eqb refusal modelCycle) (reached f m m)
-      (cond (eqb refusal selfListedUnknown) (any (listsItself f) (modelAt f m .unknowns)) (any (stmtBeyond f) (modelAt f m .stmts)))
-
-  -- Whether a model, the root or reached from it, is one.
-  unfoldable pub anyReason : ℕ → ℕ → Bool
-  anyReason root refusal = anyReached f root (isReason refusal) (length (f .models))

@@ -15,10 +15,8 @@ use Rattle.ast.specs.Nodes.{nameAt, opAt, sizeAt, argsFit, nodesFit, argsBefore
 use Rattle.ast.proofs.Fitting.{last-arg}
 use Rattle.ast.proofs.Trees.{args-more, args-none}
 use Rattle.ast.proofs.Sizes.{count-before}
-use Rattle.definitions.specs.Numbers.{modelCycle, selfListedUnknown, argumentBeyond}
-use Rattle.definitions.specs.Flatten.{argsBeyond, modelNamed, modelAt, submodels, reached, anyReached, cyclic, selfListed, overfull, listsItself, stmtBeyond, subBeyond}
+use Rattle.definitions.specs.Flatten.{argsBeyond, modelNamed, modelAt, submodels, reached, anyReached, listsItself, stmtBeyond, subBeyond}
 use Rattle.builder.specs.Tables.{Classes, calleeOf, Callees, Reaching}
-use Rattle.builder.specs.Rounds.{isReason, anyReason}
 use Rattle.ast.specs.Words.{wordOf}
 use Rattle.ast.specs.Records.{unknownOf, rightTop, stmtOf}
 use Rattle.ast.specs.Opens.{Open, contentsIn, fileIn}
@@ -47,42 +45,6 @@ module _ (f : File) (root : ℕ) (p : ℕ → Bool) where
   unfolding anyReached
   reached-done zero h = refl
   reached-done (suc m) h = absurd (omega arith)
-
--- ---- refusals 6, 7 and 8, by the models that are a reason
-
-module _ (f : File) (refusal m : ℕ) where
-  -- one model, by the refusal's number
-  pub reason-cycle : refusal ≡ modelCycle → isReason f refusal m ≡ reached f m m
-  unfolding isReason
-  reason-cycle e = rw e refl
-
-  pub reason-listed : refusal ≡ selfListedUnknown → isReason f refusal m ≡ any (listsItself f) (modelAt f m .unknowns)
-  unfolding isReason
-  reason-listed e = rw e refl
-
-  pub reason-beyond : (refusal ≡ modelCycle → ⊥) → (refusal ≡ selfListedUnknown → ⊥) → isReason f refusal m ≡ any (stmtBeyond f) (modelAt f m .stmts)
-  unfolding isReason
-  reason-beyond a b = rw (ne-eqb refusal modelCycle a, ne-eqb refusal selfListedUnknown b) refl
-
-module _ (f : File) (root : ℕ) where
-  -- all models
-  pub cyclic-reason : cyclic f root ≡ anyReason f root modelCycle
-  unfolding cyclic anyReason isReason
-  cyclic-reason = refl
-
-  pub self-listed-reason : selfListed f root ≡ anyReason f root selfListedUnknown
-  unfolding selfListed anyReason isReason
-  self-listed-reason = refl
-
-  pub overfull-reason : overfull f root ≡ anyReason f root argumentBeyond
-  unfolding overfull anyReason isReason
-  overfull-reason = refl
-
-module _ (f : List ℕ) (s : Sections) (o : Open f s) (root refusal : ℕ) where
-  -- over all models that the file counts
-  pub reason-counted : anyReason (fileIn f s) root refusal ≡ anyReached (fileIn f s) root (isReason (fileIn f s) refusal) (s .counts .models)
-  unfolding anyReason
-  reason-counted = ap (anyReached (fileIn f s) root (isReason (fileIn f s) refusal)) (long f s o .file-models)
 
 -- ---- what the table of models reached says
 

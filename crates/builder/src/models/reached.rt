@@ -11,7 +11,8 @@ ghost use Rattle.definitions.specs.Numbers.{callKind};
 ghost use Rattle.definitions.specs.Flatten as flatten;
 ghost use Rattle.builder.specs.Tables.{Classes, Callees, ReachedIn};
 ghost use Rattle.builder.specs.Checking.{Called, unknownIn, stmtIn};
-ghost use Rattle.builder.specs.Rounds.{modelPairs, onward, Added, Stepped, RoundOf, RowsOf, isReason, anyReason};
+ghost use Rattle.builder.specs.Rounds.{modelPairs, onward, Added, Stepped, RoundOf, RowsOf};
+ghost use Rattle.builder.specs.Reasons.{recordsFor, recordIsReason, runWord, hasReason, isReason, anyReason};
 use crate::models::scope::names_dep;
 use crate::names::is_reserved;
 use crate::names::is_time;
@@ -157,24 +158,6 @@ fn lists_itself(f: &[u8], s: Sections, classes: &[u8; MOST_NAMES], u: usize) -> 
     (is_time(class) | !is_reserved(class)) & names_dep(f, s, u, name)
 }
 
-// Whether an unknown of model m does.
-fn model_lists_itself(f: &[u8], s: Sections, classes: &[u8; MOST_NAMES], m: usize) -> bool
-    requires { ⌜ Open (now f) s × Classes (fileIn (now f) s .names) (now classes) × (m < s .counts .models) ⌝ }
-    ensures { λ r. ⌜ r ≡ any (flatten.listsItself (fileIn (now (f .entry)) s))
-        (flatten.modelAt (fileIn (now (f .entry)) s) m .unknowns) ⌝ }
-{
-    let first = model(f, s, m, MODEL_FIRST_UNKNOWN);
-    let count = model(f, s, m, MODEL_UNKNOWNS);
-    let mut i = 0;
-    while i < count {
-        if lists_itself(f, s, classes, first + i) {
-            return true;
-        }
-        i += 1;
-    }
-    false
-}
-
 // Whether a positional argument of a call has a number that is not below n.
 fn beyond(f: &[u8], s: Sections, call: usize, n: usize) -> bool
     requires { ⌜ Open (now f) s × (call < s .counts .nodes) × (kindAt (contentsIn (now f) s .nodes) call ≡ callKind) ⌝ }
@@ -210,17 +193,54 @@ fn too_many(f: &[u8], s: Sections, callees: &[u8; MOST_STMTS], q: usize) -> bool
     )
 }
 
-// Whether a statement of model m does.
-fn model_too_many(f: &[u8], s: Sections, callees: &[u8; MOST_STMTS], m: usize) -> bool
-    requires { ⌜ Open (now f) s × Callees (now f) s (now callees) × (m < s .counts .models) ⌝ }
-    ensures { λ r. ⌜ r ≡ any (flatten.stmtBeyond (fileIn (now (f .entry)) s))
-        (flatten.modelAt (fileIn (now (f .entry)) s) m .stmts) ⌝ }
+// Whether a record is a reason for a refusal: for 7 unknown r, where it lists itself, else statement r, where it has an argument beyond its
+// model's unknowns.
+fn record_is_reason(
+    f: &[u8],
+    s: Sections,
+    classes: &[u8; MOST_NAMES],
+    callees: &[u8; MOST_STMTS],
+    r: usize,
+    refusal: u32,
+) -> bool
+    requires { ⌜ Called (now f) s (now classes) (now callees) × (r < recordsFor s refusal) ⌝ }
+    ensures { λ b. ⌜ b ≡ recordIsReason (now (f .entry)) s refusal r ⌝ }
 {
-    let first = model(f, s, m, MODEL_FIRST_STMT);
-    let count = model(f, s, m, MODEL_STMTS);
+    if refusal == SELF_LISTED_UNKNOWN {
+        return lists_itself(f, s, classes, r);
+    }
+    too_many(f, s, callees, r)
+}
+
+// The word of a model's record that has the first of its records to be tried for a refusal; the word behind it has their count.
+fn run_word(refusal: u32) -> usize
+    ensures { λ r. ⌜ r ≡ runWord refusal ⌝ }
+{
+    if refusal == SELF_LISTED_UNKNOWN {
+        MODEL_FIRST_UNKNOWN
+    } else {
+        MODEL_FIRST_STMT
+    }
+}
+
+// Whether a record of model m is a reason for a refusal.
+fn has_reason(
+    f: &[u8],
+    s: Sections,
+    classes: &[u8; MOST_NAMES],
+    callees: &[u8; MOST_STMTS],
+    m: usize,
+    refusal: u32,
+) -> bool
+    requires { ⌜ Called (now f) s (now classes) (now callees) × (m < s .counts .models) ⌝ }
+    ensures { λ r. ⌜ r ≡ hasReason (fileIn (now (f .entry)) s) refusal m 0 ⌝ }
+{
+    let word = run_word(refusal);
+    let first = model(f, s, m, word);
+    let count = model(f, s, m, word + 1);
     let mut i = 0;
     while i < count {
-        if too_many(f, s, callees, first + i) {
+        if record_is_reason(f, s, classes, callees, first + i, refusal) {
             return true;
         }
         i += 1;
@@ -228,8 +248,7 @@ fn model_too_many(f: &[u8], s: Sections, callees: &[u8; MOST_STMTS], m: usize) -
     false
 }
 
-// Whether model m is a reason for a refusal: 6 where it is reached from itself, 7 where an unknown of it lists itself, else 8, where a
-// statement of it has an argument beyond its model's unknowns.
+// Whether model m is a reason for a refusal: for 6 where it is reached from itself, else where a record of it is one.
 fn is_reason(
     f: &[u8],
     s: Sections,
@@ -247,10 +266,7 @@ fn is_reason(
     if refusal == MODEL_CYCLE {
         return table[NEXT_DIAGONAL * m] == 1;
     }
-    if refusal == SELF_LISTED_UNKNOWN {
-        return model_lists_itself(f, s, classes, m);
-    }
-    model_too_many(f, s, callees, m)
+    has_reason(f, s, classes, callees, m, refusal)
 }
 
 // Whether a model, the root or reached from it, is a reason for a refusal.

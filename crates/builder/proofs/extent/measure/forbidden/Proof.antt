@@ -1,6 +1,6 @@
 use mathlib.Core.Path.{sym, _∙_}
 use Rattle.ast.specs.Opens.{fileIn}
-use Rattle.builder.proofs.laws.Refusals.{cyclic-reason, self-listed-reason, overfull-reason}
+use Rattle.builder.proofs.laws.Reasons.{cyclic-reason, self-listed-reason, overfull-reason}
 use Rattle.builder.proofs.laws.Measures.{forbids-cycle, forbids-self-listed, forbids-beyond, forbids-none}
 use borrow.Author.Needs.{needs}
 use Rattle.builder.proofs.extent.measure.forbidden.Statement.{statement}

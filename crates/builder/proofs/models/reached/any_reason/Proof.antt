@@ -3,8 +3,9 @@ use Prim.Native.Nat.{_≤_}
 use native.Mathlib.Omega.{arith}
 use Rattle.ast.specs.Opens.{fileIn}
 use Rattle.definitions.specs.Flatten as flatten
-use Rattle.builder.specs.Rounds.{isReason, anyReason}
-use Rattle.builder.proofs.laws.Refusals.{reached-by, reached-done, reason-counted}
+use Rattle.builder.specs.Reasons.{isReason, anyReason}
+use Rattle.builder.proofs.laws.Reasons.{reason-counted}
+use Rattle.builder.proofs.laws.Refusals.{reached-by, reached-done}
 use Rattle.builder.proofs.models.reached.any_reason.Statement.{statement}
 use Rattle.builder.proofs.models.reached.any_reason.Tie as tie
 
