@@ -9,6 +9,9 @@ ghost use Rattle.definitions.specs.Numbers.{mostListed, errorLength};
 ghost use Rattle.definitions.specs.Variables.{error};
 ghost use Rattle.area.specs.Listing.{spanned, listLength, Lists, foundAs};
 use super::layout::ERROR_BYTES;
+use super::layout::ERROR_FROM_AT;
+use super::layout::ERROR_NAME_AT;
+use super::layout::ERROR_TO_AT;
 use super::layout::ERRORS_BYTES;
 use super::layout::MOST_LISTED;
 use ast::words::put_word;
@@ -32,9 +35,9 @@ fn put_words(out: &mut [u8], at: usize, kind: u32, from: u32, to: u32, name: u32
     ensures { λ _. ⌜ now (out .exit) ≡ put (now (out .entry)) at (bytesOf (kind ∷ from ∷ to ∷ name ∷ [])) ⌝ }
 {
     put_word(out, at, kind);
-    put_word(out, at + 4, from);
-    put_word(out, at + 8, to);
-    put_word(out, at + 12, name);
+    put_word(out, at + ERROR_FROM_AT, from);
+    put_word(out, at + ERROR_TO_AT, to);
+    put_word(out, at + ERROR_NAME_AT, name);
 }
 
 // Lists an error behind `count` of them and gives their new number.

@@ -1,11 +1,11 @@
 // The counts at the front of an answer area's header.
 ghost use mathlib.Core.Path.{_≡_};
 ghost use mathlib.Core.List.{[], _∷_};
-ghost use Prim.Native.Nat.{_^_, _≤_, _<_};
+ghost use Prim.Native.Nat.{_*_, _^_, _≤_, _<_};
 ghost use lib.ListN.{length};
 ghost use Rattle.ast.specs.Words.{bytesOf};
 ghost use Rattle.ast.specs.Bytes.{put};
-ghost use Rattle.area.specs.Sections.{Small};
+ghost use Rattle.area.specs.Sections.{countsLength, Small};
 use super::layout::DEPS_AT;
 use super::layout::ERRORS_AT;
 use super::layout::INSTANCES_AT;
@@ -17,7 +17,7 @@ use ast::words::put_word;
 
 // Writes the counts: nodes, statements, variables, dependents, errors, instances.
 pub fn put_counts(area: &mut [u8], z: Sizes, errors: usize, instances: usize)
-    requires { ⌜ Small z × (24 ≤ length (now area)) × (errors < 2 ^ 32) × (instances < 2 ^ 32) ⌝ }
+    requires { ⌜ Small z × (4 * countsLength ≤ length (now area)) × (errors < 2 ^ 32) × (instances < 2 ^ 32) ⌝ }
     ensures { λ _. ⌜ now (area .exit) ≡ put (now (area .entry)) 0
         (bytesOf (z .nodes ∷ z .stmts ∷ z .vars ∷ z .deps ∷ errors ∷ instances ∷ [])) ⌝ }
 {

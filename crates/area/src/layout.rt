@@ -77,12 +77,18 @@ pub const INSTANCES_AT: usize = 20;
 
 pub const TIME_AT: usize = 24;
 
-// Bytes within a record: the fate and its variable in a statement's, the bounds in a variable's.
+// Bytes within a record: the fate and its variable in a statement's, the bounds in a variable's, the span and the name in an error's.
 pub const FATE_AT: usize = 24;
 
 pub const VARIABLE_AT: usize = 28;
 
 pub const BOUNDS_AT: usize = 32;
+
+pub const ERROR_FROM_AT: usize = 4;
+
+pub const ERROR_TO_AT: usize = 8;
+
+pub const ERROR_NAME_AT: usize = 12;
 
 // The refusal of an area that is shorter than the answer.
 pub const SHORT_AREA: u32 = 1;

@@ -67,6 +67,20 @@ modelLength = 7
 abbrev pub trailerLength : ℕ
 trailerLength = 8
 
+-- ---- the signs of operators
+
+abbrev pub timesSign : ℕ
+timesSign = 42
+
+abbrev pub plusSign : ℕ
+plusSign = 43
+
+abbrev pub minusSign : ℕ
+minusSign = 45
+
+abbrev pub divideSign : ℕ
+divideSign = 47
+
 -- ---- kinds of nodes
 
 abbrev pub nameKind : ℕ

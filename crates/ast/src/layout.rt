@@ -77,6 +77,8 @@ pub const UNKNOWN_LOWER: usize = 4;
 
 pub const UNKNOWN_DOMAIN_NAME: usize = 4;
 
+pub const UNKNOWN_LOWER_HIGH: usize = 5;
+
 pub const UNKNOWN_UPPER: usize = 6;
 
 pub const UNKNOWN_FROM: usize = 8;
@@ -111,8 +113,31 @@ pub const MODEL_FROM: usize = 5;
 
 pub const MODEL_TO: usize = 6;
 
-// The word of the trailer that has the form.
+// The words of the trailer: the counts, that of the text in bytes, and the form.
+pub const TRAILER_TEXT: usize = 0;
+
+pub const TRAILER_NAMES: usize = 1;
+
+pub const TRAILER_NODES: usize = 2;
+
+pub const TRAILER_DEPS: usize = 3;
+
+pub const TRAILER_UNKNOWNS: usize = 4;
+
+pub const TRAILER_STMTS: usize = 5;
+
+pub const TRAILER_MODELS: usize = 6;
+
 pub const TRAILER_FORM: usize = 7;
+
+// The signs of operators.
+pub const TIMES: usize = 42;
+
+pub const PLUS: usize = 43;
+
+pub const MINUS: usize = 45;
+
+pub const DIVIDED: usize = 47;
 
 // The kinds of nodes.
 pub const NAME_KIND: usize = 1;

@@ -8,6 +8,6 @@ pub mod extent;
 pub mod flattening;
 pub mod models;
 pub mod names;
-mod numbers;
+pub mod numbers;
 pub mod root;
 pub mod variables;

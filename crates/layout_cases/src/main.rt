@@ -1,6 +1,9 @@
 // Opens the recorded layout cases, one behind the other on standard input, and prints one line: how many there are, how many
 // were refused by 2, 3 and 4, how many were opened, and how many of these verdicts are not the recorded ones.
 // A case is four words (the file's length, the root name's length, the verdict, bytes used), the file, and the root name.
+use ast::open::BROKEN;
+use ast::open::NO_FORM;
+use ast::open::OVER_MOST;
 use ast::open::Opened;
 use ast::words::read_word;
 use libc::STDIN_FILENO;
@@ -41,9 +44,9 @@ fn verdict(file: &[u8]) -> u32 {
 fn counted(t: Tally, found: u32, recorded: u32) -> Tally {
     Tally {
         cases: plus(t.cases, true),
-        no_form: plus(t.no_form, found == 2),
-        over_most: plus(t.over_most, found == 3),
-        broken: plus(t.broken, found == 4),
+        no_form: plus(t.no_form, found == NO_FORM),
+        over_most: plus(t.over_most, found == OVER_MOST),
+        broken: plus(t.broken, found == BROKEN),
         opened: plus(t.opened, found == 0),
         wrong: plus(t.wrong, found != recorded),
     }

@@ -1,4 +1,11 @@
 // The line that the program prints.
+use area::layout::HELD_FATE;
+use area::layout::INITIAL_FATE;
+use area::layout::LEFT_OVER_FATE;
+use area::layout::REPLACED_FATE;
+use area::layout::SHORT_AREA;
+use ast::open::BROKEN;
+use builder::numbers::NO_ROOT;
 use libc::STDOUT_FILENO;
 
 // How many statements have each fate.
@@ -31,10 +38,10 @@ fn plus(n: u64, test: bool) -> u64 {
 // With one more of this fate.
 pub fn counted(f: Fates, fate: u32) -> Fates {
     Fates {
-        initial: plus(f.initial, fate == 1),
-        held: plus(f.held, fate == 2),
-        replaced: plus(f.replaced, fate == 3),
-        left: plus(f.left, fate == 4),
+        initial: plus(f.initial, fate == INITIAL_FATE),
+        held: plus(f.held, fate == HELD_FATE),
+        replaced: plus(f.replaced, fate == REPLACED_FATE),
+        left: plus(f.left, fate == LEFT_OVER_FATE),
     }
 }
 
@@ -47,13 +54,17 @@ fn say(text: &[u8], n: u64) {
     io::print_decimal(STDOUT_FILENO, n);
 }
 
-// Who can mend what was refused by this number.
+// Who can mend what was refused by this number: an area too short or a root that is not there, a file that is none, or the model.
 fn put_mender(number: u64) {
-    match number {
-        1 | 5 => put(b"the caller"),
-        2 | 3 | 4 => put(b"the maker of the file"),
-        _ => put(b"the model's author"),
+    if (number == SHORT_AREA as u64) | (number == NO_ROOT as u64) {
+        put(b"the caller");
+        return;
     }
+    if number <= BROKEN as u64 {
+        put(b"the maker of the file");
+        return;
+    }
+    put(b"the model's author");
 }
 
 pub fn refused(number: u64) {

@@ -1,7 +1,7 @@
 // The bounds of variables and of time, by the domains that the root's unknowns declare.
 ghost use mathlib.Core.Path.{_≡_};
 ghost use mathlib.Core.List.{[], _∷_};
-ghost use Prim.Native.Nat.{_+_, _≤_, _<_};
+ghost use Prim.Native.Nat.{_+_, _*_, _≤_, _<_};
 ghost use lib.ListN.{length};
 ghost use Rattle.ast.specs.Words.{low, high, bytesOf};
 ghost use Rattle.ast.specs.Bytes.{put};
@@ -9,6 +9,7 @@ ghost use Rattle.ast.specs.Opens.{Open, fileIn};
 ghost use Rattle.definitions.specs.Numbers.{unknownLength};
 ghost use Rattle.definitions.specs.Flatten.{modelAt};
 ghost use Rattle.definitions.specs.Answer.{boundsWords};
+ghost use Rattle.area.specs.Sections.{boundsLength, bitsLength};
 ghost use Rattle.builder.specs.Tables.{Classes};
 ghost use Rattle.builder.specs.Bounding.{boundsFrom, floats, Floating, caseBounds, NamedBelow, unknownBounds, declaredBounds, LastDeclared, timeIn, boundBits, boundsBits, NanDeclared, NansDeclared, Bounded};
 ghost use Rattle.builder.specs.VarRecords.{varBounds};
@@ -130,7 +131,7 @@ fn bound_bits(x: f64, f: &[u8], s: Sections, u: usize, k: usize) -> u64
 
 // Writes the two words of a number's bits.
 fn put_bits(bits: u64, out: &mut [u8], place: usize)
-    requires { ⌜ place + 8 ≤ length (now out) ⌝ }
+    requires { ⌜ place + 4 * bitsLength ≤ length (now out) ⌝ }
     ensures { λ _. ⌜ now (out .exit) ≡ put (now (out .entry)) place (bytesOf (low bits ∷ high bits ∷ [])) ⌝ }
 {
     put_word(out, place, (bits % HIGH) as u32);
@@ -139,7 +140,10 @@ fn put_bits(bits: u64, out: &mut [u8], place: usize)
 
 // Writes the four words of bounds, declared by unknown u - 1, or by none where u is 0.
 pub fn put_bounds(b: Bounds, f: &[u8], s: Sections, u: usize, out: &mut [u8], place: usize)
-    requires { ⌜ Open (now f) s × (u ≤ s .counts .unknowns) × NansDeclared u b × (place + 16 ≤ length (now out)) ⌝ }
+    requires { ⌜ Open (now f) s
+        × (u ≤ s .counts .unknowns)
+        × NansDeclared u b
+        × (place + 4 * boundsLength ≤ length (now out)) ⌝ }
     ensures { λ _. ⌜ now (out .exit) ≡ put (now (out .entry)) place
         (bytesOf (boundsWords (boundsBits (now (f .entry)) s u b))) ⌝ }
 {
@@ -162,7 +166,7 @@ pub fn put_var_bounds(
     out: &mut [u8],
     place: usize,
 )
-    requires { ⌜ Bounded (now f) s (now classes) m × (place + 16 ≤ length (now out)) ⌝ }
+    requires { ⌜ Bounded (now f) s (now classes) m × (place + 4 * boundsLength ≤ length (now out)) ⌝ }
     ensures { λ _. ⌜ now (out .exit) ≡ put (now (out .entry)) place
         (bytesOf (boundsWords (varBounds (fileIn (now (f .entry)) s .names)
         (modelAt (fileIn (now (f .entry)) s) m .unknowns) v name))) ⌝ }
@@ -195,7 +199,7 @@ pub fn put_time_bounds(
     requires { ⌜ Open (now f) s
         × (m < s .counts .models)
         × Floating (timeIn (now f) s m name) time
-        × (place + 16 ≤ length (now out)) ⌝ }
+        × (place + 4 * boundsLength ≤ length (now out)) ⌝ }
     ensures { λ _. ⌜ now (out .exit) ≡ put (now (out .entry)) place
         (bytesOf (boundsWords (timeIn (now (f .entry)) s m name))) ⌝ }
 {

@@ -12,7 +12,7 @@ ghost use Rattle.definitions.specs.Numbers.{mostDeps, variableLength};
 ghost use Rattle.definitions.specs.Variables.{fromZero, lastBounds, at};
 ghost use Rattle.definitions.specs.Flatten.{modelAt};
 ghost use Rattle.definitions.specs.Answer.{boundsWords};
-ghost use Rattle.area.specs.Sections.{Small, varsAt, depsAt};
+ghost use Rattle.area.specs.Sections.{leadLength, Small, varsAt, depsAt};
 ghost use Rattle.builder.specs.VariableTables.{wordsFrom, Numbered};
 ghost use Rattle.builder.specs.Bounding.{Bounded};
 ghost use Rattle.builder.specs.Allocating.{namesIn};
@@ -56,7 +56,7 @@ struct Lead {
 
 // Writes the words of a variable in front of its bounds: it holds nothing yet.
 fn put_lead(area: &mut [u8], at: usize, lead: Lead)
-    requires { ⌜ (at + 32 ≤ length (now area)) × (lead .first ≤ lead .end) ⌝ }
+    requires { ⌜ (at + 4 * leadLength ≤ length (now area)) × (lead .first ≤ lead .end) ⌝ }
     ensures { λ _. ⌜ now (area .exit) ≡ put (now (area .entry)) at
         (bytesOf (leadWords (lead .name) (lead .first) (lead .end) (lead .index) (lead .time))) ⌝ }
 {
