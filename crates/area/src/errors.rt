@@ -1,4 +1,5 @@
-// The list of errors, apart from the area until it is whole: all are counted, the first 256 are listed, four words each: kind, span, name plus 1 or 0.
+// The list of errors, apart from the area until it is whole: all are counted, the first 256 are listed, four words
+// each: kind, span, name plus 1 or 0.
 ghost use mathlib.Core.Path.{_≡_};
 ghost use mathlib.Core.List.{[], _∷_};
 ghost use Prim.Native.Nat.{_+_, _*_, _^_, min, _≤_, _<_};

@@ -1,4 +1,5 @@
-// The numbers of an answer area: its mosts, the lengths of its header and records, the word of each field, and the fates. `Numbers` of definitions has them.
+// The numbers of an answer area: its mosts, the lengths of its header and records, the word of each field, and the
+// fates. `Numbers` of definitions has them.
 pub const MOST_INSTANCES: usize = 1024;
 
 pub const MOST_VARS: usize = 129;
@@ -77,7 +78,8 @@ pub const INSTANCES_AT: usize = 20;
 
 pub const TIME_AT: usize = 24;
 
-// Bytes within a record: the fate and its variable in a statement's, the bounds in a variable's, the span and the name in an error's.
+// Bytes within a record: the fate and its variable in a statement's, the bounds in a variable's, the span and the name
+// in an error's.
 pub const FATE_AT: usize = 24;
 
 pub const VARIABLE_AT: usize = 28;

@@ -1,4 +1,5 @@
-// The sections of an answer area: how many records each has, and the byte at which each begins behind the header and the nodes.
+// The sections of an answer area: how many records each has, and the byte at which each begins behind the header and
+// the nodes.
 ghost use mathlib.Core.Path.{_≡_};
 ghost use Prim.Native.Nat.{_≤_};
 ghost use Rattle.definitions.specs.Numbers.{mostNodes};

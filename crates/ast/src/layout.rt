@@ -1,4 +1,5 @@
-// The numbers of a tree file: its form, its mosts, the lengths of its records, the word of each field, and the kinds. `FileNumbers` has them for the definitions.
+// The numbers of a tree file: its form, its mosts, the lengths of its records, the word of each field, and the kinds.
+// `FileNumbers` has them for the definitions.
 pub const FORM: usize = 1;
 
 // The mosts; that of the text in bytes.

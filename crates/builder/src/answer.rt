@@ -44,8 +44,8 @@ pub struct Extent {
     pub nodes: usize,
 }
 
-// Lists the errors apart, copies them to their section, writes the header, and gives the bytes used. `left` tells the statements left and the states that
-// lack an equation.
+// Lists the errors apart, copies them to their section, writes the header, and gives the bytes used. `left` tells the
+// statements left and the states that lack an equation.
 fn finish(
     f: &[u8],
     s: Sections,

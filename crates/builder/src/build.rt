@@ -60,8 +60,8 @@ fn answer_with(
     }
 }
 
-// The answer of model m, in a file of many models or of few. Two functions, each called where an answer is wanted, so that a build of few models does not
-// have the long table of rows on its stack.
+// The answer of model m, in a file of many models or of few. Two functions, each called where an answer is wanted, so
+// that a build of few models does not have the long table of rows on its stack.
 fn answer(f: &[u8], s: Sections, m: usize, area: &mut [u8]) -> Answered
     requires { ⌜ Open (now f) s × (m < s .counts .models) × (length (now area) ≡ mostBytes) ⌝ }
     ensures { λ a. ⌜ (answeredAs a (now (area .exit)) ≡ bytesIn (answerOfModel (fileIn (now (f .entry)) s) m))

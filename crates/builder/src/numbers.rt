@@ -52,7 +52,8 @@ pub const MODEL_PAIRS: usize = 1024;
 // From the entry of a model and itself to the next model's.
 pub const NEXT_DIAGONAL: usize = 33;
 
-// A row of replacements by name for each model. An entry is the top node, plus 1, of what replaces the name, or 0: at most 1,024, so 16 bits hold it.
+// A row of replacements by name for each model. An entry is the top node, plus 1, of what replaces the name, or 0: at
+// most 1,024, so 16 bits hold it.
 pub const ROWS: usize = 8192;
 
 // The same of so few models that a short table does.

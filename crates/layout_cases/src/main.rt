@@ -1,6 +1,6 @@
-// Opens the recorded layout cases, one behind the other on standard input, and prints one line: how many there are, how many
-// were refused by 2, 3 and 4, how many were opened, and how many of these verdicts are not the recorded ones.
-// A case is four words (the file's length, the root name's length, the verdict, bytes used), the file, and the root name.
+// Opens the recorded layout cases, one behind the other on standard input, and prints one line: how many there are, how
+// many were refused by 2, 3 and 4, how many were opened, and how many of these verdicts are not the recorded ones. A
+// case is four words (the file's length, the root name's length, the verdict, bytes used), the file, and the root name.
 use ast::open::BROKEN;
 use ast::open::NO_FORM;
 use ast::open::OVER_MOST;

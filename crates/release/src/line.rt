@@ -54,7 +54,8 @@ fn say(text: &[u8], n: u64) {
     io::print_decimal(STDOUT_FILENO, n);
 }
 
-// Who can mend what was refused by this number: an area too short or a root that is not there, a file that is none, or the model.
+// Who can mend what was refused by this number: an area too short or a root that is not there, a file that is none, or
+// the model.
 fn put_mender(number: u64) {
     if (number == SHORT_AREA as u64) | (number == NO_ROOT as u64) {
         put(b"the caller");

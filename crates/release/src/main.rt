@@ -1,6 +1,6 @@
-// release TREEFILE ROOT AREAFILE: builds the model named ROOT of a tree file, writes the answer's bytes to a new file and
-// prints one line: the number (0, or the refusal's) and the bytes used, the errors counted, the statements and how many of
-// each fate. Where the build is refused, or something cannot be read or written, no new file is left.
+// release TREEFILE ROOT AREAFILE: builds the model named ROOT of a tree file, writes the answer's bytes to a new file
+// and prints one line: the number (0, or the refusal's) and the bytes used, the errors counted, the statements and how
+// many of each fate. Where the build is refused, or something cannot be read or written, no new file is left.
 mod answer;
 mod files;
 mod line;

@@ -1,9 +1,8 @@
-// Builds the recorded cases, one behind the other on standard input, and prints one line: how many there are, and how many of
-// them are wrong. Right is: with a long area, with one as long as the answer, with one that is a byte short and with an empty
-// one, each filled with a byte other than 0, the build returns the number and the bytes used that are due, the area begins
-// with the stored answer, and every byte behind it is 0.
-// A case is four words (the file's length, the root name's length, the number, the bytes used), the file, the root name, and
-// the used part of the area.
+// Builds the recorded cases, one behind the other on standard input, and prints one line: how many there are, and how
+// many of them are wrong. Right is: with a long area, with one as long as the answer, with one that is a byte short and
+// with an empty one, each filled with a byte other than 0, the build returns the number and the bytes used that are
+// due, the area begins with the stored answer, and every byte behind it is 0. A case is four words (the file's length,
+// the root name's length, the number, the bytes used), the file, the root name, and the used part of the area.
 ghost use mathlib.Core.Path.{_≡_};
 ghost use lib.ListN.{length};
 use ast::words::read_word;

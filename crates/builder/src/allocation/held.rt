@@ -1,4 +1,5 @@
-// What each variable holds, by the fates of the statements: in its record, the first statement that it holds plus 1 or 0, and how many initial conditions it has.
+// What each variable holds, by the fates of the statements: in its record, the first statement that it holds plus 1 or
+// 0, and how many initial conditions it has.
 ghost use mathlib.Core.Path.{_≡_};
 ghost use Prim.Native.Nat.{_+_, _<_};
 ghost use Rattle.ast.specs.Bytes.{put};

@@ -51,8 +51,8 @@ use ast::numbers::record_bits;
 use ast::numbers::same_number;
 use ast::sections::record_word;
 
-// A left side that is a call by a variable's name: nothing of the kind, too short to reach the time index, or with a number there:
-// the variable, and the node of the argument.
+// A left side that is a call by a variable's name: nothing of the kind, too short to reach the time index, or with a
+// number there: the variable, and the node of the argument.
 pub enum Start {
     Nothing,
     Short,
@@ -168,7 +168,8 @@ fn takes_rate(area: &[u8], z: Sizes, v: usize) -> bool
     (var_of(area, z, v, VAR_STATE) == 1) & (var_of(area, z, v, VAR_TIMED) == 1)
 }
 
-// The role of statement i, as a number: 0 for neither, 2 v + 1 for an initial condition of v, 2 v + 2 for a rate equation that goes to v.
+// The role of statement i, as a number: 0 for neither, 2 v + 1 for an initial condition of v, 2 v + 2 for a rate
+// equation that goes to v.
 fn allocate_stmt(area: &[u8], z: Sizes, numbers: &[u16], lower: f64, i: usize) -> u32
     requires { ⌜ ((names : ℕ) × Flattened names (now area) z) × Numbered (now area) z (now numbers) × (i < z .stmts) ⌝ }
     ensures { λ r. ⌜ r ≡ roleBy (now (numbers .entry)) (indexesIn (now (area .entry)) z)

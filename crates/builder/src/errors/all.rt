@@ -1,4 +1,5 @@
-// All errors of an answer, in order: of building the model, of each statement's role, of the counts, of the initial conditions.
+// All errors of an answer, in order: of building the model, of each statement's role, of the counts, of the initial
+// conditions.
 ghost use Prim.Native.Nat.{_<_};
 ghost use lib.ListN.{length};
 ghost use Rattle.ast.specs.Opens.{fileIn};

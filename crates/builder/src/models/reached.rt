@@ -193,8 +193,8 @@ fn too_many(f: &[u8], s: Sections, callees: &[u8; MOST_STMTS], q: usize) -> bool
     )
 }
 
-// Whether a record is a reason for a refusal: for 7 unknown r, where it lists itself, else statement r, where it has an argument beyond its
-// model's unknowns.
+// Whether a record is a reason for a refusal: for 7 unknown r, where it lists itself, else statement r, where it has an
+// argument beyond its model's unknowns.
 fn record_is_reason(
     f: &[u8],
     s: Sections,
@@ -212,7 +212,8 @@ fn record_is_reason(
     too_many(f, s, callees, r)
 }
 
-// The word of a model's record that has the first of its records to be tried for a refusal; the word behind it has their count.
+// The word of a model's record that has the first of its records to be tried for a refusal; the word behind it has
+// their count.
 fn run_word(refusal: u32) -> usize
     ensures { λ r. ⌜ r ≡ runWord refusal ⌝ }
 {

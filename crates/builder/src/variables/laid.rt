@@ -15,7 +15,8 @@ use area::sections::Sizes;
 use ast::layout::MOST_NAMES;
 use ast::sections::Sections;
 
-// Lays the variables of model m into an area of n nodes and q statements, notes their numbers by name in a table without entries, and gives the sizes.
+// Lays the variables of model m into an area of n nodes and q statements, notes their numbers by name in a table
+// without entries, and gives the sizes.
 pub fn lay_vars(
     f: &[u8],
     s: Sections,

@@ -78,7 +78,8 @@ fn take_marks(area: &mut [u8], z: Sizes, next: &[u8]) -> bool
     changed
 }
 
-// Marks, where t alone is marked, each variable from which t is reached through dependents: round by round, until one marks nothing new.
+// Marks, where t alone is marked, each variable from which t is reached through dependents: round by round, until one
+// marks nothing new.
 pub fn reach_time(area: &mut [u8], z: Sizes)
     requires { ⌜ DepsIn z (now area)
         × ((v : ℕ) → v < z .vars → getD (marksIn (now area) z) v 0 ≡ flag (eqb v 0)) ⌝ }

@@ -44,8 +44,8 @@ fn flag_of(b: bool) -> u32
     if b { 1 } else { 0 }
 }
 
-// What a variable's record says in front of its bounds: its name plus 1, its dependents from `first` up to `end`, its time index plus 1 or 0, and
-// whether it is time-dependent.
+// What a variable's record says in front of its bounds: its name plus 1, its dependents from `first` up to `end`, its
+// time index plus 1 or 0, and whether it is time-dependent.
 struct Lead {
     name: u32,
     first: u32,
@@ -108,7 +108,8 @@ fn put_variable(
     );
 }
 
-// What the record of variable v says, whose name (plus 1) is given, and whose dependents stand in the area from `first` up to `end`.
+// What the record of variable v says, whose name (plus 1) is given, and whose dependents stand in the area from `first`
+// up to `end`.
 fn lead_of(area: &[u8], z: Sizes, v: usize, name: u32, first: usize, end: usize) -> Lead
     requires { ⌜ Small z × (first ≤ end) × (end ≤ mostDeps) × (depsAt z + 4 * end ≤ length (now area)) ⌝ }
     ensures { λ r. ⌜ LeadOf r v name first end (wordsFrom (drop (depsAt z) (now (area .entry))) first end) ⌝ }
@@ -124,8 +125,8 @@ fn lead_of(area: &[u8], z: Sizes, v: usize, name: u32, first: usize, end: usize)
     }
 }
 
-// Writes the dependents of variable v, behind `done` ones, and its record, which has its name before and holds nothing yet, and gives the new count of
-// dependents.
+// Writes the dependents of variable v, behind `done` ones, and its record, which has its name before and holds nothing
+// yet, and gives the new count of dependents.
 fn write_var(
     f: &[u8],
     s: Sections,

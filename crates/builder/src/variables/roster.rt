@@ -31,8 +31,8 @@ use ast::sections::Sections;
 use ast::words::put_word;
 use ast::words::read_word;
 
-// Lists t alone: its record has its name's number plus 1 (0 where no name is t), and `numbers`, without entries before, a variable's number plus 1 by a
-// name's number.
+// Lists t alone: its record has its name's number plus 1 (0 where no name is t), and `numbers`, without entries before,
+// a variable's number plus 1 by a name's number.
 fn time_alone(time: usize, area: &mut [u8], z: Sizes, numbers: &mut [u16])
     requires { ⌜ (time ≤ mostNames) × RosterRoom z (now area) × Blank mostNames (now numbers) ⌝ }
     ensures { λ _. ⌜ Listing (time ∷ []) (rostered 1 (namesIn (now (area .exit)) z) (now (numbers .exit)))
@@ -65,7 +65,8 @@ fn declare(area: &mut [u8], z: Sizes, numbers: &mut [u16], count: usize, name: u
     count + 1
 }
 
-// Lists the variables of model m, by name in a table without entries, and gives their count; z has room for as many as there may be.
+// Lists the variables of model m, by name in a table without entries, and gives their count; z has room for as many as
+// there may be.
 pub fn roster_of(
     f: &[u8],
     s: Sections,
