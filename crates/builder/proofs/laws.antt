@@ -19,6 +19,7 @@ pub mod Unknowns
 pub mod OpenStmts
 pub mod Replacing
 pub mod Descents
+pub mod Extents
 pub mod Putting
 pub mod Timing
 pub mod TimeRounds

@@ -5,6 +5,7 @@ pub mod Rounds
 pub mod Checking
 pub mod Reasons
 pub mod Descent
+pub mod Extents
 pub mod Overlay
 pub mod Allocating
 pub mod Unfated

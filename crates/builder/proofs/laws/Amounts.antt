@@ -1,20 +1,19 @@
--- How much a model brings in, statement by statement: its instances and its flattened statements; and the model that a statement calls.
+-- How many instances a model has, statement by statement; and the model that a statement calls.
 use mathlib.Core.Path.{_≡_, refl, sym, ap, _∙_}
 use mathlib.Core.List.{List, [], _∷_}
 use mathlib.Core.Option.{Option, none, some}
 use Prim.Native.Nat.{ℕ, zero, suc, _+_, _-_, _≤_, _<_}
 use native.Mathlib.Omega.{arith}
 use native.Mathlib.Numerals.{add-one, sub-one}
-use lib.ListN.{length, take, getD, length-map}
+use lib.ListN.{length, take, getD}
 use lib.Seq.{take-suc, take-all}
 use Rattle.functions.specs.Lists.{each, sumOf, toList, plusOne}
-use Rattle.ast.specs.Tree.{Span, Args, Flat, Stmt, own, submodel, File}
+use Rattle.ast.specs.Tree.{Stmt, own, submodel, File}
 use Rattle.ast.specs.Records.{firstStmt, stmtCount}
 use Rattle.ast.specs.Rows.{atMost}
 use Rattle.ast.specs.Opens.{Open, fileIn}
 use Rattle.ast.specs.declared.sections.Sections.{Sections}
-use Rattle.ast.proofs.FromBytes.{length-each}
-use Rattle.definitions.specs.Flatten.{modelNamed, modelAt, subFlats, stmtFlats, stmtModels, submodels, flatten, instances}
+use Rattle.definitions.specs.Flatten.{modelNamed, modelAt, stmtModels, submodels, instances}
 use Rattle.builder.specs.Tables.{calleeOf}
 use Rattle.builder.specs.Checking.{stmtIn}
 use Rattle.builder.proofs.laws.Open.{modelRecord}
@@ -91,46 +90,6 @@ module _ (f : File) where
   unfolding instances submodels
   instances-more zero m n = absurd (n refl)
   instances-more (suc k) m n = rw (sub-one (suc k)) (ap (λ (z : ℕ). 1 + z) (sum-each (λ j. instances f k j) (stmtModels f) (modelAt f m .stmts)))
-
-  -- ---- flattened statements, to a depth of k models
-
-  -- how many a statement brings in
-  abbrev pub broughtIn : ℕ → Stmt → ℕ
-  broughtIn k q = length (stmtFlats f (λ j. flatten f k j) q)
-
-  pub brought-own : (k : ℕ) (q : Stmt) (e : Flat) → q ≡ own e → broughtIn k q ≡ 1
-  unfolding stmtFlats
-  brought-own k q e g = ap (broughtIn k) g
-
-  sub-none : (k : ℕ) (a : Args) (o : Option ℕ) (c : ℕ) → c ≡ plusOne o → c ≡ 0 → 0 ≡ length (subFlats f (λ j. flatten f k j) a o)
-  unfolding subFlats plusOne
-  sub-none k a none c e z = refl
-  sub-none k a (some i) c e z = absurd (omega arith)
-
-  sub-one-model : (k : ℕ) (a : Args) (o : Option ℕ) (c : ℕ) → c ≡ plusOne o → (c ≡ 0 → ⊥) → length (subFlats f (λ j. flatten f k j) a o) ≡ length (flatten f k (c - 1))
-  unfolding subFlats plusOne
-  sub-one-model k a none c e n = absurd (n e)
-  sub-one-model k a (some i) c e n = let g : i ≡ c - 1 = omega arith in simp length-map (ap (λ (j : ℕ). length (flatten f k j)) g)
-
-  -- a submodel statement whose model is missing
-  pub brought-none : (k n : ℕ) (a : Args) (y s : Span) (q : Stmt) (c : ℕ) → q ≡ submodel n a y s → c ≡ calleeOf f q → c ≡ 0 → 0 ≡ broughtIn k q
-  unfolding stmtFlats calleeOf
-  brought-none k n a y s q c g e z = rw g (sub-none k a (modelNamed f n) c (rw g at e) z)
-
-  pub brought-called : (k : ℕ) (q : Stmt) (c : ℕ) → c ≡ calleeOf f q → (c ≡ 0 → ⊥) → broughtIn k q ≡ length (flatten f k (c - 1))
-  unfolding stmtFlats calleeOf
-  brought-called k (own q) c e n = absurd (n e)
-  brought-called k (submodel x a t s) c e n = sub-one-model k a (modelNamed f x) c e n
-
-  pub flatten-zero : (k m : ℕ) → k ≡ 0 → 0 ≡ length (flatten f k m)
-  unfolding flatten
-  flatten-zero zero m e = refl
-  flatten-zero (suc k) m e = absurd (omega arith)
-
-  pub flatten-more : (k m : ℕ) → (k ≡ 0 → ⊥) → length (flatten f k m) ≡ sumOf (broughtIn (k - 1)) (modelAt f m .stmts)
-  unfolding flatten
-  flatten-more zero m n = absurd (n refl)
-  flatten-more (suc k) m n = rw (sub-one (suc k)) (length-each (stmtFlats f (λ j. flatten f k j)) (modelAt f m .stmts))
 
 -- ---- sums over the statements of model m of an open file
 

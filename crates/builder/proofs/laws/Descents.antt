@@ -27,10 +27,9 @@ use Rattle.ast.proofs.Filling.{levels-same}
 use Rattle.ast.proofs.Opened.{ranges}
 use Rattle.definitions.specs.Flatten.{replacements, modelNamed, modelAt, subFlats, stmtFlats, flatten}
 use Rattle.builder.specs.Tables.{Callees}
-use Rattle.builder.specs.Descent.{flatAt, broughtAt, RowsIn, RowsAt, RowsKept, ExprAt, ModelCall}
+use Rattle.builder.specs.Descent.{broughtAt, RowsIn, RowsAt, ExprAt, ModelCall}
 use Rattle.builder.proofs.laws.Flattening.{map-each, flats-found}
 use Rattle.builder.proofs.laws.OpenStmts.{nodes-from, nodes-few, names-few, called-none, called-some}
-use Rattle.definitions.proofs.ListLaws.{sum-append}
 use Rattle.builder.proofs.laws.OpenRecords.{passes, model-is}
 use Rattle.builder.proofs.laws.Amounts.{at-most-add}
 use Rattle.definitions.proofs.Counts.{or-false}
@@ -121,6 +120,16 @@ unfolding flatten
 flat-zero file levels zero m e = refl
 flat-zero file levels (suc k) m e = absurd (omega arith)
 
+-- what statement i of a model of an open file brings in is read with the rows as they stand then
+pub rest-next : (f : List ℕ) (s : Sections) → Open f s → (rows₀ rows : List ℕ) (level k m i first : ℕ) → m < s .counts .models
+    → take (256 * level) rows ≡ take (256 * level) rows₀ → i < stmtCount (getD (contentsIn f s .models) m []) → first ≡ firstStmt (getD (contentsIn f s .models) m [])
+    → rest (fileIn f s) (levelsOf (contentsIn f s .nodes) rows₀ level) k m i
+    ≡ broughtAt f s rows level (λ j. flatten (fileIn f s) k j) (first + i) ++ rest (fileIn f s) (levelsOf (contentsIn f s .nodes) rows₀ level) k m (i + 1)
+rest-next f s o rows₀ rows level k m i first l kept b ef =
+    let d = stmtOf [] [] in
+    let c : i < length (modelAt (fileIn f s) m .stmts) = rw (model-is f s o m l .stmts-long) b in
+    rw (levels-kept (contentsIn f s .nodes) rows₀ rows level kept, ef, ← model-is f s o m l .stmt i d b) (rest-step (fileIn f s) (levelsOf (contentsIn f s .nodes) rows₀ level) k m i d c)
+
 -- ---- what a submodel statement brings in
 
 module _ (f : List ℕ) (s : Sections) (o : Open f s) (q : ℕ) (l : q < s .counts .stmts) (k : kindOfStmt (getD (contentsIn f s .stmts) q []) ≡ 3) (levels : List Replacements) where
@@ -205,72 +214,3 @@ module _ (f : List ℕ) (s : Sections) (o : Open f s) (rows : List ℕ) (level q
       let ga : a ≡ atMost most (size (read (contentsIn f s .nodes) rows level (leftTop (getD (contentsIn f s .stmts) q [])))) = rw (nodes-from f s o, ei) at ea in
       let gb : b ≡ atMost (most - a) (size (read (contentsIn f s .nodes) rows level (rightTop (getD (contentsIn f s .stmts) q [])))) = rw (nodes-from f s o, ej) at eb in
       at-most-add most a b _ _ ga gb ∙ ap (atMost most) (sym (own-equation f s rows level q sub k))
-
--- a loop over a model's statements counts: `total` so far, of the statements before number i
-module _ (f : List ℕ) (s : Sections) (k m : ℕ) (rows₀ : List ℕ) (level most : ℕ) where
-  pub record Counting (rows : List ℕ) (total i : ℕ) : Type 0 where
-    pub within : i ≤ stmtCount (getD (contentsIn f s .models) m [])
-    pub long : length rows ≡ length rows₀
-    pub kept : take (256 * level) rows ≡ take (256 * level) rows₀
-    pub fit : RowsIn f s rows
-    pub below : total ≤ most
-    pub counted : total + atMost (most - total) (sumOf flatSize (rest (fileIn f s) (levelsOf (contentsIn f s .nodes) rows₀ level) (k - 1) m i))
-        ≡ atMost most (sumOf flatSize (flatAt f s rows₀ level k m))
-
-  capped-zero : (z : ℕ) → 0 + atMost (most - 0) z ≡ atMost most z
-  unfolding atMost
-  capped-zero z = omega arith
-
-  capped-step : (total r x y : ℕ) → total ≤ most → r ≡ atMost (most - total) x → (total + r ≤ most) × (total + r + atMost (most - (total + r)) y ≡ total + atMost (most - total) (x + y))
-  unfolding atMost
-  capped-step total r x y h e = (omega arith, omega arith)
-
-  capped-end : (total z : ℕ) → z ≡ 0 → total + atMost (most - total) z ≡ total
-  unfolding atMost
-  capped-end total z e = omega arith
-
-  pub counting-start : (k ≡ 0 → ⊥) → RowsIn f s rows₀ → Counting rows₀ 0 0
-  counting-start ne fit =
-      record {
-        within = omega arith;
-        long = refl;
-        kept = refl;
-        fit = fit;
-        below = omega arith;
-        counted = rw (rest-all (fileIn f s) (levelsOf (contentsIn f s .nodes) rows₀ level) k m ne) (capped-zero _);
-      }
-
-  module _ (o : Open f s) (l : m < s .counts .models) (rows : List ℕ) (total i : ℕ) (h : Counting rows total i) where
-    pub counting-step : (rows′ : List ℕ) (first r : ℕ) → i < stmtCount (getD (contentsIn f s .models) m []) → first ≡ firstStmt (getD (contentsIn f s .models) m [])
-        → (r ≡ atMost (most - total) (sumOf flatSize (broughtAt f s rows level (λ j. flatten (fileIn f s) (k - 1) j) (first + i))))
-        × RowsKept f s level rows rows′
-        → Counting rows′ (total + r) (i + 1)
-    counting-step rows′ first r b ef g =
-        let L = levelsOf (contentsIn f s .nodes) rows₀ level in
-        let d = stmtOf [] [] in
-        let x = sumOf flatSize (map (throughFlat L) (stmtFlats (fileIn f s) (λ j. flatten (fileIn f s) (k - 1) j) (getD (modelAt (fileIn f s) m .stmts) i d))) in
-        let e : r ≡ atMost (most - total) x = rw (levels-kept (contentsIn f s .nodes) rows₀ rows level (h .kept), ef, ← model-is f s o m l .stmt i d b) at (g .0) in
-        let c : i < length (modelAt (fileIn f s) m .stmts) = rw (model-is f s o m l .stmts-long) b in
-        let y = sumOf flatSize (rest (fileIn f s) L (k - 1) m (i + 1)) in
-        let z : sumOf flatSize (rest (fileIn f s) L (k - 1) m i) ≡ x + y = ap (sumOf flatSize) (rest-step (fileIn f s) L (k - 1) m i d c) ∙ sum-append flatSize _ (rest (fileIn f s) L (k - 1) m (i + 1)) in
-        let p = capped-step total r x y (h .below) e in
-        record {
-          within = omega arith;
-          long = g .1 .0 ∙ h .long;
-          kept = g .1 .1 ∙ h .kept;
-          fit = g .1 .2;
-          below = p .0;
-          counted = p .1 ∙ ap (λ (w : ℕ). total + atMost (most - total) w) (sym z) ∙ h .counted;
-        }
-
-    pub counting-end : stmtCount (getD (contentsIn f s .models) m []) ≤ i
-        → total ≡ atMost most (sumOf flatSize (flatAt f s rows₀ level k m))
-    unfolding sumOf
-    counting-end b =
-        let L = levelsOf (contentsIn f s .nodes) rows₀ level in
-        let c : length (modelAt (fileIn f s) m .stmts) ≤ i = rw (model-is f s o m l .stmts-long) b in
-        sym (capped-end total _ (ap (sumOf flatSize) (rest-end (fileIn f s) L (k - 1) m i c))) ∙ h .counted
-
-pub nothing-counted : (most : ℕ) (qs : List Flat) → qs ≡ [] → 0 ≡ atMost most (sumOf flatSize qs)
-unfolding atMost sumOf
-nothing-counted most qs e = rw e (omega arith)

@@ -4,20 +4,25 @@ use mathlib.Core.Bool.{true, false, cond, _||_, or-true}
 use mathlib.Core.List.{List, map}
 use Prim.Native.Nat.{ℕ, _+_, _≤_, _<_}
 use native.Mathlib.Omega.{arith}
-use borrow.Author.Tests.{lt-ltb, le-ltb, eq-eqb, ne-eqb}
+use borrow.Author.Tests.{lt-ltb, le-ltb, ltb-true, ltb-false, eq-eqb, ne-eqb}
 use lib.Dec.{ltb}
 use lib.ListN.{length}
 use Rattle.functions.specs.Lists.{sumOf}
-use Rattle.ast.specs.Tree.{File, Flat, flatSize}
+use Rattle.ast.specs.Tree.{File, flatSize}
 use Rattle.ast.specs.Levels.{throughFlat}
 use Rattle.ast.specs.Rows.{levelsOf, atMost}
 use Rattle.definitions.specs.Numbers.{modelCycle, selfListedUnknown, argumentBeyond, overMost}
 use Rattle.definitions.specs.Flatten.{flatten, instances, cyclic, selfListed, overfull}
 use Rattle.definitions.specs.Build.{Result, refusal, accepted, tooBig}
 use Rattle.builder.specs.Root.{Measure, forbiddenOf, sizeOf, measureOf, measuredAs}
+use Rattle.builder.specs.Extents.{Extended}
+use Rattle.builder.specs.declared.extent.counts.Extent.{Extent}
 use Rattle.builder.specs.declared.extent.measure.Measured.{Measured}
 use Rattle.builder.specs.declared.extent.measure.Measured.the-variants.{Refused, Sized}
+use Rattle.definitions.proofs.ListLaws.{or-either}
+use Rattle.definitions.proofs.Counts.{or-false}
 use Rattle.builder.proofs.laws.Flattening.{map-none}
+use Rattle.builder.proofs.laws.Extents.{extended-same}
 
 -- ---- refusals 6 to 8, in their order
 
@@ -60,6 +65,10 @@ at-most-whole : (most i x : ℕ) → i ≡ atMost (most + 1) x → i ≤ most �
 unfolding atMost
 at-most-whole most i x e h = omega arith
 
+-- the extent of no statements
+abbrev nothing : Extent
+nothing = record { stmts = 0; nodes = 0 }
+
 -- by three numbers: instances, statements and nodes
 abbrev sizing : ℕ → ℕ → ℕ → Result Measure
 sizing i q n = cond (ltb 1024 i || ltb 1024 n || ltb 256 q) (refusal overMost) (accepted (record { instances = i; stmts = q; nodes = n }))
@@ -90,22 +99,27 @@ module _ (f : File) (m k : ℕ) (ek : length (f .models) ≡ k) where
     pub over-instances : 1024 < i → measuredAs (Refused overMost) ≡ sizeOf f m
     over-instances h = over-first (instances f k m) (length (flatten f k m)) (sumOf flatSize (flatten f k m)) (at-most-over 1024 i _ ei h) ∙ size-at
 
-    module _ (q : ℕ) (eq : q ≡ atMost 257 (length (flatten f k m))) where
-      pub over-stmts : 256 < q → measuredAs (Refused overMost) ≡ sizeOf f m
-      over-stmts h = over-second (instances f k m) (length (flatten f k m)) (sumOf flatSize (flatten f k m)) (at-most-over 256 q _ eq h) ∙ size-at
+    -- the statements are read at level 0, where nothing is replaced
+    module _ (ns : List (List ℕ)) (rows : List ℕ) (e : Extent) (x : Extended nothing (map (throughFlat (levelsOf ns rows 0)) (flatten f k m)) e) where
+      plain : (e .stmts ≡ atMost 257 (length (flatten f k m))) × (e .nodes ≡ atMost 1025 (sumOf flatSize (flatten f k m)))
+      unfolding levelsOf
+      plain =
+          let y = extended-same nothing e _ _ (map-none (flatten f k m)) x in
+          (y .stmts ∙ ap (atMost 257) (omega arith), y .nodes ∙ ap (atMost 1025) (omega arith))
 
-      -- the nodes are read at level 0, where nothing is replaced
-      module _ (ns : List (List ℕ)) (rows : List ℕ) (n : ℕ) (en : n ≡ atMost 1025 (sumOf flatSize (map (throughFlat (levelsOf ns rows 0)) (flatten f k m)))) where
-        plain : n ≡ atMost 1025 (sumOf flatSize (flatten f k m))
-        unfolding levelsOf
-        plain = en ∙ ap (λ (qs : List Flat). atMost 1025 (sumOf flatSize qs)) (map-none (flatten f k m))
+      pub over-flat : ltb 256 (e .stmts) || ltb 1024 (e .nodes) ≡ true → measuredAs (Refused overMost) ≡ sizeOf f m
+      over-flat h =
+          or-either (ltb 256 (e .stmts)) (ltb 1024 (e .nodes)) h
+          (λ g. over-second (instances f k m) (length (flatten f k m)) (sumOf flatSize (flatten f k m)) (at-most-over 256 (e .stmts) _ (plain .0) (ltb-true 256 (e .stmts) g)))
+          (λ g. over-third (instances f k m) (length (flatten f k m)) (sumOf flatSize (flatten f k m)) (at-most-over 1024 (e .nodes) _ (plain .1) (ltb-true 1024 (e .nodes) g)))
+          ∙ size-at
 
-        pub over-nodes : 1024 < n → measuredAs (Refused overMost) ≡ sizeOf f m
-        over-nodes h = over-third (instances f k m) (length (flatten f k m)) (sumOf flatSize (flatten f k m)) (at-most-over 1024 n _ plain h) ∙ size-at
-
-        pub sized : i ≤ 1024 → q ≤ 256 → n ≤ 1024 → measuredAs (Sized i q n) ≡ sizeOf f m
-        sized hi hq hn =
-            let ai : i ≡ instances f k m = at-most-whole 1024 i _ ei hi in
-            let aq : q ≡ length (flatten f k m) = at-most-whole 256 q _ eq hq in
-            let an : n ≡ sumOf flatSize (flatten f k m) = at-most-whole 1024 n _ plain hn in
-            over-none i q n hi hq hn ∙ ap (λ (x : ℕ). sizing x q n) ai ∙ ap (λ (x : ℕ). sizing (instances f k m) x n) aq ∙ ap (λ (x : ℕ). sizing (instances f k m) (length (flatten f k m)) x) an ∙ size-at
+      pub sized : i ≤ 1024 → ltb 256 (e .stmts) || ltb 1024 (e .nodes) ≡ false → measuredAs (Sized i (e .stmts) (e .nodes)) ≡ sizeOf f m
+      sized hi h =
+          let (gq, gn) = or-false (ltb 256 (e .stmts)) (ltb 1024 (e .nodes)) h in
+          let hq : e .stmts ≤ 256 = ltb-false 256 (e .stmts) gq in
+          let hn : e .nodes ≤ 1024 = ltb-false 1024 (e .nodes) gn in
+          let ai : i ≡ instances f k m = at-most-whole 1024 i _ ei hi in
+          let aq : e .stmts ≡ length (flatten f k m) = at-most-whole 256 (e .stmts) _ (plain .0) hq in
+          let an : e .nodes ≡ sumOf flatSize (flatten f k m) = at-most-whole 1024 (e .nodes) _ (plain .1) hn in
+          over-none i (e .stmts) (e .nodes) hi hq hn ∙ ap (λ (y : ℕ). sizing y (e .stmts) (e .nodes)) ai ∙ ap (λ (y : ℕ). sizing (instances f k m) y (e .nodes)) aq ∙ ap (λ (y : ℕ). sizing (instances f k m) (length (flatten f k m)) y) an ∙ size-at

@@ -5,8 +5,8 @@ ghost use Rattle.ast.specs.Opens.{fileIn};
 ghost use Rattle.builder.specs.Checking as checking;
 ghost use Rattle.builder.specs.Descent.{RowsAt, Linked};
 ghost use Rattle.builder.specs.Root.{forbiddenOf, sizeOf, measureOf, measuredAs};
-use crate::extent::counts::flat_nodes;
-use crate::extent::counts::flat_stmts;
+use crate::extent::counts::Extent;
+use crate::extent::counts::flat_extent;
 use crate::extent::counts::instances;
 use crate::models::reached::any_reason;
 use crate::models::reached::reach;
@@ -63,15 +63,12 @@ fn size(f: &[u8], s: Sections, callees: &[u8; MOST_STMTS], rows: &mut [u16], m: 
     if MOST_INSTANCES < i {
         return Measured::Refused(OVER_MOST);
     }
-    let q = flat_stmts(f, s, callees, k, m, MOST_STMTS + 1);
-    if MOST_STMTS < q {
+    let none = Extent { stmts: 0, nodes: 0 };
+    let flat = flat_extent(f, s, callees, rows, k, m, 0, none);
+    if (MOST_STMTS < flat.stmts) | (MOST_NODES < flat.nodes) {
         return Measured::Refused(OVER_MOST);
     }
-    let n = flat_nodes(f, s, callees, rows, k, m, 0, MOST_NODES + 1);
-    if MOST_NODES < n {
-        return Measured::Refused(OVER_MOST);
-    }
-    Measured::Sized(i, q, n)
+    Measured::Sized(i, flat.stmts, flat.nodes)
 }
 
 // Refusals 6 to 9, or the sizes.
