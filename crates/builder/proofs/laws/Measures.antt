@@ -16,7 +16,7 @@ use Rattle.definitions.specs.Flatten.{flatten, instances, cyclic, selfListed, o
 use Rattle.definitions.specs.Build.{Result, refusal, accepted, tooBig}
 use Rattle.builder.specs.Root.{Measure, forbiddenOf, sizeOf, measureOf, measuredAs}
 use Rattle.builder.specs.Extents.{Extended}
-use Rattle.builder.specs.declared.extent.counts.Extent.{Extent}
+use Rattle.builder.specs.declared.extent.counts.FlatExtent.{FlatExtent}
 use Rattle.builder.specs.declared.extent.measure.Measured.{Measured}
 use Rattle.builder.specs.declared.extent.measure.Measured.the-variants.{Refused, Sized}
 use Rattle.definitions.proofs.ListLaws.{or-either}
@@ -66,7 +66,7 @@ unfolding atMost
 at-most-whole most i x e h = omega arith
 
 -- the extent of no statements
-abbrev nothing : Extent
+abbrev nothing : FlatExtent
 nothing = record { stmts = 0; nodes = 0 }
 
 -- by three numbers: instances, statements and nodes
@@ -100,7 +100,7 @@ module _ (f : File) (m k : ℕ) (ek : length (f .models) ≡ k) where
     over-instances h = over-first (instances f k m) (length (flatten f k m)) (sumOf flatSize (flatten f k m)) (at-most-over 1024 i _ ei h) ∙ size-at
 
     -- the statements are read at level 0, where nothing is replaced
-    module _ (ns : List (List ℕ)) (rows : List ℕ) (e : Extent) (x : Extended nothing (map (throughFlat (levelsOf ns rows 0)) (flatten f k m)) e) where
+    module _ (ns : List (List ℕ)) (rows : List ℕ) (e : FlatExtent) (x : Extended nothing (map (throughFlat (levelsOf ns rows 0)) (flatten f k m)) e) where
       plain : (e .stmts ≡ atMost 257 (length (flatten f k m))) × (e .nodes ≡ atMost 1025 (sumOf flatSize (flatten f k m)))
       unfolding levelsOf
       plain =

@@ -8,7 +8,7 @@ ghost use Rattle.ast.specs.Tree.{Flat, flatSize};
 ghost use Rattle.ast.specs.Records.{stmtOf};
 ghost use Rattle.ast.specs.Opens.{contentsIn, fileIn};
 ghost use Rattle.ast.specs.Rows.{atMost};
-ghost use Rattle.definitions.specs.Numbers.{mostModels};
+ghost use Rattle.definitions.specs.Numbers.{mostModels, mostInstances};
 ghost use Rattle.definitions.specs.Flatten as Flatten;
 ghost use Rattle.builder.specs.Descent.{flatAt, broughtAt, RowsAt, RowsKept, Linked, OwnAt};
 ghost use Rattle.builder.specs.Extents.{Counted, Extended};
@@ -29,7 +29,7 @@ use ast::sections::Sections;
 use ast::subst::measure_expr;
 
 // How big flattened statements are: how many there are, and how many nodes their trees have.
-pub struct Extent {
+pub struct FlatExtent {
     pub stmts: usize,
     pub nodes: usize,
 }
@@ -43,7 +43,10 @@ pub fn instances(
     m: usize,
     most: usize,
 ) -> usize
-    requires { ⌜ Linked (now f) s (now callees) × (m < s .counts .models) × (k ≤ mostModels) × (most ≤ 4096) ⌝ }
+    requires { ⌜ Linked (now f) s (now callees)
+        × (m < s .counts .models)
+        × (k ≤ mostModels)
+        × (most ≤ mostInstances + 1) ⌝ }
     ensures { λ r. ⌜ r ≡ atMost most (Flatten.instances (fileIn (now (f .entry)) s) k m) ⌝ }
 {
     if k == 0 {
@@ -72,7 +75,10 @@ fn stmt_instances(
     q: usize,
     most: usize,
 ) -> usize
-    requires { ⌜ Linked (now f) s (now callees) × (q < s .counts .stmts) × (k ≤ mostModels) × (most ≤ 4096) ⌝ }
+    requires { ⌜ Linked (now f) s (now callees)
+        × (q < s .counts .stmts)
+        × (k ≤ mostModels)
+        × (most ≤ mostInstances + 1) ⌝ }
     ensures { λ r. ⌜ r ≡ atMost most (sumOf (λ j. Flatten.instances (fileIn (now (f .entry)) s) k j)
         (Flatten.stmtModels (fileIn (now (f .entry)) s)
         (stmtOf (contentsIn (now (f .entry)) s .nodes) (getD (contentsIn (now (f .entry)) s .stmts) q [])))) ⌝ }
@@ -103,7 +109,14 @@ fn own_nodes(f: &[u8], s: Sections, rows: &[u16], level: usize, q: usize, most: 
 }
 
 // The extent `done` and that of statement q, whose own trees are read at a level.
-fn own_extent(f: &[u8], s: Sections, rows: &[u16], level: usize, q: usize, done: Extent) -> Extent
+fn own_extent(
+    f: &[u8],
+    s: Sections,
+    rows: &[u16],
+    level: usize,
+    q: usize,
+    done: FlatExtent,
+) -> FlatExtent
     requires { ⌜ OwnAt (now f) s (now rows) level q × Counted done ⌝ }
     ensures { λ r. ⌜ ((sub : ℕ → List Flat) → Extended done
         (broughtAt (now (f .entry)) s (now (rows .entry)) level sub q) r) ⌝ }
@@ -114,7 +127,7 @@ fn own_extent(f: &[u8], s: Sections, rows: &[u16], level: usize, q: usize, done:
     } else {
         done.stmts + 1
     };
-    Extent { stmts, nodes }
+    FlatExtent { stmts, nodes }
 }
 
 // The extent `done` and that of model m's flattened statements, whose trees are read at a level. Each number is counted
@@ -127,8 +140,8 @@ pub fn flat_extent(
     k: usize,
     m: usize,
     level: usize,
-    done: Extent,
-) -> Extent
+    done: FlatExtent,
+) -> FlatExtent
     requires { ⌜ Linked (now f) s (now callees)
         × (m < s .counts .models)
         × RowsAt (now f) s (now rows) (level + k)
@@ -150,7 +163,8 @@ pub fn flat_extent(
     total
 }
 
-// The extent `done` and that of what statement q brings in.
+// The extent `done` and that of what statement q brings in. Nothing is counted any more once both are beyond their
+// mosts.
 fn stmt_extent(
     f: &[u8],
     s: Sections,
@@ -159,8 +173,8 @@ fn stmt_extent(
     k: usize,
     q: usize,
     level: usize,
-    done: Extent,
-) -> Extent
+    done: FlatExtent,
+) -> FlatExtent
     requires { ⌜ Linked (now f) s (now callees)
         × (q < s .counts .stmts)
         × RowsAt (now f) s (now rows) (level + k + 1)
@@ -169,6 +183,9 @@ fn stmt_extent(
         (λ j. Flatten.flatten (fileIn (now (f .entry)) s) k j) q) r
         × RowsKept (now (f .entry)) s level (now (rows .entry)) (now (rows .exit)) ⌝ }
 {
+    if (MOST_STMTS < done.stmts) & (MOST_NODES < done.nodes) {
+        return done;
+    }
     if stmt(f, s, q, STMT_KIND) != SUBMODEL_KIND {
         return own_extent(f, s, rows, level, q, done);
     }

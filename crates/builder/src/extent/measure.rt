@@ -5,7 +5,7 @@ ghost use Rattle.ast.specs.Opens.{fileIn};
 ghost use Rattle.builder.specs.Checking as checking;
 ghost use Rattle.builder.specs.Descent.{RowsAt, Linked};
 ghost use Rattle.builder.specs.Root.{forbiddenOf, sizeOf, measureOf, measuredAs};
-use crate::extent::counts::Extent;
+use crate::extent::counts::FlatExtent;
 use crate::extent::counts::flat_extent;
 use crate::extent::counts::instances;
 use crate::models::reached::any_reason;
@@ -63,7 +63,7 @@ fn size(f: &[u8], s: Sections, callees: &[u8; MOST_STMTS], rows: &mut [u16], m: 
     if MOST_INSTANCES < i {
         return Measured::Refused(OVER_MOST);
     }
-    let none = Extent { stmts: 0, nodes: 0 };
+    let none = FlatExtent { stmts: 0, nodes: 0 };
     let flat = flat_extent(f, s, callees, rows, k, m, 0, none);
     if (MOST_STMTS < flat.stmts) | (MOST_NODES < flat.nodes) {
         return Measured::Refused(OVER_MOST);
