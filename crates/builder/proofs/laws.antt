@@ -34,6 +34,7 @@ pub mod Allocations
 pub mod ModelErrors
 pub mod ScopeTables
 pub mod Recording
+pub mod Writing
 pub mod Domains
 pub mod BoundLaws
 pub mod FateCases

@@ -186,13 +186,13 @@ module _ (f : List ℕ) (s : Sections) (o : Open f s) (q : ℕ) (l : q < s .coun
 -- ---- what a statement of its own brings in
 
 module _ (f : List ℕ) (s : Sections) (rows : List ℕ) (level q : ℕ) (sub : ℕ → List Flat) where
-  pub own-rate : kindOfStmt (getD (contentsIn f s .stmts) q []) ≡ 2
+  own-rate : kindOfStmt (getD (contentsIn f s .stmts) q []) ≡ 2
       → sumOf flatSize (broughtAt f s rows level sub q)
       ≡ size (read (contentsIn f s .nodes) rows level (rightTop (getD (contentsIn f s .stmts) q [])))
   unfolding sumOf flatSize stmtFlats throughFlat read
   own-rate k = rw (stmt-rate (contentsIn f s .nodes) (getD (contentsIn f s .stmts) q []) k) (omega arith)
 
-  pub own-equation : kindOfStmt (getD (contentsIn f s .stmts) q []) ≡ 1
+  own-equation : kindOfStmt (getD (contentsIn f s .stmts) q []) ≡ 1
       → sumOf flatSize (broughtAt f s rows level sub q)
       ≡ size (read (contentsIn f s .nodes) rows level (leftTop (getD (contentsIn f s .stmts) q []))) + size (read (contentsIn f s .nodes) rows level (rightTop (getD (contentsIn f s .stmts) q [])))
   unfolding sumOf flatSize stmtFlats throughFlat read

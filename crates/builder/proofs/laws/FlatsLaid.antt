@@ -4,39 +4,31 @@ use mathlib.Core.List.{List, _++_}
 use Prim.Native.Nat.{ℕ, _+_, _-_, _*_, _≤_}
 use native.Mathlib.Omega.{arith}
 use lib.ListN.{length, take, drop, length-drop}
-use lib.Seq.{length-take-le}
 use Rattle.functions.specs.Lists.{each, sumOf}
-use Rattle.ast.specs.Tree.{Flat, flatSize}
+use Rattle.ast.specs.Tree.{flatSize}
 use Rattle.ast.specs.Bytes.{put}
 use Rattle.ast.specs.Encode.{flatNodes, encode}
 use Rattle.ast.specs.Rows.{levelsOf}
 use Rattle.ast.specs.Opens.{fileIn}
 use Rattle.ast.specs.declared.sections.Sections.{Sections}
-use Rattle.ast.proofs.Fronts.{lent-put, put-zero}
 use Rattle.definitions.specs.Flatten.{flatten}
-use Rattle.builder.specs.Descent.{flatAt, RowsAt, RowsKept, NodesFit}
-use Rattle.builder.specs.Unfated.{unfated, RecordsFit, Recorded}
+use Rattle.builder.specs.Descent.{flatAt, RowsAt, RowsKept}
+use Rattle.builder.specs.Unfated.{unfated, FlatsFit, FlatsPut}
 use Rattle.builder.specs.Root.{flatsOf}
+use Rattle.builder.specs.declared.flattening.statements.Written.{Written}
 use Rattle.builder.proofs.laws.Flattening.{map-none}
 use Rattle.builder.proofs.laws.Open.{models-long}
-use Rattle.builder.proofs.laws.Putting.{length-flats}
-use Rattle.builder.proofs.laws.Recording.{fits-same}
-use Rattle.area.proofs.Puts.{length-put}
+use Rattle.builder.proofs.laws.Writing.{fits-same, put-same}
+use Rattle.area.proofs.Puts.{lent-all, lent-two}
 
--- ---- a lent rest
-
-lent-long : (d : List ℕ) (n : ℕ) → length (take (length d - n) (drop n d)) ≡ length d - n
-lent-long d n = let l : length (drop n d) ≡ length d - n = length-drop n d in length-take-le (length d - n) (drop n d) (omega (arith, l))
-
--- a put at its start
-pub lent-start : (d e ys : List ℕ) (n : ℕ) → n ≤ length d → ys ≡ put (take (length d - n) (drop n d)) 0 e
-    → take n d ++ (ys ++ drop (length d - n) (drop n d)) ≡ put d n e
-lent-start d e ys n h g = lent-put d e ys n h (g ∙ put-zero (take (length d - n) (drop n d)) e)
+-- nothing is written yet, and the records begin behind n nodes
+abbrev none : ℕ → Written
+none n = record { nodes = 0; end = 32 * n }
 
 -- ---- the flattened statements of model m
 
 module _ (f : List ℕ) (s : Sections) (rows : List ℕ) (m : ℕ) where
-  pub flats-root : flatAt f s rows 0 (s .counts .models) m ≡ flatsOf (fileIn f s) m
+  flats-root : flatAt f s rows 0 (s .counts .models) m ≡ flatsOf (fileIn f s) m
   unfolding levelsOf
   flats-root = map-none (flatten (fileIn f s) (s .counts .models) m) ∙ ap (λ (k : ℕ). flatten (fileIn f s) k m) (sym (models-long f s))
 
@@ -48,40 +40,19 @@ module _ (f : List ℕ) (s : Sections) (rows : List ℕ) (m : ℕ) where
   pub rows-still : (rows′ : List ℕ) → RowsAt f s rows (s .counts .models) → RowsKept f s 0 rows rows′ → RowsAt f s rows′ (s .counts .models)
   rows-still rows′ r k = record { deep = r .deep; long = omega (arith, r .long, k .0); fit = k .2 }
 
-  -- there is room for the nodes
-  pub nodes-room : (d : List ℕ) → sumOf flatSize (flatsOf (fileIn f s) m) ≤ 1024 → length d ≡ 55384
-      → NodesFit 0 (sumOf flatSize (flatAt f s rows 0 (s .counts .models) m)) (length (take (length d - 40) (drop 40 d)))
-  nodes-room d h l =
-      let e : sumOf flatSize (flatAt f s rows 0 (s .counts .models) m) ≡ sumOf flatSize (flatsOf (fileIn f s) m) = ap (sumOf flatSize) flats-root in
-      record { few = omega (arith, e, h); fit = omega (arith, e, h, l, lent-long d 40) }
+  -- of an area d, of which the bytes behind the header are lent
+  module _ (d : List ℕ) (n : ℕ) (long : length d ≡ 55384) where
+    -- there is room for the nodes and the records
+    pub flats-room : n ≡ sumOf flatSize (flatsOf (fileIn f s) m) → sumOf flatSize (flatsOf (fileIn f s) m) ≤ 1024 → length (flatsOf (fileIn f s) m) ≤ 256
+        → FlatsFit (none n) (flatAt f s rows 0 (s .counts .models) m) (length (take (length d - 40) (drop 40 d)))
+    flats-room e few-nodes few-stmts =
+        let l : length (take (length d - 40) (drop 40 d)) ≡ length d - 40 = ap length (lent-all d 40) ∙ length-drop 40 d in
+        fits-same (none n) _ (flatAt f s rows 0 (s .counts .models) m) (flatsOf (fileIn f s) m) flats-root
+        (record { few = omega (arith, few-nodes); nodes = omega (arith, e); records = omega (arith, e, few-nodes, few-stmts, l, long) })
 
-  -- the nodes are laid
-  pub nodes-laid : (d ys rows′ : List ℕ) (r : ℕ) → length d ≡ 55384 → RowsAt f s rows (s .counts .models)
-      → (r ≡ 0 + sumOf flatSize (flatAt f s rows 0 (s .counts .models) m))
-      × (ys ≡ put (take (length d - 40) (drop 40 d)) (32 * 0) (encode (each flatNodes (flatAt f s rows 0 (s .counts .models) m))))
-      × RowsKept f s 0 rows rows′
-      → (take 40 d ++ (ys ++ drop (length d - 40) (drop 40 d)) ≡ put d 40 (encode (each flatNodes (flatsOf (fileIn f s) m))))
-      × RowsAt f s rows′ (s .counts .models)
-  nodes-laid d ys rows′ r l h g =
-      (lent-start d (encode (each flatNodes (flatsOf (fileIn f s) m))) ys 40 (omega (arith, l)) (g .1 ∙ ap (λ (qs : List Flat). put (take (length d - 40) (drop 40 d)) 0 (encode (each flatNodes qs))) flats-root), rows-still rows′ h (g .2))
-
-  -- there is room for the records
-  pub stmts-room : (d : List ℕ) (at : ℕ) → sumOf flatSize (flatsOf (fileIn f s) m) ≤ 1024 → length (flatsOf (fileIn f s) m) ≤ 256 → at + 8192 ≤ length d
-      → RecordsFit 0 0 (length (take (length d - at) (drop at d))) (flatAt f s rows 0 (s .counts .models) m)
-  stmts-room d at h n l =
-      fits-same 0 0 (length (take (length d - at) (drop at d))) (flatAt f s rows 0 (s .counts .models) m) (flatsOf (fileIn f s) m) flats-root (omega (arith, n), omega (arith, h), omega (arith, n, l, lent-long d at))
-
-  -- the records are laid
-  pub stmts-laid : (d ys : List ℕ) (at a b : ℕ) → at + 8192 ≤ length d
-      → Recorded 0 0 (take (length d - at) (drop at d)) a b ys (flatAt f s rows 0 (s .counts .models) m)
-      → take at d ++ (ys ++ drop (length d - at) (drop at d)) ≡ put d at (encode (unfated 0 (flatsOf (fileIn f s) m)))
-  stmts-laid d ys at a b l g =
-      lent-start d (encode (unfated 0 (flatsOf (fileIn f s) m))) ys at (omega (arith, l)) (g .2 ∙ ap (λ (qs : List Flat). put (take (length d - at) (drop at d)) 0 (encode (unfated 0 qs))) flats-root)
-
--- room for the records behind the nodes
-pub room-behind : (d d′ : List ℕ) (qs : List Flat) (n : ℕ) → d′ ≡ put d 40 (encode (each flatNodes qs)) → sumOf flatSize qs ≤ 1024 → n ≡ sumOf flatSize qs → length d ≡ 55384
-    → (at : ℕ) → at ≡ 40 + 32 * n → at + 8192 ≤ length d′
-room-behind d d′ qs n e h g l at ea =
-    let z : length (encode (each flatNodes qs)) ≡ 32 * sumOf flatSize qs = length-flats qs in
-    let p : length d′ ≡ length d = ap length e ∙ length-put d (encode (each flatNodes qs)) 40 (omega (arith, z, h, l)) in
-    omega (arith, p, h, g, l, ea)
+    -- they are laid
+    pub flats-laid : (ys : List ℕ) (r : Written) → FlatsPut (none n) (take (length d - 40) (drop 40 d)) (flatAt f s rows 0 (s .counts .models) m) r ys
+        → take 40 d ++ (ys ++ drop (length d - 40) (drop 40 d)) ≡ put (put d 40 (encode (each flatNodes (flatsOf (fileIn f s) m)))) (40 + 32 * n) (encode (unfated 0 (flatsOf (fileIn f s) m)))
+    flats-laid ys r h =
+        lent-two d (encode (each flatNodes (flatsOf (fileIn f s) m))) (encode (unfated 0 (flatsOf (fileIn f s) m))) ys 40 0 (32 * n) (omega (arith, long))
+        (put-same (none n) (take (length d - 40) (drop 40 d)) r ys (flatAt f s rows 0 (s .counts .models) m) (flatsOf (fileIn f s) m) flats-root h .bytes)

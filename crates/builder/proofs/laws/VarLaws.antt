@@ -1,13 +1,12 @@
--- The variables' records written one behind the other, with what stands in front of them and behind them as it was.
-use mathlib.Core.Path.{_≡_, refl, sym, ap, _∙_}
+-- A variable's record: its time index is a word, its bounds, and its two parts one behind the other.
+use mathlib.Core.Path.{_≡_, refl, _∙_}
 use mathlib.Core.Bool.{true, false}
-use mathlib.Core.List.{List, [], _∷_, _++_, append-assoc}
+use mathlib.Core.List.{List, [], _∷_, _++_}
 use mathlib.Core.Option.{Option, none, some}
 use Prim.Native.Nat.{ℕ, zero, suc, _+_, _-_, _*_, _%_, _≤_, _<_}
 use native.Mathlib.Omega.{arith}
 use borrow.Author.Tests.{eq-eqb, ne-eqb}
-use lib.ListN.{length, take, drop, length-append, length-drop}
-use lib.Seq.{length-take-le, take-all, drop-append-add, drop-drop}
+use lib.ListN.{length, take, drop, length-drop}
 use Rattle.functions.specs.Lists.{plusOne}
 use Rattle.ast.specs.Tree.{Unknown}
 use Rattle.ast.specs.Words.{bytesOf}
@@ -18,25 +17,7 @@ use Rattle.builder.specs.Bounding.{boundsFrom}
 use Rattle.builder.specs.VarRecords.{varBounds}
 use Rattle.builder.specs.VariableTables.{wordsFrom}
 use Rattle.builder.proofs.laws.Timing.{length-from}
-use Rattle.area.proofs.Puts.{put-more}
-
--- ---- what stands in front of a place is not changed there
-
--- ---- nor is what stands behind it
-
-pub drop-behind : (d e : List ℕ) (p k : ℕ) → p + length e ≤ k → p ≤ length d → drop k (put d p e) ≡ drop k d
-unfolding put
-drop-behind d e p k h l =
-    let t : length (take p d ++ e) ≡ p + length e = length-append (take p d) e ∙ ap (λ (x : ℕ). x + length e) (length-take-le p d l) in
-    let i : k ≡ length (take p d ++ e) + (k - (p + length e)) = omega arith in
-    ap (drop k) (sym (append-assoc (take p d) e (drop (p + length e) d)))
-    ∙ ap (λ (x : ℕ). drop x ((take p d ++ e) ++ drop (p + length e) d)) i
-    ∙ drop-append-add (take p d ++ e) (drop (p + length e) d) (k - (p + length e))
-    ∙ drop-drop (k - (p + length e)) (p + length e) d
-    ∙ ap (λ (x : ℕ). drop x d) (rest h)
-  where
-    rest : p + length e ≤ k → p + length e + (k - (p + length e)) ≡ k
-    rest h = omega arith
+use Rattle.area.proofs.Puts.{put-more, lent-all}
 
 -- ---- a time index is a word
 
@@ -50,7 +31,7 @@ last-most (suc d ∷ ds) i n o h l = last-most ds (suc i) n o h (omega arith)
 -- of the dependents' bytes lent from byte p on, in an area d
 module _ (d : List ℕ) (p q first end : ℕ) (order : first ≤ end) (few : end ≤ 1024) (room : p + 4 * end ≤ length d) (e : q ≡ p) where
   lent : take (length d - q) (drop q d) ≡ drop p d
-  lent = rw e (take-all (length d - p) (drop p d) (omega (arith, length-drop p d)))
+  lent = rw e (lent-all d p)
 
   within : 4 * end ≤ length (drop p d)
   within = simp length-drop (omega arith)

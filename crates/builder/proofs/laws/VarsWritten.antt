@@ -1,10 +1,10 @@
 -- The variables' records and their dependents written one variable after the other.
 use mathlib.Core.Path.{_≡_, refl, sym, ap, ap₂, _∙_}
-use mathlib.Core.List.{List, [], _++_, append-assoc, append-nil}
+use mathlib.Core.List.{List, [], _++_}
 use Prim.Native.Nat.{ℕ, _+_, _-_, _*_, _≤_, _<_}
 use native.Mathlib.Omega.{arith}
 use lib.ListN.{length, take, drop, getD, length-append, length-drop, length-map, List·getD-map}
-use lib.Seq.{length-take-le, take-all, take-at, take-add, take-take, take-append-le, take-append-add, drop-at, drop-drop, drop-append-le}
+use lib.Seq.{length-take-le, take-all, take-at, drop-at, drop-drop}
 use Rattle.functions.specs.Lists.{each}
 use Rattle.ast.specs.Words.{words, wordOf, section, bytes4, bytesOf}
 use Rattle.ast.specs.Bytes.{put}
@@ -20,8 +20,8 @@ use Rattle.definitions.specs.Flatten.{scopeOf, modelAt}
 use Rattle.definitions.proofs.ListLaws.{getD-map}
 use Rattle.area.specs.Sections.{Small, varsAt, depsAt, areaVars, column}
 use Rattle.area.specs.declared.sections.Sizes.{Sizes}
-use Rattle.area.proofs.SectionsKept.{drop-take, section-kept}
-use Rattle.area.proofs.Puts.{put-none, put-again, length-put}
+use Rattle.area.proofs.SectionsKept.{section-kept}
+use Rattle.area.proofs.Puts.{put-none, put-again, length-put, drop-behind, put-swap, lent-behind}
 use Rattle.builder.specs.VariableTables.{wordsFrom, unknownsIn, rosterIn, RoomBehind, PutBehind}
 use Rattle.builder.specs.Allocating.{namesIn}
 use Rattle.builder.specs.VarRecords.{isTime, LeadOf, leadWords, varBounds, unheldWords, untimedRecords}
@@ -29,53 +29,9 @@ use Rattle.builder.specs.declared.variables.records.Lead.{Lead}
 use Rattle.builder.specs.Root.{scopeAt, VarNext}
 use Rattle.builder.proofs.laws.FateRecords.{words-drop, record-placed}
 use Rattle.builder.proofs.laws.PutWords.{each-take, each-fits}
-use Rattle.builder.proofs.laws.VarLaws.{drop-behind}
 use Rattle.builder.proofs.laws.VarAnswers.{length-from, records-more, length-first, lead-words, own-bounds}
 
--- ---- bytes put at two places
-
--- a part lent from place n on, with bytes put behind its first k
-pub lent-behind : (d f ys : List ℕ) (n k : ℕ) → n + k ≤ length d → ys ≡ put (take (length d - n) (drop n d)) k f → take n d ++ (ys ++ drop (length d - n) (drop n d)) ≡ put d (n + k) f
-unfolding put
-lent-behind d f ys n k h ey =
-    let ld : length (drop n d) ≡ length d - n = length-drop n d in
-    let a : take (length d - n) (drop n d) ≡ drop n d = take-all (length d - n) (drop n d) (omega arith) in
-    let b : drop (length d - n) (drop n d) ≡ [] = lib.ListN.drop-of-length-le (drop n d) {i = length d - n} (omega arith) in
-    let e : n + (k + length f) ≡ n + k + length f = omega arith in
-    rw (b, append-nil ys, ey, a, drop-drop (k + length f) n d, e, take-add n k d) (sym (append-assoc (take n d) (take k (drop n d)) (f ++ drop (n + k + length f) d)))
-
--- bytes put at two places: all in a row
-module _ (d e f : List ℕ) (p q : ℕ) (h : p + length e ≤ q) (l : q ≤ length d) where
-  abbrev between : List ℕ
-  between = take (q - (p + length e)) (drop (p + length e) d)
-
-  -- first those in front
-  front-first : put (put d p e) q f ≡ take p d ++ (e ++ (between ++ (f ++ drop (q + length f) d)))
-  unfolding put
-  front-first =
-      let y = drop (p + length e) d in
-      let r = f ++ drop (q + length f) d in
-      let n : q ≡ length (take p d) + (length e + (q - (p + length e))) = omega (arith, length-take-le p d (omega arith)) in
-      let t : take q (take p d ++ (e ++ y)) ≡ take p d ++ (e ++ between) =
-      ap (λ (k : ℕ). take k (take p d ++ (e ++ y))) n
-      ∙ take-append-add (take p d) (e ++ y) (length e + (q - (p + length e)))
-      ∙ ap (λ (x : List ℕ). take p d ++ x) (take-append-add e y (q - (p + length e))) in
-      let b : drop (q + length f) (take p d ++ (e ++ y)) ≡ drop (q + length f) d = drop-behind d e p (q + length f) (omega arith) (omega arith) in
-      ap₂ (λ (x z : List ℕ). x ++ (f ++ z)) t b ∙ append-assoc (take p d) (e ++ between) r ∙ ap (λ (x : List ℕ). take p d ++ x) (append-assoc e between r)
-
-  -- first those behind
-  behind-first : put (put d q f) p e ≡ take p d ++ (e ++ (between ++ (f ++ drop (q + length f) d)))
-  unfolding put
-  behind-first =
-      let r = f ++ drop (q + length f) d in
-      let n : length (take q d) ≡ q = length-take-le q d l in
-      let t : take p (take q d ++ r) ≡ take p d = take-append-le p (take q d) r (omega (arith, n)) ∙ take-take p q d (omega arith) in
-      let b : drop (p + length e) (take q d ++ r) ≡ between ++ r = drop-append-le (p + length e) (take q d) r (omega (arith, n)) ∙ ap (λ (x : List ℕ). x ++ r) (drop-take (p + length e) q d h) in
-      ap₂ (λ (x z : List ℕ). x ++ (e ++ z)) t b
-
-  -- either
-  put-swap : put (put d p e) q f ≡ put (put d q f) p e
-  put-swap = front-first ∙ sym behind-first
+-- ---- words
 
 -- words put behind the first k from byte p on are read back there
 pub words-back : (d d′ ws : List ℕ) (p k : ℕ) → p + 4 * k ≤ length d → d′ ≡ put d (p + 4 * k) (bytesOf ws) → wordsFrom (drop p d′) k (k + length ws) ≡ ws
@@ -118,7 +74,7 @@ module _ (f : List ℕ) (s : Sections) (m : ℕ) (z : Sizes) (b : List ℕ) (v d
 
     pub next-put : take q b ++ (ys ++ drop (length b - q) (drop q b)) ≡ put b (depsAt z + 4 * done) (bytesOf (at (scopeAt (fileIn f s) m .vars) v .deps))
     next-put =
-        lent-behind b (bytesOf (keptDeps (rosterIn f s m) (unknownsIn f s m) name)) ys q (4 * done) (omega (arith, n .few, n .long)) (h .1)
+        lent-behind b (bytesOf (keptDeps (rosterIn f s m) (unknownsIn f s m) name)) ys q (4 * done) (h .1)
         ∙ ap₂ (λ (k : ℕ) (ws : List ℕ). put b (k + 4 * done) (bytesOf ws)) d (next-kept name e)
 
     module _ (b₁ : List ℕ) (g : b₁ ≡ put b (depsAt z + 4 * done) (bytesOf (at (scopeAt (fileIn f s) m .vars) v .deps))) where

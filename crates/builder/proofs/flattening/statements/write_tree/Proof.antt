@@ -4,8 +4,8 @@ use lib.ListN.{length-take, length-drop}
 use Rattle.builder.proofs.laws.Descents.{readable}
 use Rattle.builder.proofs.laws.Putting.{bearing-size, tree-put}
 use borrow.Author.Needs.{needs}
-use Rattle.builder.proofs.flattening.nodes.write_tree.Statement.{statement}
-use Rattle.builder.proofs.flattening.nodes.write_tree.Tie as tie
+use Rattle.builder.proofs.flattening.statements.write_tree.Statement.{statement}
+use Rattle.builder.proofs.flattening.statements.write_tree.Tie as tie
 
 node-requires : tie.Need-node-requires
 node-requires c κs = search needs

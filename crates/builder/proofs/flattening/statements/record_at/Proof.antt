@@ -1,12 +1,8 @@
 use native.Mathlib.Omega.{arith}
-use Prim.Native.Nat.{_*_}
 use Rattle.ast.proofs.Fronts.{lent-put}
 use borrow.Author.Needs.{needs}
-use Rattle.builder.proofs.flattening.records.record_behind.Statement.{statement}
-use Rattle.builder.proofs.flattening.records.record_behind.Tie as tie
-
-mul-start : tie.Need-mul-start
-mul-start c = search needs
+use Rattle.builder.proofs.flattening.statements.record_at.Statement.{statement}
+use Rattle.builder.proofs.flattening.statements.record_at.Tie as tie
 
 sub-put-record : tie.Need-sub-put-record
 sub-put-record c = search needs
@@ -25,14 +21,14 @@ same-length c = search needs
 
 returns : tie.Need-returns
 returns c =
-    let a = c .before .before .before .before .before .args in
-    lent-put (a .out .now) _ _ (32 * a .count) (omega (arith, c .before .before .before .before .before .pre .1)) (c .before .before .put-record .ensures)
+    let start = c .before .before .before .before .before in
+    let a = start .args in
+    lent-put (a .out .now) _ _ (a .at) (omega (arith, start .pre)) (c .before .before .put-record .ensures)
 
-pub record-behind-spec : {M : Type 1} → statement M
-record-behind-spec =
+pub record-at-spec : {M : Type 1} → statement M
+record-at-spec =
     tie.close
     (tie.spec
-    mul-start
     sub-put-record
     part-put-record-start
     part-put-record-end
