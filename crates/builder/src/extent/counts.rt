@@ -1,4 +1,5 @@
-// How big a build is: instances, flattened statements and flattened nodes, each counted as the descent goes and at most to a limit.
+// How big a build is: instances, flattened statements and flattened nodes, each counted as the descent goes and at most
+// to a limit.
 ghost use mathlib.Core.Path.{_≡_};
 ghost use mathlib.Core.List.{List, []};
 ghost use Prim.Native.Nat.{ℕ, _+_, _≤_, _<_};

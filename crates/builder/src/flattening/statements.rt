@@ -1,5 +1,5 @@
-// Flattening: in place of a submodel statement its model's own flattened statements come in, with replacements applied. One descent writes
-// their nodes and their records, each into its final place.
+// Flattening: in place of a submodel statement its model's own flattened statements come in, with replacements applied.
+// One descent writes their nodes and their records, each into its final place.
 ghost use mathlib.Core.Path.{_≡_};
 ghost use mathlib.Core.List.{List, [], _∷_};
 ghost use Prim.Native.Nat.{ℕ, _+_, _*_, _≤_, _<_};
