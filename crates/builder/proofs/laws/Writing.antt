@@ -9,7 +9,7 @@ use Rattle.ast.specs.Tree.{Span, Expr, Flat, equation, rate, size, flatSize}
 use Rattle.ast.specs.Words.{wordOf, spanFrom, bytesOf}
 use Rattle.ast.specs.Bytes.{put}
 use Rattle.ast.specs.Encode.{nodes, flatNodes, encode}
-use Rattle.ast.specs.Records.{kindOfStmt, leftTop, rightTop, firstStmt, stmtCount, stmtOf}
+use Rattle.ast.specs.Records.{kindOfStmt, leftTop, rightTop, firstStmt, stmtCount}
 use Rattle.ast.specs.Levels.{throughFlat}
 use Rattle.ast.specs.Rows.{levelsOf, read, spanning}
 use Rattle.ast.specs.Opens.{Open, contentsIn, fileIn}
@@ -24,7 +24,7 @@ use Rattle.builder.specs.Descent.{flatAt, broughtAt, RowsIn, RowsKept}
 use Rattle.builder.specs.Unfated.{unfatedWords, unfated, FlatsFit, FlatsPut}
 use Rattle.builder.specs.declared.flattening.statements.Written.{Written}
 use Rattle.builder.proofs.laws.OpenRecords.{model-is}
-use Rattle.builder.proofs.laws.Descents.{levels-kept, rest, rest-step, rest-end, rest-all}
+use Rattle.builder.proofs.laws.Descents.{rest, rest-next, rest-end, rest-all}
 use Rattle.builder.proofs.laws.Putting.{length-flats, flats-append}
 use Rattle.builder.proofs.laws.Recording.{length-unfated, records-append}
 
@@ -215,7 +215,6 @@ module _ (f : List ℕ) (s : Sections) (k m : ℕ) (rows₀ : List ℕ) (level :
 
   -- the statements before number i are written: there is room for those left, and once these are written all are
   pub record Writing (rows out : List ℕ) (total : Written) (i : ℕ) : Type 0 where
-    pub within : i ≤ stmtCount (getD (contentsIn f s .models) m [])
     pub long : length rows ≡ length rows₀
     pub kept : take (256 * level) rows ≡ take (256 * level) rows₀
     pub fit : RowsIn f s rows
@@ -227,7 +226,6 @@ module _ (f : List ℕ) (s : Sections) (k m : ℕ) (rows₀ : List ℕ) (level :
   writing-start ne fit fits =
       let e = rest-all (fileIn f s) (levelsOf (contentsIn f s .nodes) rows₀ level) k m ne in
       record {
-        within = omega arith;
         long = refl;
         kept = refl;
         fit = fit;
@@ -242,10 +240,7 @@ module _ (f : List ℕ) (s : Sections) (k m : ℕ) (rows₀ : List ℕ) (level :
       next = broughtAt f s rows level (λ j. flatten (fileIn f s) (k - 1) j) (first + i)
 
       left-next : left i ≡ next ++ left (i + 1)
-      left-next =
-          let d = stmtOf [] [] in
-          let c : i < length (modelAt (fileIn f s) m .stmts) = rw (model-is f s o m l .stmts-long) b in
-          rw (levels-kept (contentsIn f s .nodes) rows₀ rows level (h .kept), ef, ← model-is f s o m l .stmt i d b) (rest-step (fileIn f s) (levelsOf (contentsIn f s .nodes) rows₀ level) (k - 1) m i d c)
+      left-next = rest-next f s o rows₀ rows level (k - 1) m i first l (h .kept) b ef
 
       both-fit : FlatsFit total (next ++ left (i + 1)) (length out)
       both-fit = fits-same total (length out) (next ++ left (i + 1)) (left i) (sym left-next) (h .room)
@@ -259,7 +254,6 @@ module _ (f : List ℕ) (s : Sections) (k m : ℕ) (rows₀ : List ℕ) (level :
           → Writing rows′ out′ r (i + 1)
       writing-step rows′ out′ r (g, w) =
           record {
-            within = omega arith;
             long = w .0 ∙ h .long;
             kept = w .1 ∙ h .kept;
             fit = w .2;
