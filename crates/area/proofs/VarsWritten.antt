@@ -1,17 +1,17 @@
 -- The variables' records of an area written word by word: what a word put into one changes, and what stays.
-use mathlib.Core.Path.{_≡_, refl, ap, _∙_}
-use mathlib.Core.List.{List, [], _∷_, map}
-use Prim.Native.Nat.{ℕ, zero, suc, _+_, _*_, _/_, _%_, _≤_, _<_}
+use mathlib.Core.Path.{_≡_, refl, sym, ap, _∙_}
+use mathlib.Core.List.{List, [], _∷_, _++_, map}
+use Prim.Native.Nat.{ℕ, zero, suc, _+_, _-_, _*_, _/_, _%_, _≤_, _<_}
 use native.Mathlib.Omega.{arith}
 use native.Mathlib.Nat.{suc-mul}
-use lib.ListN.{length, take, drop, getD, set, length-drop, length-map}
-use lib.Seq.{take-set-le, take-set-lt, drop-set-lt, drop-set-add, getD-set-same, getD-set-other, map-set-same}
+use lib.ListN.{length, take, drop, getD, set, length-drop, length-map, length-set}
+use lib.Seq.{take-all, take-suc-set, take-set-le, take-set-lt, drop-drop, drop-set-lt, drop-set-add, getD-set-same, getD-set-other, map-set-same}
 use Rattle.ast.specs.Words.{words, records, section, wordOf}
 use Rattle.ast.specs.Bytes.{putWord}
 use Rattle.ast.proofs.Fields.{length-section}
 use Rattle.ast.proofs.Puts.{length-putWord}
 use Rattle.ast.proofs.ToBytes.{every-at, section-wide}
-use Rattle.area.specs.Sections.{varsAt, depsAt, areaVars, withWord, VarsAre, column}
+use Rattle.area.specs.Sections.{Grown, stmtsAt, varsAt, depsAt, areaVars, withWord, VarsAre, column}
 use Rattle.area.specs.declared.sections.Sizes.{Sizes}
 
 -- ---- a word among words
@@ -102,6 +102,25 @@ vars-then z b b₁ b₂ rs₁ rs₂ p q = record {
   records = q .records;
 }
 
+-- sizes that grow and grow again
+pub grown-then : (z r w : Sizes) → Grown z r → Grown r w → Grown z w
+grown-then z r w g h = record { nodes = h .nodes ∙ g .nodes; stmts = h .stmts ∙ g .stmts; vars = omega (arith, g .vars, h .vars); deps = h .deps ∙ g .deps }
+
+-- a change of some variables, and then one of as many or more
+pub vars-grow : (z r : Sizes) (b b₁ b₂ : List ℕ) (rs₁ rs₂ : List (List ℕ)) → Grown z r → VarsAre z b rs₁ b₁ → VarsAre r b₁ rs₂ b₂ → VarsAre r b rs₂ b₂
+unfolding stmtsAt varsAt depsAt
+vars-grow z r b b₁ b₂ rs₁ rs₂ g p q =
+    let same : varsAt r ≡ varsAt z = omega (arith, g .nodes, g .stmts) in
+    let more = 48 * (r .vars - z .vars) in
+    let end : depsAt r ≡ depsAt z + more = omega (arith, g .nodes, g .stmts, g .vars) in
+    let rest : (d : List ℕ) → drop (depsAt r) d ≡ drop more (drop (depsAt z) d) = λ d. ap (λ (n : ℕ). drop n d) end ∙ sym (drop-drop more (depsAt z) d) in
+    record {
+      front = q .front ∙ ap (λ (n : ℕ). take n b₁) same ∙ p .front ∙ ap (λ (n : ℕ). take n b) (sym same);
+      behind = q .behind ∙ rest b₁ ∙ ap (drop more) (p .behind) ∙ sym (rest b);
+      long = q .long ∙ p .long;
+      records = q .records;
+    }
+
 -- ---- columns of records with another word
 
 map-set : (f : List ℕ → ℕ) (rs : List (List ℕ)) (i : ℕ) (y : List ℕ) → map f (set rs i y) ≡ set (map f rs) i (f y)
@@ -127,13 +146,40 @@ unfolding column
 column-long z b k = length-map (areaVars b z) (λ r. wordOf r k) ∙ length-section 12 (z .vars) (varsAt z) b
 
 -- each has twelve words
-pub record-twelve : (z : Sizes) (b : List ℕ) (v : ℕ) → depsAt z ≤ length b → v < z .vars → length (getD (areaVars b z) v []) ≡ 12
+record-twelve : (z : Sizes) (b : List ℕ) (v : ℕ) → depsAt z ≤ length b → v < z .vars → length (getD (areaVars b z) v []) ≡ 12
 unfolding depsAt
 record-twelve z b v room h =
     every-at (λ r. length r ≡ 12) (areaVars b z) [] v (section-wide 12 (z .vars) (varsAt z) (48 * z .vars) (depsAt z) b (omega arith) refl room)
     (omega (arith, length-section 12 (z .vars) (varsAt z) b))
 
 -- a word put into one stands in its column
-pub column-put : (z : Sizes) (b b′ : List ℕ) (v k x : ℕ) → depsAt z ≤ length b → v < z .vars → k < 12 → VarsAre z b (withWord (areaVars b z) v k x) b′
+column-put : (z : Sizes) (b b′ : List ℕ) (v k x : ℕ) → depsAt z ≤ length b → v < z .vars → k < 12 → VarsAre z b (withWord (areaVars b z) v k x) b′
     → column k (areaVars b′ z) ≡ set (column k (areaVars b z)) v x
 column-put z b b′ v k x room h l p = ap (column k) (p .records) ∙ column-set (areaVars b z) v k x (omega (arith, record-twelve z b v room h))
+
+-- ---- one variable more
+
+-- the first k of n records
+first-records : (f : List ℕ → ℕ) (w k n : ℕ) (ws : List ℕ) → k ≤ n → take k (map f (records w n ws)) ≡ map f (records w k ws)
+unfolding records
+first-records f w zero n ws h = refl
+first-records f w (suc k) zero ws h = absurd (omega arith)
+first-records f w (suc k) (suc n) ws h = ap (λ (xs : List ℕ). f (take w ws) ∷ xs) (first-records f w k n (drop w ws) (omega arith))
+
+-- a column begins with that of fewer variables
+column-first : (z r : Sizes) (b : List ℕ) (k : ℕ) → Grown z r → take (z .vars) (column k (areaVars b r)) ≡ column k (areaVars b z)
+unfolding column section stmtsAt varsAt
+column-first z r b k g =
+    let same : varsAt r ≡ varsAt z = omega (arith, g .nodes, g .stmts) in
+    first-records (λ x. wordOf x k) 12 (z .vars) (r .vars) (words (drop (varsAt r) b)) (g .vars)
+    ∙ ap (λ (n : ℕ). map (λ x. wordOf x k) (records 12 (z .vars) (words (drop n b)))) same
+
+-- a word put into the record behind those of z stands behind their column
+pub column-next : (z r : Sizes) (b b′ : List ℕ) (k x : ℕ) → Grown z r → r .vars ≡ z .vars + 1 → depsAt r ≤ length b → k < 12 → VarsAre r b (withWord (areaVars b r) (z .vars) k x) b′
+    → column k (areaVars b′ r) ≡ column k (areaVars b z) ++ x ∷ []
+column-next z r b b′ k x g one room l p =
+    let long : length (column k (areaVars b r)) ≡ r .vars = column-long r b k in
+    column-put r b b′ (z .vars) k x room (omega arith) l p
+    ∙ sym (take-all (suc (z .vars)) (set (column k (areaVars b r)) (z .vars) x) (simp length-set (omega arith)))
+    ∙ take-suc-set (column k (areaVars b r)) (z .vars) x (omega arith)
+    ∙ ap (λ (xs : List ℕ). xs ++ x ∷ []) (column-first z r b k g)

@@ -14,6 +14,13 @@ pub record Small (z : Sizes) : Type 0 where
   pub vars : z .vars ≤ mostVariables
   pub deps : z .deps ≤ mostDeps
 
+-- Sizes r with as many variables as z or more, and all else as many as z.
+pub record Grown (z r : Sizes) : Type 0 where
+  pub nodes : r .nodes ≡ z .nodes
+  pub stmts : r .stmts ≡ z .stmts
+  pub vars : z .vars ≤ r .vars
+  pub deps : r .deps ≡ z .deps
+
 -- ---- words within a record
 
 -- The counts of the header, in front of time's bounds.

@@ -9,6 +9,7 @@ use lib.Ieee.{Float}
 use Rattle.functions.specs.Lists.{each, sumOf, times}
 use Rattle.ast.specs.Tree.{File, Flat, flatSize}
 use Rattle.ast.specs.Words.{bytesOf}
+use Rattle.ast.specs.Bytes.{put}
 use Rattle.ast.specs.Encode.{flatNodes, encode}
 use Rattle.ast.specs.Opens.{Open, fileIn}
 use Rattle.ast.specs.declared.sections.Sections.{Sections}
@@ -166,16 +167,13 @@ pub record PartsLaid (f : File) (m : ℕ) (z : Sizes) (rs vs : List (List ℕ)) 
   pub deps : part (depsAt z) (4 * z .deps) b ≡ bytesOf (each (λ x. x .deps) (scopeAt f m .vars))
 
 -- The variables laid into an area `b` behind n nodes and q statements: the sizes then, and the area with the variables' records and, behind them, their
--- dependents, all before them as it was.
+-- dependents, all else as it was.
 pub record VarsLaid (f : File) (m n q : ℕ) (b : List ℕ) (r : Sizes) (b′ : List ℕ) : Type 0 where
   pub nodes : r .nodes ≡ n
   pub stmts : r .stmts ≡ q
   pub vars : r .vars ≡ length (scopeAt f m .vars)
   pub deps : r .deps ≡ length (each (λ x. x .deps) (scopeAt f m .vars))
-  pub long : length b′ ≡ length b
-  pub before : take (varsAt r) b′ ≡ take (varsAt r) b
-  pub records : part (varsAt r) (48 * r .vars) b′ ≡ encode (unheldRecords (scopeAt f m .vars))
-  pub listed : part (depsAt r) (4 * r .deps) b′ ≡ bytesOf (each (λ x. x .deps) (scopeAt f m .vars))
+  pub bytes : b′ ≡ put (put b (depsAt r) (bytesOf (each (λ x. x .deps) (scopeAt f m .vars)))) (varsAt r) (encode (unheldRecords (scopeAt f m .vars)))
 
 -- before fates are known, with them, and with what each variable holds
 abbrev pub Unfated : File → ℕ → Sizes → List ℕ → Type 0

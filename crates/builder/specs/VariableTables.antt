@@ -5,16 +5,16 @@ use mathlib.Core.Bool.{cond}
 use mathlib.Core.List.{List, [], _∷_, _++_}
 use lib.Dec.{eqb}
 use lib.ListN.{length, take, drop, getD}
-use Rattle.functions.specs.Lists.{all, each, member, plusOne}
+use Rattle.functions.specs.Lists.{each, member, plusOne}
 use Rattle.ast.specs.Tree.{Unknown}
 use Rattle.ast.specs.Bytes.{put}
 use Rattle.ast.specs.Words.{words, bytesOf}
 use Rattle.ast.specs.Records.{unknownOf}
 use Rattle.ast.specs.Opens.{Open, contentsIn, fileIn}
 use Rattle.ast.specs.declared.sections.Sections.{Sections}
-use Rattle.area.specs.Sections.{Small, depsAt}
+use Rattle.area.specs.Sections.{Small, varsAt}
 use Rattle.area.specs.declared.sections.Sizes.{Sizes}
-use Rattle.definitions.specs.Numbers.{mostNames, mostVariables}
+use Rattle.definitions.specs.Numbers.{mostNames, mostVariables, variableLength}
 use Rattle.definitions.specs.Variables as vars
 use Rattle.definitions.specs.Variables.{variableNames}
 use Rattle.definitions.specs.Flatten.{modelAt}
@@ -26,18 +26,6 @@ wordsFrom bytes first end = take (end - first) (drop first (words bytes))
 
 -- ---- the variables' names, plus 1, by number, and their numbers, plus 1 or 0, by name
 
--- A count of variables, the table of their names and that of their numbers.
-pub record Roster : Type 0 where
-  pub count : ℕ
-  pub names : List ℕ
-  pub numbers : List ℕ
-
-abbrev pub rostered : ℕ → List ℕ → List ℕ → Roster
-rostered count names numbers = record { count = count; names = names; numbers = numbers }
-
-unfoldable pub listed : Roster → List ℕ
-listed r = take (r .count) (r .names)
-
 -- a name that is new goes behind those there are
 unfoldable pub declareOne : List ℕ → ℕ → List ℕ
 declareOne vs n = cond (member (suc n) vs) vs (vs ++ suc n ∷ [])
@@ -45,13 +33,12 @@ declareOne vs n = cond (member (suc n) vs) vs (vs ++ suc n ∷ [])
 pub record Numbers (vs table : List ℕ) : Type 0 where
   pub number : (n : ℕ) → n < mostNames → getD table n 0 ≡ plusOne (vars.numberOf vs n)
 
-pub record Listing (vs : List ℕ) (r : Roster) : Type 0 where
-  pub few : r .count ≤ mostVariables
-  pub count : r .count ≡ length vs
-  pub names : take (r .count) (r .names) ≡ vs
-  pub numbers : Numbers vs (r .numbers)
-  pub room : length (r .names) ≡ mostVariables
-  pub every : length (r .numbers) ≡ mostNames
+-- The variables vs, by their names and by the table of their numbers.
+pub record Listing (vs names table : List ℕ) : Type 0 where
+  pub are : names ≡ vs
+  pub few : length vs ≤ mostVariables
+  pub numbers : Numbers vs table
+  pub every : length table ≡ mostNames
 
 -- the unknowns of model m, and the names of its variables
 unfoldable pub unknownsIn : List ℕ → Sections → ℕ → List Unknown
@@ -95,5 +82,4 @@ pub record Numbered (f : List ℕ) (s : Sections) (m : ℕ) (numbers : List ℕ)
 -- An area with room for the records of as many variables as there may be.
 pub record RosterRoom (z : Sizes) (b : List ℕ) : Type 0 where
   pub small : Small z
-  pub all : z .vars ≡ mostVariables
-  pub long : depsAt z ≤ length b
+  pub long : varsAt z + 4 * variableLength * mostVariables ≤ length b

@@ -19,7 +19,7 @@ use Rattle.builder.proofs.laws.HeldSteps.{var-twelve, stmts-stay}
 -- ---- a section as bytes
 
 -- its records are the bytes that they were read from
-pub section-encoded : (n p : ℕ) (d : List ℕ) → p + 48 * n ≤ length d → AllBytes d → encode (section 12 n p d) ≡ take (48 * n) (drop p d)
+section-encoded : (n p : ℕ) (d : List ℕ) → p + 48 * n ≤ length d → AllBytes d → encode (section 12 n p d) ≡ take (48 * n) (drop p d)
 unfolding encode each section records
 section-encoded zero p d h bs = refl
 section-encoded (suc n) p d h bs =

@@ -3,7 +3,7 @@ use mathlib.Core.Path.{_≡_, sym, ap, _∙_}
 use mathlib.Core.List.{List}
 use Prim.Native.Nat.{ℕ, _+_, _*_, _≤_, _<_}
 use native.Mathlib.Omega.{arith}
-use lib.ListN.{length, take, drop}
+use lib.ListN.{length}
 use Rattle.functions.specs.Lists.{each, sumOf}
 use Rattle.ast.specs.Tree.{File, flatSize}
 use Rattle.ast.specs.Bytes.{put}
@@ -18,17 +18,15 @@ use Rattle.area.specs.Sections.{stmtsAt, varsAt, depsAt, part}
 use Rattle.builder.specs.Bounding.{Bounded, Floating}
 use Rattle.builder.specs.Root.{flatsOf, scopeAt, timeAt, ExtentOf, VarsRoom, VarsLaid, SizesOf, Known, Rooted, Unfated}
 use Rattle.area.specs.declared.sections.Sizes.{Sizes}
-use Rattle.builder.proofs.laws.PutWords.{kept-few}
 use Rattle.builder.proofs.laws.Putting.{length-flats}
 use Rattle.area.proofs.Parts.{part-put, part-before}
-use Rattle.area.proofs.SectionsKept.{part-take}
-use Rattle.builder.proofs.laws.RootTables.{model-written}
 use Rattle.builder.proofs.laws.OpenRecords.{model-is}
 use Rattle.definitions.proofs.Counts.{length-variables}
 use Rattle.ast.specs.declared.numbers.Bounds as floats
 use Rattle.definitions.proofs.Mosts.{few-flats}
 use Rattle.area.proofs.Puts.{length-put}
 use Rattle.builder.proofs.laws.Recording.{length-unfated}
+use Rattle.builder.proofs.laws.VarsLaid.{deps-few, laid-long, laid-before, laid-records, laid-deps}
 
 -- ---- a model that is not too big
 
@@ -77,24 +75,21 @@ laid-out : (F : File) (m n q : ℕ) (z : Sizes) (b₀ b₁ b₂ : List ℕ) → 
     → b₁ ≡ put (put b₀ 40 (encode (each flatNodes (flatsOf F m)))) (40 + 32 * z .nodes) (encode (unfated 0 (flatsOf F m)))
     → VarsLaid F m n q b₁ z b₂
     → Unfated F m z b₂
-unfolding depsAt varsAt stmtsAt part
+unfolding depsAt varsAt stmtsAt
 laid-out F m n q z b₀ b₁ b₂ o l e₁ v =
     let hn : z .nodes ≤ 1024 = o .small .nodes in
     let hq : length (flatsOf F m) ≤ 256 = omega (arith, o .stmts, o .small .stmts) in
+    let room : depsAt z + 4 * z .deps ≤ length b₁ = omega (arith, flats-length F m (z .nodes) b₀ b₁ (o .nodes) hn hq l e₁, o .small .nodes, o .small .stmts, o .small .vars, o .small .deps) in
     record {
-      long = v .long ∙ flats-length F m (z .nodes) b₀ b₁ (o .nodes) hn hq l e₁;
-      nodes = in-front 40 (32 * z .nodes) (omega arith) ∙ flats-nodes F m (z .nodes) b₀ b₁ (o .nodes) hn hq l e₁;
+      long = laid-long F m n q b₁ z b₂ v room ∙ flats-length F m (z .nodes) b₀ b₁ (o .nodes) hn hq l e₁;
+      nodes = laid-before F m n q b₁ z b₂ v room 40 (32 * z .nodes) (omega arith) ∙ flats-nodes F m (z .nodes) b₀ b₁ (o .nodes) hn hq l e₁;
       stmts =
-          in-front (stmtsAt z) (32 * z .stmts) (omega arith)
+          laid-before F m n q b₁ z b₂ v room (stmtsAt z) (32 * z .stmts) (omega arith)
           ∙ ap (λ (k : ℕ). part (stmtsAt z) (32 * k) b₁) (o .stmts)
           ∙ flats-stmts F m (z .nodes) b₀ b₁ (o .nodes) hn hq l e₁;
-      vars = v .records;
-      deps = v .listed;
+      vars = laid-records F m n q b₁ z b₂ v room;
+      deps = laid-deps F m n q b₁ z b₂ v room;
     }
-  where
-    -- what stands in front of the variables stays
-    in-front : (at k : ℕ) → at + k ≤ varsAt z → part at k b₂ ≡ part at k b₁
-    in-front at k h = part-take at k (varsAt z) b₂ h ∙ ap (λ (b : List ℕ). take k (drop at b)) (v .before) ∙ sym (part-take at k (varsAt z) b₁ h)
 
 -- there is room for nodes and statements
 pub flats-needs : (f : List ℕ) (s : Sections) (m i q n : ℕ) → ExtentOf (fileIn f s) m i q n → (b : List ℕ) → length b ≡ 55384
@@ -106,16 +101,13 @@ flats-needs f s m i q n x b l =
 -- ---- what is known of a root model
 
 module _ (f : List ℕ) (s : Sections) (m : ℕ) (o : Open f s) (l : m < s .counts .models) where
-  -- few enough variables and dependents
+  -- few enough variables
   vars-few : length (scopeAt (fileIn f s) m .vars) ≤ 129
   unfolding scopeOf
   vars-few =
       let us = modelAt (fileIn f s) m .unknowns in
       let k = model-is f s o m l in
       omega (arith, length-variables (fileIn f s .names) us, k .unknowns-long, k .unknowns-within, o .laid .within .unknowns)
-
-  deps-few : length (each (λ x. x .deps) (scopeAt (fileIn f s) m .vars)) ≤ 1024
-  deps-few = omega (arith, ap length (model-written f s m), kept-few f s o m)
 
   module _ (classes calls : List ℕ) (i q n : ℕ) (t : checking.Called f s classes calls) (h : length classes ≡ 256) (x : ExtentOf (fileIn f s) m i q n)
       (b₀ b₁ : List ℕ) (l₀ : length b₀ ≡ 55384) (e₁ : b₁ ≡ put (put b₀ 40 (encode (each flatNodes (flatsOf (fileIn f s) m)))) (40 + 32 * n) (encode (unfated 0 (flatsOf (fileIn f s) m))))
@@ -135,7 +127,7 @@ module _ (f : List ℕ) (s : Sections) (m : ℕ) (o : Open f s) (l : m < s .coun
 
       module _ (numbers b₂ : List ℕ) (z : Sizes) (v : VarsLaid (fileIn f s) m n q b₁ z b₂) (w : Numbers (rosterIn f s m) numbers) (long : length numbers ≡ 256) where
         sizes : SizesOf (fileIn f s) m z
-        sizes = sizes-known (fileIn f s) m i q n b₁ z b₂ x vars-few deps-few v
+        sizes = sizes-known (fileIn f s) m i q n b₁ z b₂ x vars-few (deps-few f s o m) v
 
         pub model-known : Known f s m classes numbers z
         model-known = record { is-open = o; model = l; classed = t .classes; classes-long = h; numbered = w; numbers-long = long; sizes = sizes }

@@ -8,7 +8,8 @@ use lib.Dec.{eqb, ltb}
 use lib.ListN.{length, take, drop, getD, length-append, take-append-drop, List·getD-map}
 use lib.Seq.{take-at, drop-at, drop-cons}
 use Rattle.functions.specs.Lists.{all, each, flag, reaches}
-use Rattle.ast.specs.Words.{words, wordOf, records, section, bytesOf}
+use Rattle.ast.specs.Tree.{File}
+use Rattle.ast.specs.Words.{words, wordOf, bytesOf}
 use Rattle.ast.specs.Bytes.{put}
 use Rattle.ast.specs.Encode.{encode}
 use Rattle.ast.specs.Opens.{Open, fileIn}
@@ -21,19 +22,19 @@ use Rattle.definitions.proofs.ListLaws.{getD-map}
 use Rattle.area.specs.Sections.{Small, stmtsAt, varsAt, depsAt, areaVars, column, part, VarsAre}
 use Rattle.area.specs.declared.sections.Sizes.{Sizes}
 use Rattle.area.proofs.Parts.{part-put, part-before, part-behind}
-use Rattle.area.proofs.Puts.{length-put}
-use Rattle.builder.specs.VariableTables.{rostered, Listing, RosterRoom, unknownsIn, rosterIn}
+use Rattle.area.proofs.Puts.{length-put, put-alike, drop-behind, rest-put}
+use Rattle.area.proofs.VarsWritten.{vars-own, column-long}
+use Rattle.builder.specs.VariableTables.{Listing, unknownsIn, rosterIn}
 use Rattle.builder.specs.Allocating.{namesIn}
 use Rattle.builder.specs.Reaching.{depsIn, marksIn, timedBy, timedFrom, DepsIn}
 use Rattle.builder.specs.VarRecords.{isTime, unheldWords, unheldFrom, unheldRecords, untimedRecords}
 use Rattle.builder.specs.Root.{scopeAt, VarsRoom, VarsNamed, VarsLaid}
-use Rattle.builder.proofs.laws.Rosters.{listing-name}
 use Rattle.builder.proofs.laws.PutWords.{each-take, each-fits, kept-few}
 use Rattle.builder.proofs.laws.KeptDependents.{kept-below, variable-deps, count-variables, reaches-alike}
 use Rattle.builder.proofs.laws.RootTables.{model-written, vars-count}
-use Rattle.builder.proofs.laws.FateRecords.{AllBytes, record-placed}
+use Rattle.builder.proofs.laws.FateRecords.{AllBytes}
 use Rattle.builder.proofs.laws.FlatsBack.{section-read}
-use Rattle.builder.proofs.laws.HeldRecords.{section-encoded}
+use Rattle.builder.proofs.laws.HeldRecords.{vars-put}
 use Rattle.builder.proofs.laws.VarAnswers.{from-twelves, length-from, length-twelves, record-at}
 use Rattle.builder.proofs.laws.VarColumns.{twelves-wide}
 
@@ -64,6 +65,16 @@ run-of vs v l =
     ∙ ap (take (length (x .deps))) (drop-at (each ds (take v vs)) (x .deps ++ r) (length (each ds (take v vs))) refl)
     ∙ take-at (x .deps) r (length (x .deps)) refl
 
+-- ---- how many bytes the variables take
+
+-- their dependents
+length-listed : (vs : List Variable) (n : ℕ) → n ≡ length (each ds vs) → length (bytesOf (each ds vs)) ≡ 4 * n
+length-listed vs n e = length-bytes (each ds vs) ∙ ap (λ (k : ℕ). 4 * k) (sym e)
+
+-- their records
+length-recorded : (timed : ℕ → Bool) (vs : List Variable) (n : ℕ) → n ≡ length vs → length (encode (unheldFrom timed 0 0 vs)) ≡ 48 * n
+length-recorded timed vs n e = length-twelves (unheldFrom timed 0 0 vs) (from-twelves timed 0 0 vs) ∙ ap (λ (k : ℕ). 48 * k) (length-from timed 0 0 vs ∙ sym e)
+
 -- ---- marks of time-dependence
 
 -- word 7 of each record
@@ -92,38 +103,6 @@ module _ (f : List ℕ) (s : Sections) (o : Open f s) (m : ℕ) where
       let e : getD (variablesOf (fileIn f s .names) us) v noVariable ≡ variable (fileIn f s .names) ns us (getD ns v 0) = getD-map (variable (fileIn f s .names) ns us) ns v 0 noVariable (omega (arith, c)) in
       (sym (ap (λ (x : Variable). x .name) e), rw c (ap (all (λ d. ltb d (length ns))) (variable-deps (fileIn f s .names) us v (omega (arith, c))) ∙ kept-below ns us (getD ns v 0)))
 
-  -- ---- named
-
-  -- there is room for as many as there may be
-  pub roster-room : (n q : ℕ) (b : List ℕ) → VarsRoom n q b → RosterRoom (record { nodes = n; stmts = q; vars = 129; deps = 0 }) b
-  unfolding stmtsAt varsAt depsAt
-  roster-room n q b room = record {
-    small = record { nodes = room .nodes; stmts = room .stmts; vars = omega arith; deps = omega arith };
-    all = refl;
-    long = omega (arith, room .long, room .nodes, room .stmts);
-  }
-
-  module _ (n q : ℕ) (b b₁ numbers : List ℕ) (k : ℕ) (room : VarsRoom n q b)
-      (l : Listing (rosterIn f s m) (rostered k (namesIn b₁ (record { nodes = n; stmts = q; vars = 129; deps = 0 })) numbers)) (long : length b₁ ≡ length b) where
-    pub vars-named : VarsNamed (fileIn f s) m (record { nodes = n; stmts = q; vars = k; deps = 0 }) b₁
-    unfolding stmtsAt varsAt depsAt column wordOf
-    vars-named = record {
-      small = record { nodes = room .nodes; stmts = room .stmts; vars = l .few; deps = omega arith };
-      vars = l .count ∙ sym (vars-count f s m);
-      long = omega (arith, room .long, room .nodes, room .stmts, l .few);
-      named = λ v h. same v h ∙ listing-name (rosterIn f s m) _ l v h ∙ variable-is v (omega (arith, l .count, vars-count f s m)) .0;
-    }
-      where
-        same : (v : ℕ) → v < k → getD (namesIn b₁ (record { nodes = n; stmts = q; vars = k; deps = 0 })) v 0 ≡ getD (namesIn b₁ (record { nodes = n; stmts = q; vars = 129; deps = 0 })) v 0
-        same v h =
-            List·getD-map (λ r. getD r 0 0) (section 12 k (40 + 32 * n + 32 * q) b₁) v []
-            ∙ ap (λ (r : List ℕ). getD r 0 0) (record-placed 12 k (40 + 32 * n + 32 * q) v b₁ h ∙ sym (record-placed 12 129 (40 + 32 * n + 32 * q) v b₁ (omega (arith, l .few))))
-            ∙ sym (List·getD-map (λ r. getD r 0 0) (section 12 129 (40 + 32 * n + 32 * q) b₁) v [])
-
-    -- with the dependents counted
-    pub sizes-small : (d : ℕ) → d ≡ length (each ds vs) → Small (record { nodes = n; stmts = q; vars = k; deps = d })
-    sizes-small d e = record { nodes = room .nodes; stmts = room .stmts; vars = l .few; deps = omega (arith, e, deps-few) }
-
   -- ---- written
 
   module _ (z : Sizes) (b₁ b₂ : List ℕ) (small : Small z) (vars : z .vars ≡ length vs) (deps : z .deps ≡ length (each ds vs)) (room : depsAt z + 4096 ≤ length b₁)
@@ -131,17 +110,14 @@ module _ (f : List ℕ) (s : Sections) (o : Open f s) (m : ℕ) where
     abbrev with-deps : List ℕ
     with-deps = put b₁ (depsAt z) (bytesOf (each ds vs))
 
-    deps-long : length (bytesOf (each ds vs)) ≡ 4 * z .deps
-    deps-long = length-bytes (each ds vs) ∙ ap (λ (n : ℕ). 4 * n) (sym deps)
-
     records-long : length (encode (untimedRecords vs)) ≡ 48 * z .vars
     unfolding untimedRecords
-    records-long = length-twelves (untimedRecords vs) (from-twelves isTime 0 0 vs) ∙ ap (λ (n : ℕ). 48 * n) (length-from isTime 0 0 vs ∙ sym vars)
+    records-long = length-recorded isTime vs (z .vars) vars
 
     with-deps-long : length with-deps ≡ length b₁
-    with-deps-long = length-put b₁ (bytesOf (each ds vs)) (depsAt z) (omega (arith, deps-long, small .deps, room))
+    with-deps-long = length-put b₁ (bytesOf (each ds vs)) (depsAt z) (omega (arith, length-listed vs (z .deps) deps, small .deps, room))
 
-    pub written-long : length b₂ ≡ length b₁
+    written-long : length b₂ ≡ length b₁
     unfolding depsAt
     written-long = ap length e ∙ length-put with-deps (encode (untimedRecords vs)) (varsAt z) (omega (arith, records-long, with-deps-long, room)) ∙ with-deps-long
 
@@ -157,7 +133,15 @@ module _ (f : List ℕ) (s : Sections) (o : Open f s) (m : ℕ) where
     written-deps =
         ap (part (depsAt z) (4 * z .deps)) e
         ∙ part-behind (depsAt z) (4 * z .deps) (varsAt z) with-deps (encode (untimedRecords vs)) (omega (arith, records-long)) (omega (arith, with-deps-long, room))
-        ∙ part-put (depsAt z) (4 * z .deps) b₁ (bytesOf (each ds vs)) (omega (arith, room)) deps-long
+        ∙ part-put (depsAt z) (4 * z .deps) b₁ (bytesOf (each ds vs)) (omega (arith, room)) (length-listed vs (z .deps) deps)
+
+    -- from the dependents on
+    written-rest : drop (depsAt z) b₂ ≡ bytesOf (each ds vs) ++ drop (length (bytesOf (each ds vs))) (drop (depsAt z) b₁)
+    unfolding depsAt
+    written-rest =
+        ap (drop (depsAt z)) e
+        ∙ drop-behind with-deps (encode (untimedRecords vs)) (varsAt z) (depsAt z) (omega (arith, records-long)) (omega (arith, with-deps-long, room))
+        ∙ rest-put b₁ (bytesOf (each ds vs)) (depsAt z) (omega (arith, room))
 
     -- the records
     written-vars : areaVars b₂ z ≡ untimedRecords vs
@@ -186,7 +170,7 @@ module _ (f : List ℕ) (s : Sections) (o : Open f s) (m : ℕ) where
         rw (all-deps, first, count) (run-of vs v l)
 
     -- what the rounds of marks ask
-    pub written-in : DepsIn z b₂
+    written-in : DepsIn z b₂
     unfolding at
     written-in = record {
       small = small;
@@ -198,7 +182,7 @@ module _ (f : List ℕ) (s : Sections) (o : Open f s) (m : ℕ) where
       below = λ v h. rw (deps-are v (omega (arith, vars)), vars) (variable-is v (omega (arith, vars)) .1);
     }
 
-    pub t-marked : (v : ℕ) → v < z .vars → getD (marksIn b₂ z) v 0 ≡ flag (eqb v 0)
+    t-marked : (v : ℕ) → v < z .vars → getD (marksIn b₂ z) v 0 ≡ flag (eqb v 0)
     unfolding unheldWords wordOf isTime
     t-marked v h = word-at 7 v (omega (arith, vars))
 
@@ -214,17 +198,119 @@ module _ (f : List ℕ) (s : Sections) (o : Open f s) (m : ℕ) where
           ap (λ (b : Bool). eqb j 0 || b) (reaches-alike (depsIn b₂ z) (λ i. at vs i .deps) (z .vars) (z .vars) j 0 (λ v h. deps-are v (omega (arith, vars))) (λ v h. written-in .below v h) (omega (arith, vars))
           ∙ ap (λ (k : ℕ). reaches (λ i. at vs i .deps) k j 0) vars))
 
-      -- the variables are laid
-      pub laid : (n q : ℕ) (b : List ℕ) → z .nodes ≡ n → z .stmts ≡ q → length b₁ ≡ length b → take (varsAt z) b₁ ≡ take (varsAt z) b → VarsLaid (fileIn f s) m n q b z b₃
-      unfolding depsAt part
-      laid n q b en eq long front =
+      -- the variables are laid into an area that was as b₁ but for their records
+      laid : (n q : ℕ) (b : List ℕ) → z .nodes ≡ n → z .stmts ≡ q → length b₁ ≡ length b → take (varsAt z) b₁ ≡ take (varsAt z) b → drop (depsAt z) b₁ ≡ drop (depsAt z) b
+          → VarsLaid (fileIn f s) m n q b z b₃
+      unfolding depsAt part unheldRecords
+      laid n q b en eq long front behind =
+          let listed = bytesOf (each ds vs) in
+          let records = encode (unheldRecords vs) in
+          let end : varsAt z + length records ≡ depsAt z = omega (arith, length-recorded (timeDependent vs) vs (z .vars) vars) in
+          let before : take (varsAt z) b₂ ≡ take (varsAt z) (put b (depsAt z) listed) =
+          written-front ∙ front ∙ sym (part-before 0 (varsAt z) (depsAt z) b listed (omega arith) (omega (arith, long, room))) in
+          let rest : drop (depsAt z) b₂ ≡ drop (depsAt z) (put b (depsAt z) listed) =
+          written-rest ∙ ap (λ (x : List ℕ). listed ++ drop (length listed) x) behind ∙ sym (rest-put b listed (depsAt z) (omega (arith, long, room))) in
           record {
             nodes = en;
             stmts = eq;
             vars = vars;
             deps = deps;
-            long = r .long ∙ written-long ∙ long;
-            before = r .front ∙ written-front ∙ front;
-            records = sym (section-encoded (z .vars) (varsAt z) b₃ (omega (arith, r .long, written-long, room)) bs) ∙ ap encode marked-vars;
-            listed = ap (take (4 * z .deps)) (r .behind) ∙ written-deps;
+            bytes =
+                vars-put z b₂ b₃ (areaVars b₃ z) (omega (arith, written-long, room)) bs (vars-own z b₂ b₃ _ r)
+                ∙ ap (λ (rs : List (List ℕ)). put b₂ (varsAt z) (encode rs)) marked-vars
+                ∙ put-alike b₂ (put b (depsAt z) listed) records (varsAt z) before (ap (λ (k : ℕ). drop k b₂) end ∙ rest ∙ ap (λ (k : ℕ). drop k (put b (depsAt z) listed)) (sym end));
           }
+
+  -- ---- from where they are listed on
+
+  module _ (n q : ℕ) (b b₁ numbers : List ℕ) (r : Sizes) (room : VarsRoom n q b) (l : Listing (rosterIn f s m) (namesIn b₁ r) numbers)
+      (en : r .nodes ≡ n) (eq : r .stmts ≡ q) (none : r .deps ≡ 0) (w : VarsAre r b (areaVars b₁ r) b₁) where
+    vars-listed : r .vars ≡ length (rosterIn f s m)
+    vars-listed = sym (column-long r b₁ 0) ∙ ap length (l .are)
+
+    -- their records have their names
+    pub vars-named : VarsNamed (fileIn f s) m r b₁
+    unfolding stmtsAt varsAt depsAt
+    vars-named = record {
+      small = record { nodes = omega (arith, en, room .nodes); stmts = omega (arith, eq, room .stmts); vars = omega (arith, vars-listed, l .few); deps = omega (arith, none) };
+      vars = vars-listed ∙ sym (vars-count f s m);
+      long = omega (arith, room .long, room .nodes, room .stmts, vars-listed, l .few, en, eq, w .long);
+      named = λ v h. ap (λ (xs : List ℕ). getD xs v 0) (l .are) ∙ variable-is v (omega (arith, vars-listed, vars-count f s m)) .0;
+    }
+
+    module _ (d : ℕ) (b₂ : List ℕ) (count : d ≡ length (each ds vs)) (e : b₂ ≡ put (put b₁ (depsAt r) (bytesOf (each ds vs))) (varsAt r) (encode (untimedRecords vs))) where
+      -- the sizes with the dependents counted
+      abbrev z : Sizes
+      z = record { nodes = n; stmts = q; vars = r .vars; deps = d }
+
+      small : Small z
+      small = record { nodes = room .nodes; stmts = room .stmts; vars = vars-named .small .vars; deps = omega (arith, count, deps-few) }
+
+      -- the sections begin where they did
+      vars-there : varsAt r ≡ varsAt z
+      unfolding stmtsAt varsAt
+      vars-there = omega (arith, en, eq)
+
+      deps-there : depsAt r ≡ depsAt z
+      unfolding stmtsAt varsAt depsAt
+      deps-there = omega (arith, en, eq)
+
+      room-there : depsAt z + 4096 ≤ length b₁
+      room-there = omega (arith, vars-named .long, deps-there)
+
+      bytes-there : b₂ ≡ put (put b₁ (depsAt z) (bytesOf (each ds vs))) (varsAt z) (encode (untimedRecords vs))
+      bytes-there = e ∙ ap₂ (λ (p k : ℕ). put (put b₁ p (bytesOf (each ds vs))) k (encode (untimedRecords vs))) deps-there vars-there
+
+      -- what the rounds of marks ask
+      pub marks-needs : DepsIn z b₂ × ((v : ℕ) → v < z .vars → getD (marksIn b₂ z) v 0 ≡ flag (eqb v 0))
+      marks-needs = (written-in z b₁ b₂ small (vars-named .vars) count room-there bytes-there, t-marked z b₁ b₂ small (vars-named .vars) count room-there bytes-there)
+
+      -- they are laid once those that reach t are marked
+      pub vars-laid : (b₃ : List ℕ) → AllBytes b₃ → VarsAre z b₂ (timedFrom (timedBy b₂ z (z .vars)) 0 (areaVars b₂ z)) b₃ → VarsLaid (fileIn f s) m n q b z b₃
+      vars-laid b₃ bs marked =
+          laid z b₁ b₂ small (vars-named .vars) count room-there bytes-there b₃ bs marked n q b refl refl (w .long) (rw vars-there at (w .front)) (rw deps-there at (w .behind))
+
+-- ---- what an area has in which they are laid
+
+module _ (f : File) (m n q : ℕ) (b : List ℕ) (z : Sizes) (b′ : List ℕ) (v : VarsLaid f m n q b z b′) (room : depsAt z + 4 * z .deps ≤ length b) where
+  abbrev listed : List ℕ
+  listed = bytesOf (each ds (scopeAt f m .vars))
+
+  abbrev recorded : List ℕ
+  recorded = encode (unheldRecords (scopeAt f m .vars))
+
+  listed-long : length listed ≡ 4 * z .deps
+  listed-long = length-listed (scopeAt f m .vars) (z .deps) (v .deps)
+
+  recorded-long : length recorded ≡ 48 * z .vars
+  unfolding unheldRecords
+  recorded-long = length-recorded (timeDependent (scopeAt f m .vars)) (scopeAt f m .vars) (z .vars) (v .vars)
+
+  with-listed : length (put b (depsAt z) listed) ≡ length b
+  with-listed = length-put b listed (depsAt z) (omega (arith, listed-long, room))
+
+  -- as many bytes
+  pub laid-long : length b′ ≡ length b
+  unfolding depsAt
+  laid-long = ap length (v .bytes) ∙ length-put (put b (depsAt z) listed) recorded (varsAt z) (omega (arith, recorded-long, with-listed, room)) ∙ with-listed
+
+  -- what stood in front of the variables
+  pub laid-before : (at k : ℕ) → at + k ≤ varsAt z → part at k b′ ≡ part at k b
+  unfolding depsAt
+  laid-before at k h =
+      ap (part at k) (v .bytes)
+      ∙ part-before at k (varsAt z) (put b (depsAt z) listed) recorded h (omega (arith, with-listed, room))
+      ∙ part-before at k (depsAt z) b listed (omega arith) (omega (arith, room))
+
+  -- their records
+  pub laid-records : part (varsAt z) (48 * z .vars) b′ ≡ encode (unheldRecords (scopeAt f m .vars))
+  unfolding depsAt
+  laid-records = ap (part (varsAt z) (48 * z .vars)) (v .bytes) ∙ part-put (varsAt z) (48 * z .vars) (put b (depsAt z) listed) recorded (omega (arith, with-listed, room)) recorded-long
+
+  -- their dependents
+  pub laid-deps : part (depsAt z) (4 * z .deps) b′ ≡ bytesOf (each (λ x. x .deps) (scopeAt f m .vars))
+  unfolding depsAt
+  laid-deps =
+      ap (part (depsAt z) (4 * z .deps)) (v .bytes)
+      ∙ part-behind (depsAt z) (4 * z .deps) (varsAt z) (put b (depsAt z) listed) recorded (omega (arith, recorded-long)) (omega (arith, with-listed, room))
+      ∙ part-put (depsAt z) (4 * z .deps) b listed (omega (arith, room)) listed-long

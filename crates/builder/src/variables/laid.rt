@@ -10,7 +10,6 @@ ghost use Rattle.builder.specs.Root.{VarsRoom, VarsLaid};
 use crate::variables::reaching::reach_time;
 use crate::variables::records::write_vars;
 use crate::variables::roster::roster_of;
-use area::layout::MOST_VARS;
 use area::sections::Sizes;
 use ast::layout::MOST_NAMES;
 use ast::sections::Sections;
@@ -32,24 +31,12 @@ pub fn lay_vars(
         × (Numbers (rosterIn (now (f .entry)) s m) (now (numbers .exit))
         × (length (now (numbers .exit)) ≡ mostNames)) ⌝ }
 {
-    let room = Sizes {
-        nodes: n,
-        stmts: q,
-        vars: MOST_VARS,
-        deps: 0,
-    };
-    let vars = roster_of(f, s, classes, m, area, room, numbers);
-    let named = Sizes {
-        nodes: n,
-        stmts: q,
-        vars: vars,
-        deps: 0,
-    };
+    let named = roster_of(f, s, classes, m, area, n, q, numbers);
     let deps = write_vars(f, s, classes, m, area, named, numbers);
     let z = Sizes {
         nodes: n,
         stmts: q,
-        vars: vars,
+        vars: named.vars,
         deps: deps,
     };
     reach_time(area, z);

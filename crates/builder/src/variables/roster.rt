@@ -9,9 +9,10 @@ ghost use Rattle.ast.specs.Opens.{Open};
 ghost use Rattle.definitions.specs.Numbers.{mostNames, mostVariables};
 ghost use Rattle.definitions.specs.Variables.{keptDeps, lastTime};
 ghost use Rattle.builder.specs.Tables.{ClassedModel, Blank};
-ghost use Rattle.area.specs.Sections.{areaVars, VarsAre};
-ghost use Rattle.builder.specs.VariableTables.{wordsFrom, rostered, listed, declareOne, Listing, unknownsIn, rosterIn, unknownIn, oneBelow, keptBy, keptNamed, RoomBehind, PutBehind, Numbered, RosterRoom};
+ghost use Rattle.area.specs.Sections.{Grown, areaVars, VarsAre};
+ghost use Rattle.builder.specs.VariableTables.{wordsFrom, declareOne, Listing, unknownsIn, rosterIn, unknownIn, oneBelow, keptBy, keptNamed, RoomBehind, PutBehind, Numbered, RosterRoom};
 ghost use Rattle.builder.specs.Allocating.{namesIn};
+ghost use Rattle.builder.specs.Root.{VarsRoom};
 use crate::names::is_reserved;
 use crate::names::time_name;
 use area::layout::VAR_NAME;
@@ -31,11 +32,11 @@ use ast::sections::Sections;
 use ast::words::put_word;
 use ast::words::read_word;
 
-// Lists t alone: its record has its name's number plus 1 (0 where no name is t), and `numbers`, without entries before,
-// a variable's number plus 1 by a name's number.
+// Lists t alone, as the one variable there is: its record has its name's number plus 1 (0 where no name is t), and
+// `numbers`, without entries before, a variable's number plus 1 by a name's number.
 fn time_alone(time: usize, area: &mut [u8], z: Sizes, numbers: &mut [u16])
-    requires { ⌜ (time ≤ mostNames) × RosterRoom z (now area) × Blank mostNames (now numbers) ⌝ }
-    ensures { λ _. ⌜ Listing (time ∷ []) (rostered 1 (namesIn (now (area .exit)) z) (now (numbers .exit)))
+    requires { ⌜ (time ≤ mostNames) × RosterRoom z (now area) × (z .vars ≡ 1) × Blank mostNames (now numbers) ⌝ }
+    ensures { λ _. ⌜ Listing (time ∷ []) (namesIn (now (area .exit)) z) (now (numbers .exit))
         × VarsAre z (now (area .entry)) (areaVars (now (area .exit)) z) (now (area .exit)) ⌝ }
 {
     put_var(area, z, 0, VAR_NAME, time as u32);
@@ -44,56 +45,69 @@ fn time_alone(time: usize, area: &mut [u8], z: Sizes, numbers: &mut [u16])
     }
 }
 
-// Lists a name behind `count` variables unless it is there, and gives their new count.
-fn declare(area: &mut [u8], z: Sizes, numbers: &mut [u16], count: usize, name: usize) -> usize
+// Lists a name behind the variables there are unless it is one of them, and gives the sizes then.
+fn declare(area: &mut [u8], z: Sizes, numbers: &mut [u16], name: usize) -> Sizes
     requires { ⌜ RosterRoom z (now area)
-        × Listing (listed (rostered count (namesIn (now area) z) (now numbers)))
-        (rostered count (namesIn (now area) z) (now numbers))
-        × (count < mostVariables)
+        × Listing (namesIn (now area) z) (namesIn (now area) z) (now numbers)
+        × (z .vars < mostVariables)
         × (name < mostNames) ⌝ }
-    ensures { λ r. ⌜ Listing
-        (declareOne (listed (rostered count (namesIn (now (area .entry)) z) (now (numbers .entry)))) name)
-        (rostered r (namesIn (now (area .exit)) z) (now (numbers .exit)))
-        × (r ≤ count + 1)
-        × VarsAre z (now (area .entry)) (areaVars (now (area .exit)) z) (now (area .exit)) ⌝ }
+    ensures { λ r. ⌜ Listing (declareOne (namesIn (now (area .entry)) z) name) (namesIn (now (area .exit)) r)
+        (now (numbers .exit))
+        × Grown z r
+        × (r .vars ≤ z .vars + 1)
+        × VarsAre r (now (area .entry)) (areaVars (now (area .exit)) r) (now (area .exit)) ⌝ }
 {
     if numbers[name] != 0 {
-        return count;
+        return z;
     }
-    put_var(area, z, count, VAR_NAME, (name + 1) as u32);
-    numbers[name] = (count + 1) as u16;
-    count + 1
+    let more = Sizes {
+        nodes: z.nodes,
+        stmts: z.stmts,
+        vars: z.vars + 1,
+        deps: z.deps,
+    };
+    put_var(area, more, z.vars, VAR_NAME, (name + 1) as u32);
+    numbers[name] = (z.vars + 1) as u16;
+    more
 }
 
-// Lists the variables of model m, by name in a table without entries, and gives their count; z has room for as many as
-// there may be.
+// Lists the variables of model m behind n nodes and q statements, by name in a table without entries, and gives the
+// sizes with them.
 pub fn roster_of(
     f: &[u8],
     s: Sections,
     classes: &[u8; MOST_NAMES],
     m: usize,
     area: &mut [u8],
-    z: Sizes,
+    n: usize,
+    q: usize,
     numbers: &mut [u16],
-) -> usize
-    requires { ⌜ ClassedModel (now f) s (now classes) m × RosterRoom z (now area) × Blank mostNames (now numbers) ⌝ }
-    ensures { λ r. ⌜ Listing (rosterIn (now (f .entry)) s m)
-        (rostered r (namesIn (now (area .exit)) z) (now (numbers .exit)))
-        × VarsAre z (now (area .entry)) (areaVars (now (area .exit)) z) (now (area .exit)) ⌝ }
+) -> Sizes
+    requires { ⌜ ClassedModel (now f) s (now classes) m × VarsRoom n q (now area) × Blank mostNames (now numbers) ⌝ }
+    ensures { λ r. ⌜ Listing (rosterIn (now (f .entry)) s m) (namesIn (now (area .exit)) r) (now (numbers .exit))
+        × (r .nodes ≡ n)
+        × (r .stmts ≡ q)
+        × (r .deps ≡ 0)
+        × VarsAre r (now (area .entry)) (areaVars (now (area .exit)) r) (now (area .exit)) ⌝ }
 {
     let first = model(f, s, m, MODEL_FIRST_UNKNOWN);
     let count = model(f, s, m, MODEL_UNKNOWNS);
+    let mut z = Sizes {
+        nodes: n,
+        stmts: q,
+        vars: 1,
+        deps: 0,
+    };
     time_alone(time_name(f, s, classes), area, z, numbers);
-    let mut vars = 1;
     let mut i = 0;
     while i < count {
         let name = unknown(f, s, first + i, UNKNOWN_NAME);
         if !is_reserved(classes[name]) {
-            vars = declare(area, z, numbers, vars, name);
+            z = declare(area, z, numbers, name);
         }
         i += 1;
     }
-    vars
+    z
 }
 
 // Writes variable v - 1 behind `done` kept dependents, nothing where v is 0, and gives their new count.

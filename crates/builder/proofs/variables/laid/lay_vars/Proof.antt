@@ -1,7 +1,5 @@
-use mathlib.Core.Path.{refl}
 use native.Mathlib.Omega.{arith}
-use Rattle.area.specs.Sections.{stmtsAt, varsAt, depsAt}
-use Rattle.builder.proofs.laws.VarsLaid.{roster-room, vars-named, sizes-small, written-in, t-marked, laid}
+use Rattle.builder.proofs.laws.VarsLaid.{vars-named, marks-needs, vars-laid}
 use borrow.Author.Needs.{needs}
 use Rattle.builder.proofs.variables.laid.lay_vars.Statement.{statement}
 use Rattle.builder.proofs.variables.laid.lay_vars.Tie as tie
@@ -16,30 +14,26 @@ listed c = c .before .before .before .before .before .before .before
 
 roster-of-requires : tie.Need-roster-of-requires
 roster-of-requires c κs =
-    let a = c .before .before .before .before .before .args in
     let p = c .before .before .before .before .before .pre in
-    (record { opened = p .0 .opened; classed = p .0 .classed; model = p .0 .model }, roster-room (a .f .now) (a .s) (p .0 .opened) (a .m) (a .n) (a .q) (a .area .now) (p .1), p .2)
+    (record { opened = p .0 .opened; classed = p .0 .classed; model = p .0 .model }, p .1, p .2)
 
 write-vars-requires : tie.Need-write-vars-requires
 write-vars-requires c κs =
     let r = c .before .before .before .before .before .before in
     let a = entry r .args in
     let p = entry r .pre in
-    let (roster, changed) = r .roster-of .ensures in
-    (p .0, record { opened = p .0 .opened; model = p .0 .model; numbered = roster .numbers; long = roster .every }, vars-named (a .f .now) (a .s) (p .0 .opened) (a .m) (a .n) (a .q) (a .area .now) _ _ _ (p .1) roster (changed .long))
+    let (roster, nodes, stmts, none, changed) = r .roster-of .ensures in
+    (p .0, record { opened = p .0 .opened; model = p .0 .model; numbered = roster .numbers; long = roster .every }, vars-named (a .f .now) (a .s) (p .0 .opened) (a .m) (a .n) (a .q) (a .area .now) _ _ _ (p .1) roster nodes stmts none changed)
 
 reach-time-requires : tie.Need-reach-time-requires
-unfolding stmtsAt varsAt depsAt
 reach-time-requires c κs =
     let w = c .before .before .before in
     let r = listed w in
     let a = entry r .args in
     let p = entry r .pre in
-    let (roster, changed) = r .roster-of .ensures in
-    let n = vars-named (a .f .now) (a .s) (p .0 .opened) (a .m) (a .n) (a .q) (a .area .now) _ _ _ (p .1) roster (changed .long) in
+    let (roster, nodes, stmts, none, changed) = r .roster-of .ensures in
     let (count, bytes) = w .write-vars .ensures in
-    let small = sizes-small (a .f .now) (a .s) (p .0 .opened) (a .m) (a .n) (a .q) (a .area .now) _ _ _ (p .1) roster (changed .long) _ count in
-    (written-in (a .f .now) (a .s) (p .0 .opened) (a .m) _ _ _ small (n .vars) count (n .long) bytes, t-marked (a .f .now) (a .s) (p .0 .opened) (a .m) _ _ _ small (n .vars) count (n .long) bytes)
+    marks-needs (a .f .now) (a .s) (p .0 .opened) (a .m) (a .n) (a .q) (a .area .now) _ _ _ (p .1) roster nodes stmts none changed _ _ count bytes
 
 same-length : tie.Need-same-length
 same-length c = search needs
@@ -48,17 +42,14 @@ same-length-2 : tie.Need-same-length-2
 same-length-2 c = search needs
 
 returns : tie.Need-returns
-unfolding stmtsAt varsAt depsAt
 returns c =
     let w = c .before .before .before .before .before .before in
     let r = listed w in
     let a = entry r .args in
     let p = entry r .pre in
-    let (roster, changed) = r .roster-of .ensures in
-    let n = vars-named (a .f .now) (a .s) (p .0 .opened) (a .m) (a .n) (a .q) (a .area .now) _ _ _ (p .1) roster (changed .long) in
+    let (roster, nodes, stmts, none, changed) = r .roster-of .ensures in
     let (count, bytes) = w .write-vars .ensures in
-    let small = sizes-small (a .f .now) (a .s) (p .0 .opened) (a .m) (a .n) (a .q) (a .area .now) _ _ _ (p .1) roster (changed .long) _ count in
-    (laid (a .f .now) (a .s) (p .0 .opened) (a .m) _ _ _ small (n .vars) count (n .long) bytes _ (λ j. omega (arith, c .slice-known6 .given j)) (c .before .before .reach-time .ensures) (a .n) (a .q) (a .area .now) refl refl (changed .long) (changed .front), (roster .numbers, roster .every))
+    (vars-laid (a .f .now) (a .s) (p .0 .opened) (a .m) (a .n) (a .q) (a .area .now) _ _ _ (p .1) roster nodes stmts none changed _ _ count bytes _ (λ j. omega (arith, c .slice-known6 .given j)) (c .before .before .reach-time .ensures), (roster .numbers, roster .every))
 
 pub lay-vars-spec : {M : Type 1} → statement M
 lay-vars-spec =
