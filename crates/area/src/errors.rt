@@ -43,7 +43,8 @@ fn put_words(out: &mut [u8], at: usize, kind: u32, from: u32, to: u32, name: u32
 
 // Lists an error behind `count` of them and gives their new number.
 pub fn put_error(out: &mut [u8], count: usize, kind: u32, from: u32, to: u32, name: u32) -> usize
-    requires { ⌜ (listLength ≤ length (now out)) × (count < 2 ^ 40) ⌝ }
+    requires { ⌜ (listLength ≤ length (now out))
+        × (count < 2 ^ 40) ⌝ }
     ensures { λ r. ⌜ Lists (now (out .entry)) count (error kind (spanned from to) name ∷ []) r (now (out .exit)) ⌝ }
 {
     if MOST_LISTED <= count {
@@ -55,7 +56,8 @@ pub fn put_error(out: &mut [u8], count: usize, kind: u32, from: u32, to: u32, na
 
 // Lists what is found behind `count` errors and gives their new number.
 pub fn list(out: &mut [u8], count: usize, found: Found) -> usize
-    requires { ⌜ (listLength ≤ length (now out)) × (count < 2 ^ 40) ⌝ }
+    requires { ⌜ (listLength ≤ length (now out))
+        × (count < 2 ^ 40) ⌝ }
     ensures { λ r. ⌜ Lists (now (out .entry)) count (foundAs found) r (now (out .exit)) ⌝ }
 {
     match found {
@@ -66,7 +68,8 @@ pub fn list(out: &mut [u8], count: usize, found: Found) -> usize
 
 // The bytes of those among `count` errors that are listed.
 pub fn errors_length(count: usize) -> usize
-    ensures { λ r. ⌜ (r ≡ 4 * errorLength * min count mostListed) × (r ≤ listLength) ⌝ }
+    ensures { λ r. ⌜ (r ≡ 4 * errorLength * min count mostListed)
+        × (r ≤ listLength) ⌝ }
 {
     if count < MOST_LISTED {
         return ERROR_BYTES * count;

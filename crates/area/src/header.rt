@@ -17,7 +17,10 @@ use ast::words::put_word;
 
 // Writes the counts: nodes, statements, variables, dependents, errors, instances.
 pub fn put_counts(area: &mut [u8], z: Sizes, errors: usize, instances: usize)
-    requires { ⌜ Small z × (4 * countsLength ≤ length (now area)) × (errors < 2 ^ 32) × (instances < 2 ^ 32) ⌝ }
+    requires { ⌜ Small z
+        × (4 * countsLength ≤ length (now area))
+        × (errors < 2 ^ 32)
+        × (instances < 2 ^ 32) ⌝ }
     ensures { λ _. ⌜ now (area .exit) ≡ put (now (area .entry)) 0
         (bytesOf (z .nodes ∷ z .stmts ∷ z .vars ∷ z .deps ∷ errors ∷ instances ∷ [])) ⌝ }
 {

@@ -28,7 +28,8 @@ pub fn clear(area: &mut [u8], from: usize)
 
 // The first n bytes of an answer at the front of the area.
 fn copy(own: &[u8], n: usize, area: &mut [u8])
-    requires { ⌜ (n ≤ length (now own)) × (n ≤ length (now area)) ⌝ }
+    requires { ⌜ (n ≤ length (now own))
+        × (n ≤ length (now area)) ⌝ }
     ensures { λ _. ⌜ now (area .exit) ≡ front (now (area .entry)) (take n (now (own .entry))) ⌝ }
 {
     let mut i = 0;
@@ -40,7 +41,9 @@ fn copy(own: &[u8], n: usize, area: &mut [u8])
 
 // Copies the errors that are listed, of `count` in all, to their section.
 pub fn put_errors(area: &mut [u8], z: Sizes, errors: &[u8], count: usize)
-    requires { ⌜ Small z × (errorsAt z + listLength ≤ length (now area)) × (listLength ≤ length (now errors)) ⌝ }
+    requires { ⌜ Small z
+        × (errorsAt z + listLength ≤ length (now area))
+        × (listLength ≤ length (now errors)) ⌝ }
     ensures { λ _. ⌜ now (area .exit) ≡ put (now (area .entry)) (errorsAt z)
         (take (4 * errorLength * min count mostListed) (now (errors .entry))) ⌝ }
 {
@@ -59,7 +62,8 @@ pub fn refuse(area: &mut [u8], number: u32) -> u64
 
 // The first `used` bytes of an answer, where the area is long enough; else refusal 1.
 pub fn hand_out(own: &[u8], used: usize, area: &mut [u8]) -> u64
-    requires { ⌜ (used ≤ length (now own)) × (used < 2 ^ 32) ⌝ }
+    requires { ⌜ (used ≤ length (now own))
+        × (used < 2 ^ 32) ⌝ }
     ensures { λ r. ⌜ (r ≡ told (fitted (length (now (area .entry))) (take used (now (own .entry)))))
         × (now (area .exit) ≡ resultArea (length (now (area .entry)))
         (fitted (length (now (area .entry))) (take used (now (own .entry))))) ⌝ }

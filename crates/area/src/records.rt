@@ -21,8 +21,11 @@ use ast::words::put_word;
 
 // Word k of node i.
 pub fn node_of(area: &[u8], z: Sizes, i: usize, k: usize) -> usize
-    requires { ⌜ (nodesEnd (z .nodes) ≤ length (now area)) × (i < z .nodes) × (k < nodeLength) ⌝ }
-    ensures { λ r. ⌜ (r ≡ wordOf (nodeAt (areaNodes (now (area .entry)) z) i) k) × (r < 2 ^ 32) ⌝ }
+    requires { ⌜ (nodesEnd (z .nodes) ≤ length (now area))
+        × (i < z .nodes)
+        × (k < nodeLength) ⌝ }
+    ensures { λ r. ⌜ (r ≡ wordOf (nodeAt (areaNodes (now (area .entry)) z) i) k)
+        × (r < 2 ^ 32) ⌝ }
 {
     let ns = Nodes {
         at: HEADER_BYTES,
@@ -33,15 +36,22 @@ pub fn node_of(area: &[u8], z: Sizes, i: usize, k: usize) -> usize
 
 // Word k of statement i.
 pub fn stmt_of(area: &[u8], z: Sizes, i: usize, k: usize) -> usize
-    requires { ⌜ Small z × (varsAt z ≤ length (now area)) × (i < z .stmts) × (k < stmtLength) ⌝ }
-    ensures { λ r. ⌜ (r ≡ wordOf (areaStmt (now (area .entry)) z i) k) × (r < 2 ^ 32) ⌝ }
+    requires { ⌜ Small z
+        × (varsAt z ≤ length (now area))
+        × (i < z .stmts)
+        × (k < stmtLength) ⌝ }
+    ensures { λ r. ⌜ (r ≡ wordOf (areaStmt (now (area .entry)) z i) k)
+        × (r < 2 ^ 32) ⌝ }
 {
     record_word(area, stmts_at(z), STMT_WORDS, z.stmts, i, k) as usize
 }
 
 // Word k of variable v.
 pub fn var_of(area: &[u8], z: Sizes, v: usize, k: usize) -> u32
-    requires { ⌜ Small z × (depsAt z ≤ length (now area)) × (v < z .vars) × (k < variableLength) ⌝ }
+    requires { ⌜ Small z
+        × (depsAt z ≤ length (now area))
+        × (v < z .vars)
+        × (k < variableLength) ⌝ }
     ensures { λ r. ⌜ r ≡ getD (column k (areaVars (now (area .entry)) z)) v 0 ⌝ }
 {
     record_word(area, vars_at(z), VAR_WORDS, z.vars, v, k)
@@ -49,7 +59,10 @@ pub fn var_of(area: &[u8], z: Sizes, v: usize, k: usize) -> u32
 
 // Writes word k of variable v.
 pub fn put_var(area: &mut [u8], z: Sizes, v: usize, k: usize, word: u32)
-    requires { ⌜ Small z × (depsAt z ≤ length (now area)) × (v < z .vars) × (k < variableLength) ⌝ }
+    requires { ⌜ Small z
+        × (depsAt z ≤ length (now area))
+        × (v < z .vars)
+        × (k < variableLength) ⌝ }
     ensures { λ _. ⌜ VarsAre z (now (area .entry)) (withWord (areaVars (now (area .entry)) z) v k word)
         (now (area .exit)) ⌝ }
 {

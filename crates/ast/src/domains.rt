@@ -22,7 +22,9 @@ use super::sections::Sections;
 
 // The 64 bits at word k of unknown i.
 pub fn unknown_bits(f: &[u8], s: Sections, i: usize, k: usize) -> u64
-    requires { ⌜ Open (now f) s × (i < s .counts .unknowns) × (k + 1 < unknownLength) ⌝ }
+    requires { ⌜ Open (now f) s
+        × (i < s .counts .unknowns)
+        × (k + 1 < unknownLength) ⌝ }
     ensures { λ r. ⌜ r ≡ floatFrom (getD (contentsIn (now (f .entry)) s .unknowns) i []) k ⌝ }
 {
     let low = unknown(f, s, i, k);
@@ -32,7 +34,8 @@ pub fn unknown_bits(f: &[u8], s: Sections, i: usize, k: usize) -> u64
 
 // The domain of unknown i.
 pub fn read_domain(f: &[u8], s: Sections, i: usize) -> Domain
-    requires { ⌜ Open (now f) s × (i < s .counts .unknowns) ⌝ }
+    requires { ⌜ Open (now f) s
+        × (i < s .counts .unknowns) ⌝ }
     ensures { λ r. ⌜ DomainRead (domainOf (getD (contentsIn (now (f .entry)) s .unknowns) i [])) r ⌝ }
 {
     let kind = unknown(f, s, i, UNKNOWN_DOMAIN);

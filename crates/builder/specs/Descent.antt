@@ -51,9 +51,9 @@ module _ (f : List ℕ) (s : Sections) where
   RowsKept level rows rows′ = (length rows′ ≡ length rows) × (take (mostNames * level) rows′ ≡ take (mostNames * level) rows) × RowsIn rows′
 
   -- The file is open, and a table says which models its statements call.
-  pub record Linked (calls : List ℕ) : Type 0 where
+  pub record Linked (table : List ℕ) : Type 0 where
     pub opened : Open f s
-    pub callees : Callees f s calls
+    pub callees : Callees f s table
 
   -- Node i is the top of an expression.
   pub record ExprAt (i : ℕ) : Type 0 where

@@ -15,8 +15,8 @@ abbrev pub fewModels : ℕ
 fewModels = 2
 
 -- Model m of the open file, with a row for each model; its flattened statements and their nodes are few enough for an area.
-pub record Laying (f : List ℕ) (s : Sections) (calls rows : List ℕ) (m : ℕ) : Type 0 where
-  pub linked : Linked f s calls
+pub record Laying (f : List ℕ) (s : Sections) (callees rows : List ℕ) (m : ℕ) : Type 0 where
+  pub linked : Linked f s callees
   pub model : m < s .counts .models
   pub readable : RowsAt f s rows (s .counts .models)
   pub few-nodes : sumOf flatSize (flatsOf (fileIn f s) m) ≤ mostNodes

@@ -25,10 +25,10 @@ use Rattle.definitions.specs.Allocate.{Fate, fatesOf, pairedStates, countErrors
 use Rattle.definitions.specs.Answer.{Answer, answerBytes, flatRecords, variableRecords}
 use Rattle.definitions.specs.Build.{Result, refusal, accepted, answerFrom, tooBig, fitted}
 use Rattle.builder.specs.Tables.{Classes, lackingIn}
-use Rattle.builder.specs.VariableTables.{rosterIn, Numbers}
+use Rattle.builder.specs.VariableTables.{Listing, rosterIn, Numbers}
 use Rattle.builder.specs.Unfated.{unfated}
 use Rattle.builder.specs.VarRecords.{unheldRecords}
-use Rattle.area.specs.Sections.{Small, stmtsAt, varsAt, depsAt, areaNodes, areaStmts, part}
+use Rattle.area.specs.Sections.{Small, stmtsAt, varsAt, depsAt, areaNodes, areaStmts, areaVars, VarsAre, part}
 use Rattle.builder.specs.Fating as fating
 use Rattle.builder.specs.Allocating.{flatsIn, Flattened, Numbered, namesIn, statesIn, indexesIn, ratesIn, roleBy, roleErrorsBy}
 use Rattle.builder.specs.Starting.{startingIn, Righted}
@@ -98,13 +98,13 @@ pub record ExtentOf (f : File) (m i q n : ℕ) : Type 0 where
 
 -- What the answer of model m is worked out from: the classes of the names, the submodel calls, rows for as many models as there are, and an area of the
 -- most bytes.
-pub record Sources (f : List ℕ) (s : Sections) (classes calls rows : List ℕ) (m : ℕ) (own : List ℕ) : Type 0 where
-  pub called : checking.Called f s classes calls
+pub record Sources (f : List ℕ) (s : Sections) (classes callees rows : List ℕ) (m : ℕ) (area : List ℕ) : Type 0 where
+  pub called : checking.Called f s classes callees
   pub classes-long : length classes ≡ mostNames
   pub model : m < s .counts .models
   pub rows-long : mostNames * s .counts .models ≤ length rows
   pub rows-in : RowsIn f s rows
-  pub long : length own ≡ mostBytes
+  pub long : length area ≡ mostBytes
 
 -- ---- the root's variables
 
@@ -113,6 +113,15 @@ pub record VarsRoom (n q : ℕ) (b : List ℕ) : Type 0 where
   pub nodes : n ≤ mostNodes
   pub stmts : q ≤ mostStmts
   pub long : length b ≡ mostBytes
+
+-- The variables of model m listed in an area b behind n nodes and q statements: the sizes with them, the area with their names in its records, all else as it
+-- was, and the table of their numbers by name.
+pub record VarsListed (f : List ℕ) (s : Sections) (m n q : ℕ) (b : List ℕ) (r : Sizes) (b′ table : List ℕ) : Type 0 where
+  pub listing : Listing (rosterIn f s m) (namesIn b′ r) table
+  pub nodes : r .nodes ≡ n
+  pub stmts : r .stmts ≡ q
+  pub deps : r .deps ≡ 0
+  pub kept : VarsAre r b (areaVars b′ r) b′
 
 -- An area in which the variables' records have their names, with room for all dependents behind them.
 pub record VarsNamed (f : File) (m : ℕ) (z : Sizes) (b : List ℕ) : Type 0 where
@@ -149,9 +158,9 @@ pub record Known (f : List ℕ) (s : Sections) (m : ℕ) (classes numbers : List
   pub sizes : SizesOf (fileIn f s) m z
 
 -- The same with the models that statements call, the instances, and time's bounds as floats: what its answer is written from.
-pub record Rooted (f : List ℕ) (s : Sections) (classes calls numbers : List ℕ) (m i : ℕ) (z : Sizes) (time : floats.Bounds) : Type 0 where
+pub record Rooted (f : List ℕ) (s : Sections) (classes callees numbers : List ℕ) (m i : ℕ) (z : Sizes) (time : floats.Bounds) : Type 0 where
   pub known : Known f s m classes numbers z
-  pub called : checking.Called f s classes calls
+  pub called : checking.Called f s classes callees
   pub instances : i ≡ definition.instances (fileIn f s) (length (fileIn f s .models)) m
   pub few : i ≤ mostInstances
   pub timed : Floating (timeAt (fileIn f s) m) time
@@ -212,8 +221,8 @@ module _ (b : List ℕ) (z : Sizes) (numbers : List ℕ) (lower : Float) where
       errorsOf f (length (f .models)) m ++ each (roleErrorsBy numbers (indexesIn b z) (ratesIn b z) lower) (flatsIn b z) ++ countErrors (modelAt f m .span) left states ++ startingIn (modelAt f m .span) (areaNodes b z) (areaStmts b z) (namesIn b z) (z .vars)
 
 -- What the errors of root model m are found from: the file's tables, the area with fates, and few enough errors to count.
-pub record Erring (f : List ℕ) (s : Sections) (classes calls b numbers : List ℕ) (m : ℕ) (z : Sizes) : Type 0 where
-  pub called : checking.Called f s classes calls
+pub record Erring (f : List ℕ) (s : Sections) (classes callees b numbers : List ℕ) (m : ℕ) (z : Sizes) : Type 0 where
+  pub called : checking.Called f s classes callees
   pub model : m < s .counts .models
   pub righted : Righted b z
   pub flattened : (count : ℕ) × Flattened count b z

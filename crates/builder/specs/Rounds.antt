@@ -39,9 +39,9 @@ pub record Stepped (f : File) (n : ℕ) (old : List ℕ) (a : ℕ) (new : List �
   pub rest : (z : ℕ) → mostModels * a ≤ z → z < modelPairs → getD new z 0 ≡ 0
 
 -- An open file, the model that each of its statements calls, and the last table of models reached: what a round reads.
-pub record RoundOf (f : List ℕ) (s : Sections) (calls old : List ℕ) : Type 0 where
+pub record RoundOf (f : List ℕ) (s : Sections) (table old : List ℕ) : Type 0 where
   pub opened : Open f s
-  pub callees : Callees f s calls
+  pub callees : Callees f s table
   pub old-long : length old ≡ modelPairs
 
 -- Two of so many models, and two tables of models reached: model c's row of the last table goes to model a's row of the next.

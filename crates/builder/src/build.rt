@@ -63,7 +63,9 @@ fn answer_with(
 // The answer of model m, in a file of many models or of few. Two functions, each called where an answer is wanted, so
 // that a build of few models does not have the long table of rows on its stack.
 fn answer(f: &[u8], s: Sections, m: usize, area: &mut [u8]) -> Answered
-    requires { ⌜ Open (now f) s × (m < s .counts .models) × (length (now area) ≡ mostBytes) ⌝ }
+    requires { ⌜ Open (now f) s
+        × (m < s .counts .models)
+        × (length (now area) ≡ mostBytes) ⌝ }
     ensures { λ a. ⌜ (answeredAs a (now (area .exit)) ≡ bytesIn (answerOfModel (fileIn (now (f .entry)) s) m))
         × (usedIn a ≤ mostBytes) ⌝ }
 {
@@ -89,7 +91,8 @@ fn answer_few(f: &[u8], s: Sections, m: usize, area: &mut [u8]) -> Answered
 
 // A refusal, or the answer handed out.
 fn hand_over(a: Answered, own: &[u8], area: &mut [u8]) -> u64
-    requires { ⌜ (length (now own) ≡ mostBytes) × (usedIn a ≤ mostBytes) ⌝ }
+    requires { ⌜ (length (now own) ≡ mostBytes)
+        × (usedIn a ≤ mostBytes) ⌝ }
     ensures { λ r. ⌜ (r ≡ told (fittedIn (length (now (area .entry))) (answeredAs a (now (own .entry)))))
         × (now (area .exit) ≡ resultArea (length (now (area .entry)))
         (fittedIn (length (now (area .entry))) (answeredAs a (now (own .entry))))) ⌝ }
@@ -102,7 +105,8 @@ fn hand_over(a: Answered, own: &[u8], area: &mut [u8]) -> u64
 
 // The same where the answer stands at the front of the area.
 fn keep(a: Answered, area: &mut [u8]) -> u64
-    requires { ⌜ (usedIn a ≤ mostBytes) × (mostBytes ≤ length (now area)) ⌝ }
+    requires { ⌜ (usedIn a ≤ mostBytes)
+        × (mostBytes ≤ length (now area)) ⌝ }
     ensures { λ r. ⌜ (r ≡ told (fittedIn (length (now (area .entry))) (answeredAs a (now (area .entry)))))
         × (now (area .exit) ≡ resultArea (length (now (area .entry)))
         (fittedIn (length (now (area .entry))) (answeredAs a (now (area .entry))))) ⌝ }
@@ -118,7 +122,8 @@ fn keep(a: Answered, area: &mut [u8]) -> u64
 
 // The build of model m in an area too short for some answers: the answer is written apart.
 fn build_apart(file: &[u8], s: Sections, m: usize, area: &mut [u8]) -> u64
-    requires { ⌜ Open (now file) s × (m < s .counts .models) ⌝ }
+    requires { ⌜ Open (now file) s
+        × (m < s .counts .models) ⌝ }
     ensures { λ r. ⌜ (r ≡ told (fittedIn (length (now (area .entry)))
         (bytesIn (answerOfModel (fileIn (now (file .entry)) s) m))))
         × (now (area .exit) ≡ resultArea (length (now (area .entry)))
@@ -135,7 +140,9 @@ fn build_apart(file: &[u8], s: Sections, m: usize, area: &mut [u8]) -> u64
 
 // The build of model m in an area long enough for every answer: the answer is written at its front.
 fn build_within(file: &[u8], s: Sections, m: usize, area: &mut [u8]) -> u64
-    requires { ⌜ Open (now file) s × (m < s .counts .models) × (mostBytes ≤ length (now area)) ⌝ }
+    requires { ⌜ Open (now file) s
+        × (m < s .counts .models)
+        × (mostBytes ≤ length (now area)) ⌝ }
     ensures { λ r. ⌜ (r ≡ told (fittedIn (length (now (area .entry)))
         (bytesIn (answerOfModel (fileIn (now (file .entry)) s) m))))
         × (now (area .exit) ≡ resultArea (length (now (area .entry)))
@@ -151,7 +158,8 @@ fn build_within(file: &[u8], s: Sections, m: usize, area: &mut [u8]) -> u64
 
 // The build of an open file.
 fn build_opened(file: &[u8], s: Sections, root: &[u8], area: &mut [u8]) -> u64
-    requires { ⌜ Open (now file) s × (openFile (now file) ≡ opened (fileIn (now file) s)) ⌝ }
+    requires { ⌜ Open (now file) s
+        × (openFile (now file) ≡ opened (fileIn (now file) s)) ⌝ }
     ensures { λ r. ⌜ (r ≡ told (definition.build (now (file .entry)) (now (root .entry)) (length (now (area .entry)))))
         × (now (area .exit) ≡ resultArea (length (now (area .entry)))
         (definition.build (now (file .entry)) (now (root .entry)) (length (now (area .entry))))) ⌝ }

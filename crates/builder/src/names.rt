@@ -62,7 +62,8 @@ const PLACES: [usize; 19] = [
 
 // Whether a name is the part of a text between two places.
 fn is_part(name: &[u8], text: &[u8], from: usize, to: usize) -> bool
-    requires { ⌜ (from ≤ to) × (to ≤ length (now text)) ⌝ }
+    requires { ⌜ (from ≤ to)
+        × (to ≤ length (now text)) ⌝ }
     ensures { λ r. ⌜ r ≡ sameText (now (name .entry)) (take (to - from) (drop from (now (text .entry)))) ⌝ }
 {
     same_bytes(name, &text[from..to])
@@ -83,7 +84,9 @@ fn stored_places() -> [usize; 19]
 
 // Whether a name is text i, by the two tables.
 fn is_text(name: &[u8], texts: &[u8], places: &[usize], i: usize) -> bool
-    requires { ⌜ (now texts ≡ storedTexts) × (now places ≡ storedPlaces) × (i < otherClass) ⌝ }
+    requires { ⌜ (now texts ≡ storedTexts)
+        × (now places ≡ storedPlaces)
+        × (i < otherClass) ⌝ }
     ensures { λ r. ⌜ r ≡ sameText (now (name .entry)) (getD deciding i []) ⌝ }
 {
     is_part(name, texts, places[i], places[i + 1])
@@ -125,7 +128,8 @@ pub fn is_built_in(class: u8) -> bool
 
 // The text of name n.
 pub fn name_text(f: &[u8], s: Sections, n: usize) -> &[u8]
-    requires { ⌜ Open (now f) s × (n < s .counts .names) ⌝ }
+    requires { ⌜ Open (now f) s
+        × (n < s .counts .names) ⌝ }
     ensures { λ r. ⌜ now r ≡ textOf (fileIn (now (f .entry)) s .names) n ⌝ }
 {
     let from = name(f, s, n, NAME_START);
@@ -149,7 +153,8 @@ pub fn classes(f: &[u8], s: Sections) -> [u8; MOST_NAMES]
 
 // The number, plus 1, of the first name that is t, or 0.
 pub fn time_name(f: &[u8], s: Sections, classes: &[u8; MOST_NAMES]) -> usize
-    requires { ⌜ Open (now f) s × Classes (fileIn (now f) s .names) (now classes) ⌝ }
+    requires { ⌜ Open (now f) s
+        × Classes (fileIn (now f) s .names) (now classes) ⌝ }
     ensures { λ r. ⌜ r ≡ timeName (fileIn (now (f .entry)) s .names) ⌝ }
 {
     let mut n = 0;

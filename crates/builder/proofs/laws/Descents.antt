@@ -161,10 +161,10 @@ module _ (f : List ℕ) (s : Sections) (o : Open f s) (q : ℕ) (l : q < s .coun
   no-depth zero e j = refl
   no-depth (suc d) e j = absurd (omega arith)
 
-  module _ (calls : List ℕ) (t : Callees f s calls) (c : ℕ) (e : c ≡ getD calls q 0) where
+  module _ (callees : List ℕ) (t : Callees f s callees) (c : ℕ) (e : c ≡ getD callees q 0) where
     -- nothing, where its model is missing or the depth is used up
     pub brought-none : (d : ℕ) → (c ≡ 0) ⊎ (d ≡ 0) → map (throughFlat levels) (stmtFlats file (λ j. flatten file d j) (stmtOf ns (getD (contentsIn f s .stmts) q []))) ≡ []
-    brought-none d h = is-submodel (λ j. flatten file d j) ∙ ⊎-elim (λ z. sub-missing (λ j. flatten file d j) _ (called-none f s o q l calls t c e k z)) (λ z. sub-empty (λ j. flatten file d j) (modelNamed file (nameAt ns top)) (no-depth d z)) h
+    brought-none d h = is-submodel (λ j. flatten file d j) ∙ ⊎-elim (λ z. sub-missing (λ j. flatten file d j) _ (called-none f s o q l callees t c e k z)) (λ z. sub-empty (λ j. flatten file d j) (modelNamed file (nameAt ns top)) (no-depth d z)) h
 
     -- its model's flattened statements, one level deeper
     pub brought : (sub : ℕ → List Flat) → (c ≡ 0 → ⊥)
@@ -172,7 +172,7 @@ module _ (f : List ℕ) (s : Sections) (o : Open f s) (q : ℕ) (l : q < s .coun
         ≡ map (throughFlat (replacements (modelAt file (c - 1) .unknowns) (argsBefore ns top (opAt ns top) (sizeAt ns top - 1)) ∷ levels)) (sub (c - 1))
     brought sub ne =
         ap (λ x. map (throughFlat levels) (stmtFlats file sub x)) (stmt-submodel ns (getD (contentsIn f s .stmts) q []) k)
-        ∙ flats-found file sub levels _ _ _ _ (c - 1) (called-some f s o q l calls t c e k ne .0)
+        ∙ flats-found file sub levels _ _ _ _ (c - 1) (called-some f s o q l callees t c e k ne .0)
 
     -- read with a new row
     pub deeper : (rows rows′ : List ℕ) (level d call : ℕ) → (c ≡ 0 → ⊥) → levels ≡ levelsOf ns rows level → call ≡ rightTop (getD (contentsIn f s .stmts) q [])

@@ -34,7 +34,7 @@ few-roles numbers indexes rates lower (q ∷ qs) = rw length-append (omega (arit
 -- ---- the parts, one behind the other
 
 -- where the model is built
-module _ {f : List ℕ} {s : Sections} {classes calls b numbers : List ℕ} {m : ℕ} {z : Sizes} (w : Erring f s classes calls b numbers m z) (d d₁ : List ℕ) (built : ℕ) (long : length d ≡ 4096)
+module _ {f : List ℕ} {s : Sections} {classes callees b numbers : List ℕ} {m : ℕ} {z : Sizes} (w : Erring f s classes callees b numbers m z) (d d₁ : List ℕ) (built : ℕ) (long : length d ≡ 4096)
     (p : Lists d 0 (errorsOf (fileIn f s) (length (fileIn f s .models)) m) built d₁) (lower : Float) where
   -- the list is as long as before
   long-built : 4096 ≤ length d₁

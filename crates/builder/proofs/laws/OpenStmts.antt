@@ -75,7 +75,7 @@ module _ (f : List ℕ) (s : Sections) (o : Open f s) where
   named-below n m e = omega (arith, place-below (λ x. eqb n (x .name)) 0 (fileIn f s .models) m e, models-long f s)
 
   -- the model that submodel statement q calls, by the table of them
-  module _ (q : ℕ) (l : q < s .counts .stmts) (calls : List ℕ) (t : Callees f s calls) (c : ℕ) (e : c ≡ getD calls q 0) (k : kindOfStmt (stmtRecord f s q) ≡ 3) where
+  module _ (q : ℕ) (l : q < s .counts .stmts) (callees : List ℕ) (t : Callees f s callees) (c : ℕ) (e : c ≡ getD callees q 0) (k : kindOfStmt (stmtRecord f s q) ≡ 3) where
     called : plusOne (modelNamed (fileIn f s) (nameAt (contentsIn f s .nodes) (rightTop (stmtRecord f s q)))) ≡ c
     unfolding calleeOf
     called = sym (e ∙ t .callee q l ∙ ap (calleeOf (fileIn f s)) (stmt-submodel (contentsIn f s .nodes) (stmtRecord f s q) k))

@@ -39,7 +39,7 @@ lower-float : (b : Bounds) (x : declared.Bounds) → Floating b x → x .lower �
 unfolding floats
 lower-float b x h = ap (λ (y : declared.Bounds). y .lower) (h .same)
 
-module _ (f : List ℕ) (s : Sections) (classes calls numbers : List ℕ) (m i : ℕ) (z : Sizes) (time : declared.Bounds) (t : Rooted f s classes calls numbers m i z time) where
+module _ (f : List ℕ) (s : Sections) (classes callees numbers : List ℕ) (m i : ℕ) (z : Sizes) (time : declared.Bounds) (t : Rooted f s classes callees numbers m i z time) where
   k : Known f s m classes numbers z
   k = t .known
 
@@ -92,7 +92,7 @@ module _ (f : List ℕ) (s : Sections) (classes calls numbers : List ℕ) (m i :
 
   -- ---- errors
 
-  pub errors-needs : (b : List ℕ) → Held (fileIn f s) m z b → Erring f s classes calls b numbers m z
+  pub errors-needs : (b : List ℕ) → Held (fileIn f s) m z b → Erring f s classes callees b numbers m z
   errors-needs b u = record {
     called = t .called;
     model = k .model;

@@ -109,7 +109,7 @@ module _ (f : List ℕ) (s : Sections) (m : ℕ) (o : Open f s) (l : m < s .coun
       let k = model-is f s o m l in
       omega (arith, length-variables (fileIn f s .names) us, k .unknowns-long, k .unknowns-within, o .laid .within .unknowns)
 
-  module _ (classes calls : List ℕ) (i q n : ℕ) (t : checking.Called f s classes calls) (h : length classes ≡ 256) (x : ExtentOf (fileIn f s) m i q n)
+  module _ (classes callees : List ℕ) (i q n : ℕ) (t : checking.Called f s classes callees) (h : length classes ≡ 256) (x : ExtentOf (fileIn f s) m i q n)
       (b₀ b₁ : List ℕ) (l₀ : length b₀ ≡ 55384) (e₁ : b₁ ≡ put (put b₀ 40 (encode (each flatNodes (flatsOf (fileIn f s) m)))) (40 + 32 * n) (encode (unfated 0 (flatsOf (fileIn f s) m))))
     where
       -- the area has its length
@@ -135,7 +135,7 @@ module _ (f : List ℕ) (s : Sections) (m : ℕ) (o : Open f s) (l : m < s .coun
         pub all-laid : Unfated (fileIn f s) m z b₂
         all-laid = laid-out (fileIn f s) m n q z b₀ b₁ b₂ sizes l₀ (rw (sym (v .nodes)) at e₁) v
 
-        pub model-rooted : (time : floats.Bounds) → Floating (timeAt (fileIn f s) m) time → Rooted f s classes calls numbers m i z time
+        pub model-rooted : (time : floats.Bounds) → Floating (timeAt (fileIn f s) m) time → Rooted f s classes callees numbers m i z time
         model-rooted time g =
             let (hi, hn, hq) = few-flats (fileIn f s) m (flatsOf (fileIn f s) m) (x .small) in
             record { known = model-known; called = t; instances = x .instances; few = omega (arith, hi, x .instances); timed = g }

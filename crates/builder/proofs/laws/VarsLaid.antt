@@ -24,11 +24,10 @@ use Rattle.area.specs.declared.sections.Sizes.{Sizes}
 use Rattle.area.proofs.Parts.{part-put, part-before, part-behind}
 use Rattle.area.proofs.Puts.{length-put, put-alike, drop-behind, rest-put}
 use Rattle.area.proofs.VarsWritten.{vars-own, column-long}
-use Rattle.builder.specs.VariableTables.{Listing, unknownsIn, rosterIn}
-use Rattle.builder.specs.Allocating.{namesIn}
+use Rattle.builder.specs.VariableTables.{unknownsIn, rosterIn}
 use Rattle.builder.specs.Reaching.{depsIn, marksIn, timedBy, timedFrom, DepsIn}
 use Rattle.builder.specs.VarRecords.{isTime, unheldWords, unheldFrom, unheldRecords, untimedRecords}
-use Rattle.builder.specs.Root.{scopeAt, VarsRoom, VarsNamed, VarsLaid}
+use Rattle.builder.specs.Root.{scopeAt, VarsRoom, VarsListed, VarsNamed, VarsLaid}
 use Rattle.builder.proofs.laws.PutWords.{each-take, each-fits, kept-few}
 use Rattle.builder.proofs.laws.KeptDependents.{kept-below, variable-deps, count-variables, reaches-alike}
 use Rattle.builder.proofs.laws.RootTables.{model-written, vars-count}
@@ -223,19 +222,18 @@ module _ (f : List ℕ) (s : Sections) (o : Open f s) (m : ℕ) where
 
   -- ---- from where they are listed on
 
-  module _ (n q : ℕ) (b b₁ numbers : List ℕ) (r : Sizes) (room : VarsRoom n q b) (l : Listing (rosterIn f s m) (namesIn b₁ r) numbers)
-      (en : r .nodes ≡ n) (eq : r .stmts ≡ q) (none : r .deps ≡ 0) (w : VarsAre r b (areaVars b₁ r) b₁) where
+  module _ (n q : ℕ) (b b₁ numbers : List ℕ) (r : Sizes) (room : VarsRoom n q b) (l : VarsListed f s m n q b r b₁ numbers) where
     vars-listed : r .vars ≡ length (rosterIn f s m)
-    vars-listed = sym (column-long r b₁ 0) ∙ ap length (l .are)
+    vars-listed = sym (column-long r b₁ 0) ∙ ap length (l .listing .are)
 
     -- their records have their names
     pub vars-named : VarsNamed (fileIn f s) m r b₁
     unfolding stmtsAt varsAt depsAt
     vars-named = record {
-      small = record { nodes = omega (arith, en, room .nodes); stmts = omega (arith, eq, room .stmts); vars = omega (arith, vars-listed, l .few); deps = omega (arith, none) };
+      small = record { nodes = omega (arith, l .nodes, room .nodes); stmts = omega (arith, l .stmts, room .stmts); vars = omega (arith, vars-listed, l .listing .few); deps = omega (arith, l .deps) };
       vars = vars-listed ∙ sym (vars-count f s m);
-      long = omega (arith, room .long, room .nodes, room .stmts, vars-listed, l .few, en, eq, w .long);
-      named = λ v h. ap (λ (xs : List ℕ). getD xs v 0) (l .are) ∙ variable-is v (omega (arith, vars-listed, vars-count f s m)) .0;
+      long = omega (arith, room .long, room .nodes, room .stmts, vars-listed, l .listing .few, l .nodes, l .stmts, l .kept .long);
+      named = λ v h. ap (λ (xs : List ℕ). getD xs v 0) (l .listing .are) ∙ variable-is v (omega (arith, vars-listed, vars-count f s m)) .0;
     }
 
     module _ (d : ℕ) (b₂ : List ℕ) (count : d ≡ length (each ds vs)) (e : b₂ ≡ put (put b₁ (depsAt r) (bytesOf (each ds vs))) (varsAt r) (encode (untimedRecords vs))) where
@@ -249,11 +247,11 @@ module _ (f : List ℕ) (s : Sections) (o : Open f s) (m : ℕ) where
       -- the sections begin where they did
       vars-there : varsAt r ≡ varsAt z
       unfolding stmtsAt varsAt
-      vars-there = omega (arith, en, eq)
+      vars-there = omega (arith, l .nodes, l .stmts)
 
       deps-there : depsAt r ≡ depsAt z
       unfolding stmtsAt varsAt depsAt
-      deps-there = omega (arith, en, eq)
+      deps-there = omega (arith, l .nodes, l .stmts)
 
       room-there : depsAt z + 4096 ≤ length b₁
       room-there = omega (arith, vars-named .long, deps-there)
@@ -268,7 +266,7 @@ module _ (f : List ℕ) (s : Sections) (o : Open f s) (m : ℕ) where
       -- they are laid once those that reach t are marked
       pub vars-laid : (b₃ : List ℕ) → AllBytes b₃ → VarsAre z b₂ (timedFrom (timedBy b₂ z (z .vars)) 0 (areaVars b₂ z)) b₃ → VarsLaid (fileIn f s) m n q b z b₃
       vars-laid b₃ bs marked =
-          laid z b₁ b₂ small (vars-named .vars) count room-there bytes-there b₃ bs marked n q b refl refl (w .long) (rw vars-there at (w .front)) (rw deps-there at (w .behind))
+          laid z b₁ b₂ small (vars-named .vars) count room-there bytes-there b₃ bs marked n q b refl refl (l .kept .long) (rw vars-there at (l .kept .front)) (rw deps-there at (l .kept .behind))
 
 -- ---- what an area has in which they are laid
 

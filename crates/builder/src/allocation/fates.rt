@@ -22,7 +22,9 @@ use ast::words::put_word;
 
 // Writes the fate of statement i and its variable.
 fn put_fate(area: &mut [u8], z: Sizes, i: usize, fate: u32, v: u32)
-    requires { ⌜ Small z × (varsAt z ≤ length (now area)) × (i < z .stmts) ⌝ }
+    requires { ⌜ Small z
+        × (varsAt z ≤ length (now area))
+        × (i < z .stmts) ⌝ }
     ensures { λ _. ⌜ now (area .exit) ≡ put (now (area .entry)) (stmtsAt z + 4 * stmtLength * i)
         (bytesOf (withFate (areaStmt (now (area .entry)) z i) (fate, v))) ⌝ }
 {
@@ -41,7 +43,9 @@ fn write_fate(
     i: usize,
     paired: usize,
 ) -> usize
-    requires { ⌜ FateSources z (now area) (now roles) (now states) queued × (i < z .stmts) × (paired ≤ queued) ⌝ }
+    requires { ⌜ FateSources z (now area) (now roles) (now states) queued
+        × (i < z .stmts)
+        × (paired ≤ queued) ⌝ }
     ensures { λ r. ⌜ (now (area .exit) ≡ put (now (area .entry)) (stmtsAt z + 4 * stmtLength * i)
         (bytesOf (withFate (areaStmt (now (area .entry)) z i)
         (fateIn (stillQueued (now (states .entry)) queued paired) (getD (now (roles .entry)) i 0)

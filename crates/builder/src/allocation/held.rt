@@ -19,8 +19,10 @@ use area::sections::Sizes;
 
 // Adds statement i to what the records say of those behind it.
 fn hold_stmt(area: &mut [u8], z: Sizes, i: usize)
-    requires { ⌜ HeldBehind z (i + 1) (now area) × (i < z .stmts) ⌝ }
-    ensures { λ _. ⌜ HeldBehind z i (now (area .exit)) × HeldChanged z (now (area .entry)) (now (area .exit)) ⌝ }
+    requires { ⌜ HeldBehind z (i + 1) (now area)
+        × (i < z .stmts) ⌝ }
+    ensures { λ _. ⌜ HeldBehind z i (now (area .exit))
+        × HeldChanged z (now (area .entry)) (now (area .exit)) ⌝ }
 {
     let fate = stmt_of(area, z, i, STMT_FATE);
     let v = stmt_of(area, z, i, STMT_VARIABLE);

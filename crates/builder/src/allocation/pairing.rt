@@ -16,7 +16,8 @@ use area::sections::Sizes;
 
 // Whether a statement from i on, of n ones, has a role.
 pub fn has_role(roles: &[u32], i: usize, n: usize, role: u32) -> bool
-    requires { ⌜ (i ≤ n) × (n ≤ length (now roles)) ⌝ }
+    requires { ⌜ (i ≤ n)
+        × (n ≤ length (now roles)) ⌝ }
     ensures { λ r. ⌜ r ≡ member role (drop i (take n (now (roles .entry)))) ⌝ }
 {
     let mut j = i;
@@ -31,7 +32,8 @@ pub fn has_role(roles: &[u32], i: usize, n: usize, role: u32) -> bool
 
 // 1 for no role.
 fn none_flag(role: u32) -> usize
-    ensures { λ r. ⌜ (r ≡ flag (eqb 0 role)) × (r ≤ 1) ⌝ }
+    ensures { λ r. ⌜ (r ≡ flag (eqb 0 role))
+        × (r ≤ 1) ⌝ }
 {
     if 0 == role { 1 } else { 0 }
 }
@@ -57,7 +59,8 @@ pub struct Queue {
 }
 
 fn no_states() -> Queue
-    ensures { λ r. ⌜ (r .count ≡ 0) × (length (r .states) ≡ mostVariables) ⌝ }
+    ensures { λ r. ⌜ (r .count ≡ 0)
+        × (length (r .states) ≡ mostVariables) ⌝ }
 {
     Queue {
         count: 0,
@@ -67,7 +70,10 @@ fn no_states() -> Queue
 
 // Whether variable v is a state that no rate equation goes to.
 fn lacks(roles: &[u32], area: &[u8], z: Sizes, v: usize) -> bool
-    requires { ⌜ (z .stmts ≤ length (now roles)) × (v < z .vars) × Small z × (depsAt z ≤ length (now area)) ⌝ }
+    requires { ⌜ (z .stmts ≤ length (now roles))
+        × (v < z .vars)
+        × Small z
+        × (depsAt z ≤ length (now area)) ⌝ }
     ensures { λ r. ⌜ r ≡ lacksIn (take (z .stmts) (now (roles .entry))) (statesIn (now (area .entry)) z) v ⌝ }
 {
     let role = ((2 * v + 2) % WORD) as u32;
@@ -76,7 +82,9 @@ fn lacks(roles: &[u32], area: &[u8], z: Sizes, v: usize) -> bool
 
 // The states of an area that no rate equation goes to.
 pub fn lacking(roles: &[u32], area: &[u8], z: Sizes) -> Queue
-    requires { ⌜ (z .stmts ≤ length (now roles)) × Small z × (depsAt z ≤ length (now area)) ⌝ }
+    requires { ⌜ (z .stmts ≤ length (now roles))
+        × Small z
+        × (depsAt z ≤ length (now area)) ⌝ }
     ensures { λ r. ⌜ (r .count ≤ z .vars)
         × (length (r .states) ≡ mostVariables)
         × (take (r .count) (r .states) ≡ lackingIn (take (z .stmts) (now (roles .entry)))

@@ -76,7 +76,9 @@ fn arg_at(area: &[u8], z: Sizes, call: usize, i: usize) -> usize
 
 // What the expression at node i is as a left side.
 fn start_of(area: &[u8], z: Sizes, numbers: &[u16], i: usize) -> Start
-    requires { ⌜ ((names : ℕ) × Flattened names (now area) z) × Numbered (now area) z (now numbers) × (i < z .nodes) ⌝ }
+    requires { ⌜ ((names : ℕ) × Flattened names (now area) z)
+        × Numbered (now area) z (now numbers)
+        × (i < z .nodes) ⌝ }
     ensures { λ r. ⌜ r ≡ startAt (areaNodes (now (area .entry)) z) (now (numbers .entry))
         (indexesIn (now (area .entry)) z) i ⌝ }
 {
@@ -113,7 +115,9 @@ fn short_start(start: Start) -> bool
 
 // Refusal 10, of statement i.
 fn is_short(area: &[u8], z: Sizes, numbers: &[u16], i: usize) -> bool
-    requires { ⌜ ((names : ℕ) × Flattened names (now area) z) × Numbered (now area) z (now numbers) × (i < z .stmts) ⌝ }
+    requires { ⌜ ((names : ℕ) × Flattened names (now area) z)
+        × Numbered (now area) z (now numbers)
+        × (i < z .stmts) ⌝ }
     ensures { λ r. ⌜ r ≡ shortBy (now (numbers .entry)) (indexesIn (now (area .entry)) z)
         (flatIn (now (area .entry)) z i) ⌝ }
 {
@@ -125,7 +129,8 @@ fn is_short(area: &[u8], z: Sizes, numbers: &[u16], i: usize) -> bool
 
 // Refusal 10.
 pub fn any_short(area: &[u8], z: Sizes, numbers: &[u16]) -> bool
-    requires { ⌜ ((names : ℕ) × Flattened names (now area) z) × Numbered (now area) z (now numbers) ⌝ }
+    requires { ⌜ ((names : ℕ) × Flattened names (now area) z)
+        × Numbered (now area) z (now numbers) ⌝ }
     ensures { λ r. ⌜ r ≡ any (shortBy (now (numbers .entry)) (indexesIn (now (area .entry)) z))
         (flatsIn (now (area .entry)) z) ⌝ }
 {
@@ -141,7 +146,9 @@ pub fn any_short(area: &[u8], z: Sizes, numbers: &[u16]) -> bool
 
 // The role of an equation by its left side, as a number.
 fn start_role(area: &[u8], z: Sizes, start: Start, lower: f64) -> u32
-    requires { ⌜ (nodesEnd (z .nodes) ≤ length (now area)) × Small z × StartFits z start ⌝ }
+    requires { ⌜ (nodesEnd (z .nodes) ≤ length (now area))
+        × Small z
+        × StartFits z start ⌝ }
     ensures { λ r. ⌜ ((f : ℕ) → r ≡ startNumber lower (foundStart (areaNodes (now (area .entry)) z) f start)) ⌝ }
 {
     match start {
@@ -162,7 +169,9 @@ fn start_role(area: &[u8], z: Sizes, start: Start, lower: f64) -> u32
 
 // Whether a rate equation may go to variable v: a time-dependent state.
 fn takes_rate(area: &[u8], z: Sizes, v: usize) -> bool
-    requires { ⌜ Small z × (depsAt z ≤ length (now area)) × (v < z .vars) ⌝ }
+    requires { ⌜ Small z
+        × (depsAt z ≤ length (now area))
+        × (v < z .vars) ⌝ }
     ensures { λ r. ⌜ r ≡ eqb (getD (ratesIn (now (area .entry)) z) v 0) 1 ⌝ }
 {
     (var_of(area, z, v, VAR_STATE) == 1) & (var_of(area, z, v, VAR_TIMED) == 1)
@@ -171,7 +180,9 @@ fn takes_rate(area: &[u8], z: Sizes, v: usize) -> bool
 // The role of statement i, as a number: 0 for neither, 2 v + 1 for an initial condition of v, 2 v + 2 for a rate
 // equation that goes to v.
 fn allocate_stmt(area: &[u8], z: Sizes, numbers: &[u16], lower: f64, i: usize) -> u32
-    requires { ⌜ ((names : ℕ) × Flattened names (now area) z) × Numbered (now area) z (now numbers) × (i < z .stmts) ⌝ }
+    requires { ⌜ ((names : ℕ) × Flattened names (now area) z)
+        × Numbered (now area) z (now numbers)
+        × (i < z .stmts) ⌝ }
     ensures { λ r. ⌜ r ≡ roleBy (now (numbers .entry)) (indexesIn (now (area .entry)) z)
         (ratesIn (now (area .entry)) z) lower (flatIn (now (area .entry)) z i) ⌝ }
 {
@@ -191,7 +202,8 @@ fn allocate_stmt(area: &[u8], z: Sizes, numbers: &[u16], lower: f64, i: usize) -
 
 // The roles of all statements.
 pub fn roles(area: &[u8], z: Sizes, numbers: &[u16], lower: f64) -> [u32; MOST_STMTS]
-    requires { ⌜ ((names : ℕ) × Flattened names (now area) z) × Numbered (now area) z (now numbers) ⌝ }
+    requires { ⌜ ((names : ℕ) × Flattened names (now area) z)
+        × Numbered (now area) z (now numbers) ⌝ }
     ensures { λ r. ⌜ take (z .stmts) r ≡ map (roleBy (now (numbers .entry)) (indexesIn (now (area .entry)) z)
         (ratesIn (now (area .entry)) z) lower) (flatsIn (now (area .entry)) z) ⌝ }
 {
@@ -206,7 +218,9 @@ pub fn roles(area: &[u8], z: Sizes, numbers: &[u16], lower: f64) -> [u32; MOST_S
 
 // What is found wrong with statement i.
 fn stmt_error(area: &[u8], z: Sizes, i: usize, kind: u32, name: u32) -> Found
-    requires { ⌜ Small z × (varsAt z ≤ length (now area)) × (i < z .stmts) ⌝ }
+    requires { ⌜ Small z
+        × (varsAt z ≤ length (now area))
+        × (i < z .stmts) ⌝ }
     ensures { λ r. ⌜ foundAs r ≡ error kind (spanFrom (areaStmt (now (area .entry)) z i) 4) name ∷ [] ⌝ }
 {
     let at = stmts_at(z);
@@ -270,7 +284,9 @@ fn rate_error(area: &[u8], z: Sizes, numbers: &[u16], i: usize) -> Found
 
 // Which of the errors 12, 5 and 13 is found of statement i.
 fn role_error(area: &[u8], z: Sizes, numbers: &[u16], lower: f64, i: usize) -> Found
-    requires { ⌜ ((names : ℕ) × Flattened names (now area) z) × Numbered (now area) z (now numbers) × (i < z .stmts) ⌝ }
+    requires { ⌜ ((names : ℕ) × Flattened names (now area) z)
+        × Numbered (now area) z (now numbers)
+        × (i < z .stmts) ⌝ }
     ensures { λ r. ⌜ foundAs r ≡ roleErrorsBy (now (numbers .entry)) (indexesIn (now (area .entry)) z)
         (ratesIn (now (area .entry)) z) lower (flatIn (now (area .entry)) z i) ⌝ }
 {

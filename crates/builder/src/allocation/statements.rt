@@ -29,7 +29,8 @@ fn paired(left: usize, states: usize) -> usize
 }
 
 pub fn allocate_stmts(area: &mut [u8], z: Sizes, numbers: &[u16], lower: f64) -> Left
-    requires { ⌜ ((names : ℕ) × Flattened names (now area) z) × Numbered (now area) z (now numbers) ⌝ }
+    requires { ⌜ ((names : ℕ) × Flattened names (now area) z)
+        × Numbered (now area) z (now numbers) ⌝ }
     ensures { λ r. ⌜ (r .stmts ≡ times (eqb 0) (rolesBy (now (area .entry)) z (now (numbers .entry)) lower))
         × (r .states ≡ length (lackingBy (now (area .entry)) z (now (numbers .entry)) lower))
         × (now (area .exit) ≡ put (now (area .entry)) (stmtsAt z)

@@ -70,7 +70,9 @@ struct Place {
 
 // An error with the span of unknown u, unless a test passed.
 fn unknown_error(f: &[u8], s: Sections, u: usize, passed: bool, kind: u32, name: usize) -> Found
-    requires { ⌜ Open (now f) s × (u < s .counts .unknowns) × (name < 2 ^ 32) ⌝ }
+    requires { ⌜ Open (now f) s
+        × (u < s .counts .unknowns)
+        × (name < 2 ^ 32) ⌝ }
     ensures { λ r. ⌜ foundAs r
         ≡ unless passed (error kind (spanOfUnknown (getD (contentsIn (now (f .entry)) s .unknowns) u [])) name) ⌝ }
 {

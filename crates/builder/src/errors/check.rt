@@ -58,7 +58,9 @@ pub struct Run {
 
 // An error with the span of node i, unless a test passed.
 pub fn found_at(b: &[u8], ns: Nodes, i: usize, passed: bool, kind: u32, name: usize) -> Found
-    requires { ⌜ NodesLie ns (now b) × (i < ns .count) × (name < 2 ^ 32) ⌝ }
+    requires { ⌜ NodesLie ns (now b)
+        × (i < ns .count)
+        × (name < 2 ^ 32) ⌝ }
     ensures { λ r. ⌜ foundAs r ≡ unless passed (error kind (spanAt (nodesIn ns (now (b .entry))) i) name) ⌝ }
 {
     if passed {
@@ -72,7 +74,8 @@ pub fn found_at(b: &[u8], ns: Nodes, i: usize, passed: bool, kind: u32, name: us
 
 // The run without its last argument.
 pub fn before_last(b: &[u8], ns: Nodes, run: Run) -> Run
-    requires { ⌜ ((names : ℕ) × ArgsIn names (now b) ns run) × (0 < run .args) ⌝ }
+    requires { ⌜ ((names : ℕ) × ArgsIn names (now b) ns run)
+        × (0 < run .args) ⌝ }
     ensures { λ r. ⌜ r ≡ beforeLast (nodesIn ns (now (b .entry))) run ⌝ }
 {
     let size = node_word(b, ns, run.end - 1, NODE_SIZE);
@@ -85,7 +88,8 @@ pub fn before_last(b: &[u8], ns: Nodes, run: Run) -> Run
 // The arguments of the call at node i.
 pub fn run_of(b: &[u8], ns: Nodes, i: usize) -> Run
     requires { ⌜ ((names : ℕ) × CallIn names (now b) ns i) ⌝ }
-    ensures { λ r. ⌜ (r ≡ runOf (nodesIn ns (now (b .entry))) i) × (r .args < 2 ^ 32) ⌝ }
+    ensures { λ r. ⌜ (r ≡ runOf (nodesIn ns (now (b .entry))) i)
+        × (r .args < 2 ^ 32) ⌝ }
 {
     let args = node_word(b, ns, i, NODE_OP);
     let total = node_word(b, ns, i, NODE_SIZE) - 1;
@@ -232,7 +236,9 @@ fn call_errors(
 
 // Error 5 of an expression that is a name: it has no entry.
 fn name_error(b: &[u8], ns: Nodes, vars: &[u16; MOST_NAMES], i: usize) -> Found
-    requires { ⌜ NodesLie ns (now b) × (i < ns .count) × (nameAt (nodesIn ns (now b)) i < mostNames) ⌝ }
+    requires { ⌜ NodesLie ns (now b)
+        × (i < ns .count)
+        × (nameAt (nodesIn ns (now b)) i < mostNames) ⌝ }
     ensures { λ r. ⌜ foundAs r ≡ nameAbsent (nodesIn ns (now (b .entry))) (now (vars .entry)) i ⌝ }
 {
     let name = node_word(b, ns, i, NODE_NAME);

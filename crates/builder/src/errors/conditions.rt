@@ -45,7 +45,8 @@ use ast::sections::record_word;
 
 // What is found wrong with model m as a whole.
 fn model_error(f: &[u8], s: Sections, m: usize, kind: u32, name: u32) -> Found
-    requires { ⌜ Open (now f) s × (m < s .counts .models) ⌝ }
+    requires { ⌜ Open (now f) s
+        × (m < s .counts .models) ⌝ }
     ensures { λ r. ⌜ foundAs r ≡ error kind (modelAt (fileIn (now (f .entry)) s) m .span) name ∷ [] ⌝ }
 {
     let from = model(f, s, m, MODEL_FROM) as u32;
@@ -55,7 +56,8 @@ fn model_error(f: &[u8], s: Sections, m: usize, kind: u32, name: u32) -> Found
 
 // Errors 14 and 15: other than as many statements left as states lacking an equation.
 pub fn count_error(f: &[u8], s: Sections, m: usize, left: Left) -> Found
-    requires { ⌜ Open (now f) s × (m < s .counts .models) ⌝ }
+    requires { ⌜ Open (now f) s
+        × (m < s .counts .models) ⌝ }
     ensures { λ r. ⌜ foundAs r ≡ countErrors (modelAt (fileIn (now (f .entry)) s) m .span) (left .stmts)
         (left .states) ⌝ }
 {
@@ -70,7 +72,8 @@ pub fn count_error(f: &[u8], s: Sections, m: usize, left: Left) -> Found
 
 // Error 17, at the right side of statement i.
 fn condition_error(area: &[u8], z: Sizes, i: usize, name: u32) -> Found
-    requires { ⌜ Righted (now area) z × (i < z .stmts) ⌝ }
+    requires { ⌜ Righted (now area) z
+        × (i < z .stmts) ⌝ }
     ensures { λ r. ⌜ foundAs r ≡ error algebraicInitialCondition
         (rightSpanIn (areaNodes (now (area .entry)) z) (areaStmts (now (area .entry)) z) i) name ∷ [] ⌝ }
 {
@@ -99,7 +102,10 @@ fn first_condition(area: &[u8], z: Sizes, v: usize) -> usize
 
 // Errors 16 and 17 of variable v, by what its record says that it holds.
 fn state_error(f: &[u8], s: Sections, m: usize, area: &[u8], z: Sizes, v: usize) -> Found
-    requires { ⌜ Open (now f) s × (m < s .counts .models) × Righted (now area) z × (v < z .vars) ⌝ }
+    requires { ⌜ Open (now f) s
+        × (m < s .counts .models)
+        × Righted (now area) z
+        × (v < z .vars) ⌝ }
     ensures { λ r. ⌜ foundAs r ≡ stateErrorsIn (modelAt (fileIn (now (f .entry)) s) m .span)
         (areaNodes (now (area .entry)) z) (areaStmts (now (area .entry)) z)
         (getD (namesIn (now (area .entry)) z) v 0) v ⌝ }

@@ -118,7 +118,8 @@ fn own_extent(
     q: usize,
     done: FlatExtent,
 ) -> FlatExtent
-    requires { ⌜ OwnAt (now f) s (now rows) level q × Counted done ⌝ }
+    requires { ⌜ OwnAt (now f) s (now rows) level q
+        × Counted done ⌝ }
     ensures { λ r. ⌜ ((sub : ℕ → List Flat) → Extended done
         (broughtAt (now (f .entry)) s (now (rows .entry)) level sub q) r) ⌝ }
 {

@@ -34,7 +34,8 @@ fn forbidden(
     callees: &[u8; MOST_STMTS],
     m: usize,
 ) -> u32
-    requires { ⌜ checking.Called (now f) s (now classes) (now callees) × (m < s .counts .models) ⌝ }
+    requires { ⌜ checking.Called (now f) s (now classes) (now callees)
+        × (m < s .counts .models) ⌝ }
     ensures { λ r. ⌜ r ≡ forbiddenOf (fileIn (now (f .entry)) s) m ⌝ }
 {
     let table = reach(f, s, callees);

@@ -24,14 +24,16 @@ use ast::sections::Sections;
 
 // No replacements, for 32 models in one another.
 pub fn no_rows() -> [u16; ROWS]
-    ensures { λ r. ⌜ (length r ≡ mostNames * mostModels) × ((n : ℕ) → getD r n 0 ≡ 0) ⌝ }
+    ensures { λ r. ⌜ (length r ≡ mostNames * mostModels)
+        × ((n : ℕ) → getD r n 0 ≡ 0) ⌝ }
 {
     [0u16; ROWS]
 }
 
 // The same for 2 models.
 pub fn few_rows() -> [u16; FEW_ROWS]
-    ensures { λ r. ⌜ (length r ≡ mostNames * fewModels) × ((n : ℕ) → getD r n 0 ≡ 0) ⌝ }
+    ensures { λ r. ⌜ (length r ≡ mostNames * fewModels)
+        × ((n : ℕ) → getD r n 0 ≡ 0) ⌝ }
 {
     [0u16; FEW_ROWS]
 }

@@ -27,7 +27,8 @@ use ast::sections::Sections;
 
 // The name, plus 1, that argument number i with a keyword (plus 1, or 0) replaces: its unknown i, or its keyword.
 fn target(f: &[u8], s: Sections, m: usize, i: usize, keyword: usize) -> usize
-    requires { ⌜ Open (now f) s × ((m < s .counts .models) × (keyword ≤ s .counts .names)) ⌝ }
+    requires { ⌜ Open (now f) s
+        × ((m < s .counts .models) × (keyword ≤ s .counts .names)) ⌝ }
     ensures { λ r. ⌜ (r ≡ replacedName (modelAt (fileIn (now (f .entry)) s) m .unknowns) i keyword)
         × (r ≤ s .counts .names) ⌝ }
 {
@@ -65,7 +66,10 @@ fn set_free(row: &mut [u16], j: usize, value: u16)
 
 // Notes what argument number i, node end - 1, replaces in model m, unless a later one replaces the same.
 fn note_argument(f: &[u8], s: Sections, m: usize, i: usize, end: usize, row: &mut [u16])
-    requires { ⌜ Open (now f) s × (m < s .counts .models) × ArgumentBefore (now f) s end × RowIn (now f) s (now row) ⌝ }
+    requires { ⌜ Open (now f) s
+        × (m < s .counts .models)
+        × ArgumentBefore (now f) s end
+        × RowIn (now f) s (now row) ⌝ }
     ensures { λ _. ⌜ RowIn (now (f .entry)) s (now (row .exit))
         × ((by : Replacements) (n : ℕ) → over (contentsIn (now (f .entry)) s .nodes) (now (row .exit)) by n
         ≡ over (contentsIn (now (f .entry)) s .nodes) (now (row .entry))
@@ -81,7 +85,9 @@ fn note_argument(f: &[u8], s: Sections, m: usize, i: usize, end: usize, row: &mu
 
 // Notes what the arguments of a call replace in model m, the last argument first: the later wins.
 fn fill_row(f: &[u8], s: Sections, m: usize, call: usize, row: &mut [u16])
-    requires { ⌜ ModelCall (now f) s m call × (length (now row) ≡ mostNames) × ((n : ℕ) → getD (now row) n 0 ≡ 0) ⌝ }
+    requires { ⌜ ModelCall (now f) s m call
+        × (length (now row) ≡ mostNames)
+        × ((n : ℕ) → getD (now row) n 0 ≡ 0) ⌝ }
     ensures { λ _. ⌜ RowIn (now (f .entry)) s (now (row .exit))
         × ((n : ℕ) → byTable (contentsIn (now (f .entry)) s .nodes) (now (row .exit)) n
         ≡ replacedBy (now (f .entry)) s m call n) ⌝ }
@@ -97,7 +103,8 @@ fn fill_row(f: &[u8], s: Sections, m: usize, call: usize, row: &mut [u16])
 
 // The replacements of a call as a row, whatever it held of the names.
 fn new_row(f: &[u8], s: Sections, m: usize, call: usize, row: &mut [u16])
-    requires { ⌜ ModelCall (now f) s m call × RowIn (now f) s (now row) ⌝ }
+    requires { ⌜ ModelCall (now f) s m call
+        × RowIn (now f) s (now row) ⌝ }
     ensures { λ _. ⌜ RowIn (now (f .entry)) s (now (row .exit))
         × ((n : ℕ) → byTable (contentsIn (now (f .entry)) s .nodes) (now (row .exit)) n
         ≡ replacedBy (now (f .entry)) s m call n) ⌝ }
@@ -115,7 +122,8 @@ pub fn find_replacements(
     rows: &mut [u16],
     level: usize,
 )
-    requires { ⌜ ModelCall (now f) s m call × RowsAt (now f) s (now rows) (level + 1) ⌝ }
+    requires { ⌜ ModelCall (now f) s m call
+        × RowsAt (now f) s (now rows) (level + 1) ⌝ }
     ensures { λ _. ⌜ RowsKept (now (f .entry)) s level (now (rows .entry)) (now (rows .exit))
         × ((n : ℕ) → byTable (contentsIn (now (f .entry)) s .nodes)
         (take mostNames (drop (mostNames * level) (now (rows .exit)))) n ≡ replacedBy (now (f .entry)) s m call n) ⌝ }

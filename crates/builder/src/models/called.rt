@@ -52,7 +52,8 @@ fn find_model(f: &[u8], s: Sections, name: usize) -> usize
 
 // The number, plus 1, of the model that statement q calls, or 0.
 fn callee(f: &[u8], s: Sections, q: usize) -> u8
-    requires { ⌜ Open (now f) s × (q < s .counts .stmts) ⌝ }
+    requires { ⌜ Open (now f) s
+        × (q < s .counts .stmts) ⌝ }
     ensures { λ r. ⌜ r ≡ calleeOf (fileIn (now (f .entry)) s) (stmtIn (now (f .entry)) s q) ⌝ }
 {
     if stmt(f, s, q, STMT_KIND) != SUBMODEL_KIND {

@@ -124,7 +124,8 @@ fn reach_round(f: &[u8], s: Sections, callees: &[u8; MOST_STMTS], old: &[u8]) ->
 
 // Whether model b is reached from model a, at 32 a + b.
 pub fn reach(f: &[u8], s: Sections, callees: &[u8; MOST_STMTS]) -> [u8; MODEL_PAIRS]
-    requires { ⌜ Open (now f) s × Callees (now f) s (now callees) ⌝ }
+    requires { ⌜ Open (now f) s
+        × Callees (now f) s (now callees) ⌝ }
     ensures { λ r. ⌜ ReachedIn (now (f .entry)) s r ⌝ }
 {
     let mut table = [0u8; MODEL_PAIRS];
@@ -150,7 +151,9 @@ fn is_reached(f: &[u8], s: Sections, table: &[u8; MODEL_PAIRS], root: usize, m: 
 
 // Whether unknown u, t or unreserved, lists itself.
 fn lists_itself(f: &[u8], s: Sections, classes: &[u8; MOST_NAMES], u: usize) -> bool
-    requires { ⌜ Open (now f) s × Classes (fileIn (now f) s .names) (now classes) × (u < s .counts .unknowns) ⌝ }
+    requires { ⌜ Open (now f) s
+        × Classes (fileIn (now f) s .names) (now classes)
+        × (u < s .counts .unknowns) ⌝ }
     ensures { λ r. ⌜ r ≡ flatten.listsItself (fileIn (now (f .entry)) s) (unknownIn (now (f .entry)) s u) ⌝ }
 {
     let name = unknown(f, s, u, UNKNOWN_NAME);
@@ -160,7 +163,9 @@ fn lists_itself(f: &[u8], s: Sections, classes: &[u8; MOST_NAMES], u: usize) -> 
 
 // Whether a positional argument of a call has a number that is not below n.
 fn beyond(f: &[u8], s: Sections, call: usize, n: usize) -> bool
-    requires { ⌜ Open (now f) s × (call < s .counts .nodes) × (kindAt (contentsIn (now f) s .nodes) call ≡ callKind) ⌝ }
+    requires { ⌜ Open (now f) s
+        × (call < s .counts .nodes)
+        × (kindAt (contentsIn (now f) s .nodes) call ≡ callKind) ⌝ }
     ensures { λ r. ⌜ r ≡ flatten.argsBeyond n (argsBefore (contentsIn (now (f .entry)) s .nodes) call
         (opAt (contentsIn (now (f .entry)) s .nodes) call) (sizeAt (contentsIn (now (f .entry)) s .nodes) call - 1)) ⌝ }
 {
@@ -178,7 +183,9 @@ fn beyond(f: &[u8], s: Sections, call: usize, n: usize) -> bool
 
 // Whether statement q calls a model with a positional argument whose number is not below the model's count of unknowns.
 fn too_many(f: &[u8], s: Sections, callees: &[u8; MOST_STMTS], q: usize) -> bool
-    requires { ⌜ Open (now f) s × Callees (now f) s (now callees) × (q < s .counts .stmts) ⌝ }
+    requires { ⌜ Open (now f) s
+        × Callees (now f) s (now callees)
+        × (q < s .counts .stmts) ⌝ }
     ensures { λ r. ⌜ r ≡ flatten.stmtBeyond (fileIn (now (f .entry)) s) (stmtIn (now (f .entry)) s q) ⌝ }
 {
     let c = callees[q] as usize;
@@ -203,7 +210,8 @@ fn record_is_reason(
     r: usize,
     refusal: u32,
 ) -> bool
-    requires { ⌜ Called (now f) s (now classes) (now callees) × (r < recordsFor s refusal) ⌝ }
+    requires { ⌜ Called (now f) s (now classes) (now callees)
+        × (r < recordsFor s refusal) ⌝ }
     ensures { λ b. ⌜ b ≡ recordIsReason (now (f .entry)) s refusal r ⌝ }
 {
     if refusal == SELF_LISTED_UNKNOWN {
@@ -233,7 +241,8 @@ fn has_reason(
     m: usize,
     refusal: u32,
 ) -> bool
-    requires { ⌜ Called (now f) s (now classes) (now callees) × (m < s .counts .models) ⌝ }
+    requires { ⌜ Called (now f) s (now classes) (now callees)
+        × (m < s .counts .models) ⌝ }
     ensures { λ r. ⌜ r ≡ hasReason (fileIn (now (f .entry)) s) refusal m 0 ⌝ }
 {
     let word = run_word(refusal);

@@ -30,7 +30,8 @@ use ast::sections::Sections;
 
 // Whether a name is among the dependents of unknown u.
 pub fn names_dep(f: &[u8], s: Sections, u: usize, name: usize) -> bool
-    requires { ⌜ Open (now f) s × (u < s .counts .unknowns) ⌝ }
+    requires { ⌜ Open (now f) s
+        × (u < s .counts .unknowns) ⌝ }
     ensures { λ r. ⌜ r ≡ member name (unknownIn (now (f .entry)) s u .deps) ⌝ }
 {
     let first = unknown(f, s, u, UNKNOWN_FIRST_DEP);
@@ -85,7 +86,9 @@ pub fn no_marks() -> [u16; MOST_NAMES]
 
 // Marks t's name, in a table without marks.
 fn time_declared(f: &[u8], s: Sections, classes: &[u8; MOST_NAMES], out: &mut [u16])
-    requires { ⌜ Open (now f) s × Classes (fileIn (now f) s .names) (now classes) × Blank mostNames (now out) ⌝ }
+    requires { ⌜ Open (now f) s
+        × Classes (fileIn (now f) s .names) (now classes)
+        × Blank mostNames (now out) ⌝ }
     ensures { λ _. ⌜ Marks (s .counts .names) (timeName (fileIn (now (f .entry)) s .names) ∷ []) (now (out .exit)) ⌝ }
 {
     let time = time_name(f, s, classes);
@@ -103,7 +106,8 @@ fn marked(old: u16, reserved: bool) -> u16
 
 // Marks the variables of model m, in a table without marks: t, and each unreserved unknown's name.
 fn declared(f: &[u8], s: Sections, classes: &[u8; MOST_NAMES], m: usize, out: &mut [u16])
-    requires { ⌜ ClassedModel (now f) s (now classes) m × Blank mostNames (now out) ⌝ }
+    requires { ⌜ ClassedModel (now f) s (now classes) m
+        × Blank mostNames (now out) ⌝ }
     ensures { λ _. ⌜ Marks (s .counts .names) (variableNames (fileIn (now (f .entry)) s .names)
         (modelAt (fileIn (now (f .entry)) s) m .unknowns)) (now (out .exit)) ⌝ }
 {
@@ -127,8 +131,11 @@ fn one_kept(entry: u16) -> u16
 
 // How many of unknown u's dependents are variables.
 fn kept_count(f: &[u8], s: Sections, vars: &[u16], u: usize) -> u16
-    requires { ⌜ Open (now f) s × (u < s .counts .unknowns) × (length (now vars) ≡ mostNames) ⌝ }
-    ensures { λ r. ⌜ (r ≡ keptIn (now (vars .entry)) (unknownIn (now (f .entry)) s u .deps)) × (r ≤ mostDeps) ⌝ }
+    requires { ⌜ Open (now f) s
+        × (u < s .counts .unknowns)
+        × (length (now vars) ≡ mostNames) ⌝ }
+    ensures { λ r. ⌜ (r ≡ keptIn (now (vars .entry)) (unknownIn (now (f .entry)) s u .deps))
+        × (r ≤ mostDeps) ⌝ }
 {
     let first = unknown(f, s, u, UNKNOWN_FIRST_DEP);
     let count = unknown(f, s, u, UNKNOWN_DEPS);
@@ -155,7 +162,8 @@ fn raised(entry: u16, kept: u16) -> u16
 // Notes the variables of model m by name, in a table without marks: 0 where a name is none, else 1 plus the count of
 // its kept dependents.
 pub fn model_vars(f: &[u8], s: Sections, classes: &[u8; MOST_NAMES], m: usize, out: &mut [u16])
-    requires { ⌜ ClassedModel (now f) s (now classes) m × Blank mostNames (now out) ⌝ }
+    requires { ⌜ ClassedModel (now f) s (now classes) m
+        × Blank mostNames (now out) ⌝ }
     ensures { λ _. ⌜ VarsOf (scopeIn (now (f .entry)) s m) (now (out .exit))
         × (length (now (out .exit)) ≡ mostNames) ⌝ }
 {

@@ -35,7 +35,8 @@ use ast::words::put_word;
 
 // The unknown of model m, plus 1, that declares a name (plus 1) last, or 0.
 pub fn last_declared(f: &[u8], s: Sections, m: usize, name: usize) -> usize
-    requires { ⌜ Open (now f) s × (m < s .counts .models) ⌝ }
+    requires { ⌜ Open (now f) s
+        × (m < s .counts .models) ⌝ }
     ensures { λ r. ⌜ LastDeclared (now (f .entry)) s m name r ⌝ }
 {
     let first = model(f, s, m, MODEL_FIRST_UNKNOWN);
@@ -120,7 +121,10 @@ pub fn time_bounds(f: &[u8], s: Sections, classes: &[u8], m: usize, name: usize)
 // The bits of a bound that unknown u - 1 declares. A NaN has none of its own: they are the file's, from word k of the
 // unknown on.
 fn bound_bits(x: f64, f: &[u8], s: Sections, u: usize, k: usize) -> u64
-    requires { ⌜ Open (now f) s × (u ≤ s .counts .unknowns) × (k + 1 < unknownLength) × NanDeclared u x ⌝ }
+    requires { ⌜ Open (now f) s
+        × (u ≤ s .counts .unknowns)
+        × (k + 1 < unknownLength)
+        × NanDeclared u x ⌝ }
     ensures { λ r. ⌜ r ≡ boundBits (now (f .entry)) s u k x ⌝ }
 {
     if x != x {
@@ -166,7 +170,8 @@ pub fn put_var_bounds(
     out: &mut [u8],
     place: usize,
 )
-    requires { ⌜ Bounded (now f) s (now classes) m × (place + 4 * boundsLength ≤ length (now out)) ⌝ }
+    requires { ⌜ Bounded (now f) s (now classes) m
+        × (place + 4 * boundsLength ≤ length (now out)) ⌝ }
     ensures { λ _. ⌜ now (out .exit) ≡ put (now (out .entry)) place
         (bytesOf (boundsWords (varBounds (fileIn (now (f .entry)) s .names)
         (modelAt (fileIn (now (f .entry)) s) m .unknowns) v name))) ⌝ }

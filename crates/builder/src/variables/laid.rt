@@ -26,7 +26,9 @@ pub fn lay_vars(
     q: usize,
     numbers: &mut [u16],
 ) -> Sizes
-    requires { ⌜ Bounded (now f) s (now classes) m × VarsRoom n q (now area) × Blank mostNames (now numbers) ⌝ }
+    requires { ⌜ Bounded (now f) s (now classes) m
+        × VarsRoom n q (now area)
+        × Blank mostNames (now numbers) ⌝ }
     ensures { λ r. ⌜ VarsLaid (fileIn (now (f .entry)) s) m n q (now (area .entry)) r (now (area .exit))
         × (Numbers (rosterIn (now (f .entry)) s m) (now (numbers .exit))
         × (length (now (numbers .exit)) ≡ mostNames)) ⌝ }

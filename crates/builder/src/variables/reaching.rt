@@ -20,7 +20,8 @@ use ast::sections::dep_word;
 
 // Whether one of the dependents of variable v is marked as time-dependent.
 fn reaches_time(area: &[u8], z: Sizes, v: usize) -> bool
-    requires { ⌜ DepsIn z (now area) × (v < z .vars) ⌝ }
+    requires { ⌜ DepsIn z (now area)
+        × (v < z .vars) ⌝ }
     ensures { λ r. ⌜ r ≡ any (leads (marksIn (now (area .entry)) z)) (depsIn (now (area .entry)) z v) ⌝ }
 {
     let at = deps_at(z);
@@ -60,7 +61,9 @@ fn time_round(area: &[u8], z: Sizes) -> [u8; MOST_VARS]
 
 // Takes over the marks, and tells whether one of them is new.
 fn take_marks(area: &mut [u8], z: Sizes, next: &[u8]) -> bool
-    requires { ⌜ DepsIn z (now area) × (length (now next) ≡ mostVariables) × Round z (now area) (now next) ⌝ }
+    requires { ⌜ DepsIn z (now area)
+        × (length (now next) ≡ mostVariables)
+        × Round z (now area) (now next) ⌝ }
     ensures { λ r. ⌜ VarsAre z (now (area .entry)) (timedFrom (λ v. eqb (getD (now (next .entry)) v 0) 1) 0
         (areaVars (now (area .entry)) z)) (now (area .exit))
         × (r ≡ false → (v : ℕ) → v < z .vars

@@ -56,7 +56,8 @@ struct Lead {
 
 // Writes the words of a variable in front of its bounds: it holds nothing yet.
 fn put_lead(area: &mut [u8], at: usize, lead: Lead)
-    requires { ⌜ (at + 4 * leadLength ≤ length (now area)) × (lead .first ≤ lead .end) ⌝ }
+    requires { ⌜ (at + 4 * leadLength ≤ length (now area))
+        × (lead .first ≤ lead .end) ⌝ }
     ensures { λ _. ⌜ now (area .exit) ≡ put (now (area .entry)) at
         (bytesOf (leadWords (lead .name) (lead .first) (lead .end) (lead .index) (lead .time))) ⌝ }
 {
@@ -111,7 +112,10 @@ fn put_variable(
 // What the record of variable v says, whose name (plus 1) is given, and whose dependents stand in the area from `first`
 // up to `end`.
 fn lead_of(area: &[u8], z: Sizes, v: usize, name: u32, first: usize, end: usize) -> Lead
-    requires { ⌜ Small z × (first ≤ end) × (end ≤ mostDeps) × (depsAt z + 4 * end ≤ length (now area)) ⌝ }
+    requires { ⌜ Small z
+        × (first ≤ end)
+        × (end ≤ mostDeps)
+        × (depsAt z + 4 * end ≤ length (now area)) ⌝ }
     ensures { λ r. ⌜ LeadOf r v name first end (wordsFrom (drop (depsAt z) (now (area .entry))) first end) ⌝ }
 {
     let at = deps_at(z);

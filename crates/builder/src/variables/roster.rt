@@ -12,7 +12,7 @@ ghost use Rattle.builder.specs.Tables.{ClassedModel, Blank};
 ghost use Rattle.area.specs.Sections.{Grown, areaVars, VarsAre};
 ghost use Rattle.builder.specs.VariableTables.{wordsFrom, declareOne, Listing, unknownsIn, rosterIn, unknownIn, oneBelow, keptBy, keptNamed, RoomBehind, PutBehind, Numbered, RosterRoom};
 ghost use Rattle.builder.specs.Allocating.{namesIn};
-ghost use Rattle.builder.specs.Root.{VarsRoom};
+ghost use Rattle.builder.specs.Root.{VarsRoom, VarsListed};
 use crate::names::is_reserved;
 use crate::names::time_name;
 use area::layout::VAR_NAME;
@@ -35,7 +35,10 @@ use ast::words::read_word;
 // Lists t alone, as the one variable there is: its record has its name's number plus 1 (0 where no name is t), and
 // `numbers`, without entries before, a variable's number plus 1 by a name's number.
 fn time_alone(time: usize, area: &mut [u8], z: Sizes, numbers: &mut [u16])
-    requires { ⌜ (time ≤ mostNames) × RosterRoom z (now area) × (z .vars ≡ 1) × Blank mostNames (now numbers) ⌝ }
+    requires { ⌜ (time ≤ mostNames)
+        × RosterRoom z (now area)
+        × (z .vars ≡ 1)
+        × Blank mostNames (now numbers) ⌝ }
     ensures { λ _. ⌜ Listing (time ∷ []) (namesIn (now (area .exit)) z) (now (numbers .exit))
         × VarsAre z (now (area .entry)) (areaVars (now (area .exit)) z) (now (area .exit)) ⌝ }
 {
@@ -83,12 +86,11 @@ pub fn roster_of(
     q: usize,
     numbers: &mut [u16],
 ) -> Sizes
-    requires { ⌜ ClassedModel (now f) s (now classes) m × VarsRoom n q (now area) × Blank mostNames (now numbers) ⌝ }
-    ensures { λ r. ⌜ Listing (rosterIn (now (f .entry)) s m) (namesIn (now (area .exit)) r) (now (numbers .exit))
-        × (r .nodes ≡ n)
-        × (r .stmts ≡ q)
-        × (r .deps ≡ 0)
-        × VarsAre r (now (area .entry)) (areaVars (now (area .exit)) r) (now (area .exit)) ⌝ }
+    requires { ⌜ ClassedModel (now f) s (now classes) m
+        × VarsRoom n q (now area)
+        × Blank mostNames (now numbers) ⌝ }
+    ensures { λ r. ⌜ VarsListed (now (f .entry)) s m n q (now (area .entry)) r (now (area .exit))
+        (now (numbers .exit)) ⌝ }
 {
     let first = model(f, s, m, MODEL_FIRST_UNKNOWN);
     let count = model(f, s, m, MODEL_UNKNOWNS);
@@ -200,7 +202,8 @@ pub fn set_dependents(
 
 // The place, plus 1, of the last t among the dependents from `first` up to `end`, or 0.
 pub fn time_index(deps: &[u8], first: usize, end: usize) -> usize
-    requires { ⌜ (first ≤ end) × (4 * end ≤ length (now deps)) ⌝ }
+    requires { ⌜ (first ≤ end)
+        × (4 * end ≤ length (now deps)) ⌝ }
     ensures { λ r. ⌜ r ≡ plusOne (lastTime 0 none (wordsFrom (now (deps .entry)) first end)) ⌝ }
 {
     let mut i = end;

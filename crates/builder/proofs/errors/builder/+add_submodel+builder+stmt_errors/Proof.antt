@@ -149,12 +149,12 @@ add-submodel-returns-2 t c =
     λ o. lists-then (submodel-found (p .1 .0) (a .q) (p .1 .1 .within) 3 (sym (p .1 .2)) refl (λ j. errorsOf (fileIn (a .f .now) (a .s)) (a .k) j) o (c₁ .before .before .before .before .if1 .left) (stmt .result) (stmt .ensures .0) (run-of .result) (run-of .ensures .0)) _ _ _ _ _ _ (c₁ .before .before .builder .ensures) (c .before .before .order-errors .ensures)
 
 abbrev builder-Inv-loop : builder-lts.InvT-loop
-builder-Inv-loop f s classes rules calls k m out₀ count vars first stmts listed₀ i₀ out listed i =
+builder-Inv-loop f s classes rules callees k m out₀ count vars first stmts listed₀ i₀ out listed i =
     (i ≤ stmts)
     × Lists out₀ listed₀ (each (stmtErrors (fileIn f s) (λ j. errorsOf (fileIn f s) (k - 1) j) (scopeIn f s m)) (take i (modelAt (fileIn f s) m .stmts))) listed out
 
 abbrev builder-μ-loop : builder-lts.MeasureT-loop
-builder-μ-loop f s classes rules calls k m out₀ count vars first stmts listed₀ i₀ out listed i = stmts - i
+builder-μ-loop f s classes rules callees k m out₀ count vars first stmts listed₀ i₀ out listed i = stmts - i
 
 builder-returns : (t : ℕ) → builder-lts.Need-returns (no-marks-reads.Asked, no-marks-reads.Learnt, model-vars-reads.Asked, model-vars-reads.Learnt, model-reads.Asked, model-reads.Learnt, unknowns-errors-reads.Asked, unknowns-errors-reads.Learnt, stmt-errors-below t, stmt-errors.Post) (builder-at t) builder.Post builder-Inv-loop builder-μ-loop
 builder-returns t c =

@@ -55,10 +55,10 @@ stmt-instances-below t =
     stmt-instances.Pre
 
 abbrev instances-Inv-loop : instances-lts.InvT-loop
-instances-Inv-loop f s calls k m most first count total₀ i₀ total i = (i ≤ count) × (total ≡ atMost most (1 + sumOf (calledInstances (fileIn f s) (k - 1)) (take i (modelAt (fileIn f s) m .stmts))))
+instances-Inv-loop f s callees k m most first count total₀ i₀ total i = (i ≤ count) × (total ≡ atMost most (1 + sumOf (calledInstances (fileIn f s) (k - 1)) (take i (modelAt (fileIn f s) m .stmts))))
 
 abbrev instances-μ-loop : instances-lts.MeasureT-loop
-instances-μ-loop f s calls k m most first count total₀ i₀ total i = count - i
+instances-μ-loop f s callees k m most first count total₀ i₀ total i = count - i
 
 instances-returns : (t : ℕ) → instances-lts.Need-returns (model-reads.Asked, model-reads.Learnt, stmt-instances-below t, stmt-instances.Post) (instances-at t) instances.Post instances-Inv-loop instances-μ-loop
 instances-returns t c =

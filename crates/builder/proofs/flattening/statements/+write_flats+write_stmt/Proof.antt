@@ -48,10 +48,10 @@ write-stmt-below t =
     and 4 write-stmt-kinds.ps (falls 4 write-stmt-kinds.ps _<_ μ-write-stmt t) write-stmt.Pre
 
 abbrev write-flats-Inv-loop : write-flats-lts.InvT-loop
-write-flats-Inv-loop f s calls rows₀ k m level out₀ first count total₀ i₀ rows out total i = Writing f s k m rows₀ level out₀ total₀ rows out total i
+write-flats-Inv-loop f s callees rows₀ k m level out₀ first count total₀ i₀ rows out total i = Writing f s k m rows₀ level out₀ total₀ rows out total i
 
 abbrev write-flats-μ-loop : write-flats-lts.MeasureT-loop
-write-flats-μ-loop f s calls rows₀ k m level out₀ first count total₀ i₀ rows out total i = count - i
+write-flats-μ-loop f s callees rows₀ k m level out₀ first count total₀ i₀ rows out total i = count - i
 
 write-flats-returns : (t : ℕ) → write-flats-lts.Need-returns (model-reads.Asked, model-reads.Learnt, write-stmt-below t, write-stmt.Post) (write-flats-at t) write-flats.Post write-flats-Inv-loop write-flats-μ-loop
 write-flats-returns t c =

@@ -10,10 +10,10 @@ use Rattle.builder.proofs.models.reached.any_reason.Statement.{statemen
 use Rattle.builder.proofs.models.reached.any_reason.Tie as tie
 
 abbrev Inv-loop : tie.InvT-loop
-Inv-loop f s classes calls table root refusal m₀ m = (m ≤ s .counts .models) × (anyReason (fileIn f s) root refusal ≡ flatten.anyReached (fileIn f s) root (isReason (fileIn f s) refusal) m)
+Inv-loop f s classes callees table root refusal m₀ m = (m ≤ s .counts .models) × (anyReason (fileIn f s) root refusal ≡ flatten.anyReached (fileIn f s) root (isReason (fileIn f s) refusal) m)
 
 abbrev μ-loop : tie.MeasureT-loop
-μ-loop f s classes calls table root refusal m₀ m = m
+μ-loop f s classes callees table root refusal m₀ m = m
 
 -- ---- the places: the entry, and the loop's turn
 

@@ -10,10 +10,10 @@ use Rattle.builder.proofs.models.reached.reach.Statement.{statement}
 use Rattle.builder.proofs.models.reached.reach.Tie as tie
 
 abbrev Inv-loop : tie.InvT-loop
-Inv-loop f s calls table₀ k₀ table k = (k ≤ s .counts .models) × (length table ≡ 1024) × Reaching (fileIn f s) (s .counts .models) k table
+Inv-loop f s callees table₀ k₀ table k = (k ≤ s .counts .models) × (length table ≡ 1024) × Reaching (fileIn f s) (s .counts .models) k table
 
 abbrev μ-loop : tie.MeasureT-loop
-μ-loop f s calls table₀ k₀ table k = s .counts .models - k
+μ-loop f s callees table₀ k₀ table k = s .counts .models - k
 
 loop-holds : tie.Need-loop-holds Inv-loop μ-loop
 loop-holds c =

@@ -8,10 +8,10 @@ use Rattle.builder.proofs.models.reached.reach_round.Statement.{stateme
 use Rattle.builder.proofs.models.reached.reach_round.Tie as tie
 
 abbrev Inv-loop : tie.InvT-loop
-Inv-loop f s calls old new₀ a₀ new a = (a ≤ s .counts .models) × Stepped (fileIn f s) (s .counts .models) old a new
+Inv-loop f s callees old new₀ a₀ new a = (a ≤ s .counts .models) × Stepped (fileIn f s) (s .counts .models) old a new
 
 abbrev μ-loop : tie.MeasureT-loop
-μ-loop f s calls old new₀ a₀ new a = s .counts .models - a
+μ-loop f s callees old new₀ a₀ new a = s .counts .models - a
 
 loop-holds : tie.Need-loop-holds Inv-loop μ-loop
 loop-holds c =

@@ -8,10 +8,10 @@ use Rattle.builder.proofs.models.reached.reach_row.Statement.{statement
 use Rattle.builder.proofs.models.reached.reach_row.Tie as tie
 
 abbrev Inv-loop : tie.InvT-loop
-Inv-loop f s calls old a new₀ first count i₀ new i = (i ≤ count) × Rowed (fileIn f s) (s .counts .models) old a i new
+Inv-loop f s callees old a new₀ first count i₀ new i = (i ≤ count) × Rowed (fileIn f s) (s .counts .models) old a i new
 
 abbrev μ-loop : tie.MeasureT-loop
-μ-loop f s calls old a new₀ first count i₀ new i = count - i
+μ-loop f s callees old a new₀ first count i₀ new i = count - i
 
 -- the entry, before the loop
 abbrev entry : tie.After-model2 Inv-loop μ-loop → tie.Start Inv-loop μ-loop

@@ -22,8 +22,8 @@ write-vars-requires c κs =
     let r = c .before .before .before .before .before .before in
     let a = entry r .args in
     let p = entry r .pre in
-    let (roster, nodes, stmts, none, changed) = r .roster-of .ensures in
-    (p .0, record { opened = p .0 .opened; model = p .0 .model; numbered = roster .numbers; long = roster .every }, vars-named (a .f .now) (a .s) (p .0 .opened) (a .m) (a .n) (a .q) (a .area .now) _ _ _ (p .1) roster nodes stmts none changed)
+    let l = r .roster-of .ensures in
+    (p .0, record { opened = p .0 .opened; model = p .0 .model; numbered = l .listing .numbers; long = l .listing .every }, vars-named (a .f .now) (a .s) (p .0 .opened) (a .m) (a .n) (a .q) (a .area .now) _ _ _ (p .1) l)
 
 reach-time-requires : tie.Need-reach-time-requires
 reach-time-requires c κs =
@@ -31,9 +31,9 @@ reach-time-requires c κs =
     let r = listed w in
     let a = entry r .args in
     let p = entry r .pre in
-    let (roster, nodes, stmts, none, changed) = r .roster-of .ensures in
+    let l = r .roster-of .ensures in
     let (count, bytes) = w .write-vars .ensures in
-    marks-needs (a .f .now) (a .s) (p .0 .opened) (a .m) (a .n) (a .q) (a .area .now) _ _ _ (p .1) roster nodes stmts none changed _ _ count bytes
+    marks-needs (a .f .now) (a .s) (p .0 .opened) (a .m) (a .n) (a .q) (a .area .now) _ _ _ (p .1) l _ _ count bytes
 
 same-length : tie.Need-same-length
 same-length c = search needs
@@ -47,9 +47,9 @@ returns c =
     let r = listed w in
     let a = entry r .args in
     let p = entry r .pre in
-    let (roster, nodes, stmts, none, changed) = r .roster-of .ensures in
+    let l = r .roster-of .ensures in
     let (count, bytes) = w .write-vars .ensures in
-    (vars-laid (a .f .now) (a .s) (p .0 .opened) (a .m) (a .n) (a .q) (a .area .now) _ _ _ (p .1) roster nodes stmts none changed _ _ count bytes _ (λ j. omega (arith, c .slice-known6 .given j)) (c .before .before .reach-time .ensures), (roster .numbers, roster .every))
+    (vars-laid (a .f .now) (a .s) (p .0 .opened) (a .m) (a .n) (a .q) (a .area .now) _ _ _ (p .1) l _ _ count bytes _ (λ j. omega (arith, c .slice-known6 .given j)) (c .before .before .reach-time .ensures), (l .listing .numbers, l .listing .every))
 
 pub lay-vars-spec : {M : Type 1} → statement M
 lay-vars-spec =

@@ -14,10 +14,10 @@ use Rattle.builder.proofs.variables.records.write_vars.Statement.{state
 use Rattle.builder.proofs.variables.records.write_vars.Tie as tie
 
 abbrev Inv-loop : tie.InvT-loop
-Inv-loop f s classes m own₀ z numbers done₀ v₀ own done v = (v ≤ z .vars) × Written (scopeAt (fileIn f s) m .vars) z own₀ v done own
+Inv-loop f s classes m area₀ z numbers done₀ v₀ area done v = (v ≤ z .vars) × Written (scopeAt (fileIn f s) m .vars) z area₀ v done area
 
 abbrev μ-loop : tie.MeasureT-loop
-μ-loop f s classes m own₀ z numbers done₀ v₀ own done v = z .vars - v
+μ-loop f s classes m area₀ z numbers done₀ v₀ area done v = z .vars - v
 
 abbrev entry : tie.At-loop Inv-loop μ-loop → tie.Start Inv-loop μ-loop
 entry c = c .before .before .before .before

@@ -18,13 +18,13 @@ use Rattle.builder.proofs.variables.roster.roster_of.Statement.{stateme
 use Rattle.builder.proofs.variables.roster.roster_of.Tie as tie
 
 abbrev Inv-loop : tie.InvT-loop
-Inv-loop f s classes m own₀ n q numbers₀ first count z₀ i₀ own numbers z i =
+Inv-loop f s classes m area₀ n q numbers₀ first count z₀ i₀ area numbers z i =
     (i ≤ count) × (z .vars ≤ i + 1) × Grown (record { nodes = n; stmts = q; vars = 1; deps = 0 }) z
-    × (Listing (namesIn own z) (namesIn own z) numbers × (rosterIn f s m ≡ declare (fileIn f s .names) (namesIn own z) (drop i (unknownsIn f s m))))
-    × VarsAre z own₀ (areaVars own z) own
+    × (Listing (namesIn area z) (namesIn area z) numbers × (rosterIn f s m ≡ declare (fileIn f s .names) (namesIn area z) (drop i (unknownsIn f s m))))
+    × VarsAre z area₀ (areaVars area z) area
 
 abbrev μ-loop : tie.MeasureT-loop
-μ-loop f s classes m own₀ n q numbers₀ first count z₀ i₀ own numbers z i = count - i
+μ-loop f s classes m area₀ n q numbers₀ first count z₀ i₀ area numbers z i = count - i
 
 -- ---- the places: the entry, where t alone is listed, and the run of the model's unknowns
 
@@ -162,7 +162,13 @@ returns c =
     let model = r .before .model in
     let model2 = r .model2 in
     let grown = turn .loop .inv .2 in
-    (roster-last (a .f .now) (a .s) (a .m) (turn .loop .i) (namesIn (turn .loop .area) (turn .loop .z)) (turn .loop .numbers) (turn .loop .inv .3 .0) (turn .loop .inv .3 .1) (omega (arith, run-count (a .f .now) (a .s) (p .0 .opened) (a .m) (p .0 .model) (model .result) (model2 .result) (model .ensures .0) (model2 .ensures .0))), grown .nodes, grown .stmts, grown .deps, written turn)
+    record {
+      listing = roster-last (a .f .now) (a .s) (a .m) (turn .loop .i) (namesIn (turn .loop .area) (turn .loop .z)) (turn .loop .numbers) (turn .loop .inv .3 .0) (turn .loop .inv .3 .1) (omega (arith, run-count (a .f .now) (a .s) (p .0 .opened) (a .m) (p .0 .model) (model .result) (model2 .result) (model .ensures .0) (model2 .ensures .0)));
+      nodes = grown .nodes;
+      stmts = grown .stmts;
+      deps = grown .deps;
+      kept = written turn;
+    }
 
 pub roster-of-spec : {M : Type 1} → statement M
 roster-of-spec =
