@@ -21,24 +21,6 @@ pub record Grown (z r : Sizes) : Type 0 where
   pub vars : z .vars ≤ r .vars
   pub deps : r .deps ≡ z .deps
 
--- ---- words within a record
-
--- The counts of the header, in front of time's bounds.
-abbrev pub countsLength : ℕ
-countsLength = 6
-
--- A variable's record in front of its bounds.
-abbrev pub leadLength : ℕ
-leadLength = 8
-
--- Bounds: two numbers.
-abbrev pub boundsLength : ℕ
-boundsLength = 4
-
--- A number's bits.
-abbrev pub bitsLength : ℕ
-bitsLength = 2
-
 -- ---- the byte at which each section begins
 
 abbrev pub nodesAt : ℕ

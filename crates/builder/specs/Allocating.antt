@@ -17,6 +17,7 @@ use Rattle.definitions.specs.Numbers.{mostNames, stmtLength, callKind, equation
 use Rattle.definitions.specs.Variables.{Error, error, Bounds, at, timeIndex}
 use Rattle.definitions.specs.Check.{Scope, lookup}
 use Rattle.definitions.specs.Roles.{Start, argAt, numberIn, takesRate}
+use Rattle.area.specs.Fields.{stmtKind, stmtName, stmtLeft, stmtRight, stmtSpan, varName, varState, varTimeIndex, varTimed}
 use Rattle.area.specs.Sections.{Small, nodesEnd, stmtsAt, depsAt, areaNodes, areaStmts, areaStmt, areaVars, column}
 use Rattle.area.specs.declared.sections.Sizes.{Sizes}
 use Rattle.builder.specs.declared.allocation.roles.Start as found
@@ -26,8 +27,8 @@ use Rattle.builder.specs.declared.allocation.roles.Start.the-variants.{N
 
 unfoldable pub flatAt : List (List ℕ) → List ℕ → Flat
 flatAt ns r =
-    cond (eqb (wordOf r 0) 1) (equation (treeAt ns (wordOf r 2)) (treeAt ns (wordOf r 3)) (spanFrom r 4))
-    (rate (wordOf r 1) (treeAt ns (wordOf r 3)) (spanFrom r 4))
+    cond (eqb (wordOf r stmtKind) equationKind) (equation (treeAt ns (wordOf r stmtLeft)) (treeAt ns (wordOf r stmtRight)) (spanFrom r stmtSpan))
+    (rate (wordOf r stmtName) (treeAt ns (wordOf r stmtRight)) (spanFrom r stmtSpan))
 
 module _ (b : List ℕ) (z : Sizes) where
   -- statement i, and all of them
@@ -43,27 +44,27 @@ pub record Flattened (names : ℕ) (b : List ℕ) (z : Sizes) : Type 0 where
   pub small : Small z
   pub few : names ≤ mostNames
   pub nodes : nodesFit names (areaNodes b z) (z .nodes) ≡ true
-  pub kind : (i : ℕ) → i < z .stmts → (wordOf (areaStmt b z i) 0 ≡ equationKind) ⊎ (wordOf (areaStmt b z i) 0 ≡ rateKind)
-  pub right : (i : ℕ) → i < z .stmts → (wordOf (areaStmt b z i) 3 < z .nodes) × (isExpr (areaNodes b z) (wordOf (areaStmt b z i) 3) ≡ true)
-  pub left : (i : ℕ) → i < z .stmts → wordOf (areaStmt b z i) 0 ≡ equationKind → (wordOf (areaStmt b z i) 2 < z .nodes) × (isExpr (areaNodes b z) (wordOf (areaStmt b z i) 2) ≡ true)
-  pub name : (i : ℕ) → i < z .stmts → wordOf (areaStmt b z i) 0 ≡ rateKind → wordOf (areaStmt b z i) 1 < names
+  pub kind : (i : ℕ) → i < z .stmts → (wordOf (areaStmt b z i) stmtKind ≡ equationKind) ⊎ (wordOf (areaStmt b z i) stmtKind ≡ rateKind)
+  pub right : (i : ℕ) → i < z .stmts → (wordOf (areaStmt b z i) stmtRight < z .nodes) × (isExpr (areaNodes b z) (wordOf (areaStmt b z i) stmtRight) ≡ true)
+  pub left : (i : ℕ) → i < z .stmts → wordOf (areaStmt b z i) stmtKind ≡ equationKind → (wordOf (areaStmt b z i) stmtLeft < z .nodes) × (isExpr (areaNodes b z) (wordOf (areaStmt b z i) stmtLeft) ≡ true)
+  pub name : (i : ℕ) → i < z .stmts → wordOf (areaStmt b z i) stmtKind ≡ rateKind → wordOf (areaStmt b z i) stmtName < names
 
 -- ---- the variables of an area by number
 
 module _ (b : List ℕ) (z : Sizes) where
   -- names plus 1; 1 for a state; time indexes plus 1 or 0
   abbrev pub namesIn : List ℕ
-  namesIn = column 0 (areaVars b z)
+  namesIn = column varName (areaVars b z)
 
   abbrev pub statesIn : List ℕ
-  statesIn = column 1 (areaVars b z)
+  statesIn = column varState (areaVars b z)
 
   abbrev pub indexesIn : List ℕ
-  indexesIn = column 2 (areaVars b z)
+  indexesIn = column varTimeIndex (areaVars b z)
 
   -- 1 for a variable that a rate equation may go to: a time-dependent state
   unfoldable pub ratesIn : List ℕ
-  ratesIn = map (λ r. flag (eqb (wordOf r 1) 1 && eqb (wordOf r 7) 1)) (areaVars b z)
+  ratesIn = map (λ r. flag (eqb (wordOf r varState) 1 && eqb (wordOf r varTimed) 1)) (areaVars b z)
 
 -- ---- tables: `numbers` has each name's variable number plus 1 or 0, `indexes` each variable's time index plus 1 or 0, `rates` 1 for each
 -- variable that a rate equation may go to; `lower` is time's lower bound
@@ -180,7 +181,7 @@ module _ (ns : List (List ℕ)) where
 
     -- the answer for node i
     unfoldable pub startAt : ℕ → found.Start
-    startAt i = cond (eqb (kindAt ns i) 5) (atVariable i (entryBy numbers (nameAt ns i))) Nothing
+    startAt i = cond (eqb (kindAt ns i) callKind) (atVariable i (entryBy numbers (nameAt ns i))) Nothing
 
 unfoldable pub isShort : found.Start → Bool
 isShort Nothing = false

@@ -6,6 +6,7 @@ use lib.Dec.{eqb}
 use lib.ListN.{length, take, drop}
 use Rattle.functions.specs.Lists.{member}
 use Rattle.ast.specs.Words.{wordOf}
+use Rattle.area.specs.Fields.{stmtFate, stmtVariable}
 use Rattle.area.specs.Sections.{Small, varsAt}
 use Rattle.area.specs.declared.sections.Sizes.{Sizes}
 use Rattle.definitions.specs.Numbers.{initialFate, heldFate, replacedFate, leftOverFate}
@@ -44,9 +45,9 @@ pub record FateSources (z : Sizes) (area roles states : List ℕ) (queued : ℕ)
 
 -- ---- in the records
 
--- words 6 and 7
+-- the words of fate and variable
 unfoldable pub withFate : List ℕ → ℕ × ℕ → List ℕ
-withFate r x = take 6 r ++ (x .0 ∷ x .1 ∷ [])
+withFate r x = take stmtFate r ++ (x .0 ∷ x .1 ∷ [])
 
 unfoldable pub fated : List (List ℕ) → List (ℕ × ℕ) → List (List ℕ)
 fated [] xs = []
@@ -55,4 +56,4 @@ fated (r ∷ rs) (x ∷ xs) = withFate r x ∷ fated rs xs
 
 -- a record of this fate and variable
 unfoldable pub isFated : ℕ → ℕ → List ℕ → Bool
-isFated fate v r = eqb (wordOf r 6) fate && eqb (wordOf r 7) v
+isFated fate v r = eqb (wordOf r stmtFate) fate && eqb (wordOf r stmtVariable) v

@@ -7,17 +7,18 @@ use lib.Dec.{eqb, ltb}
 use lib.ListN.{length, take, drop, getD, set}
 use Rattle.functions.specs.Lists.{any, all, reaches, flag}
 use Rattle.ast.specs.Words.{words}
+use Rattle.area.specs.Fields.{varFirstDep, varDeps, varTimed}
 use Rattle.area.specs.Sections.{Small, depsAt, areaVars, column}
 use Rattle.area.specs.declared.sections.Sizes.{Sizes}
 
 module _ (b : List ℕ) (z : Sizes) where
   -- the dependents of variable v, from the first on that its record tells
   unfoldable pub depsIn : ℕ → List ℕ
-  depsIn v = take (getD (column 4 (areaVars b z)) v 0) (drop (getD (column 3 (areaVars b z)) v 0) (take (z .deps) (words (drop (depsAt z) b))))
+  depsIn v = take (getD (column varDeps (areaVars b z)) v 0) (drop (getD (column varFirstDep (areaVars b z)) v 0) (take (z .deps) (words (drop (depsAt z) b))))
 
   -- 1 for each variable that its record marks as time-dependent
   abbrev pub marksIn : List ℕ
-  marksIn = column 7 (areaVars b z)
+  marksIn = column varTimed (areaVars b z)
 
   -- t, and each variable from which t is reached by at most k steps
   unfoldable pub timedBy : ℕ → ℕ → Bool
@@ -31,7 +32,7 @@ leads marks d = eqb (getD marks d 0) 1
 pub record DepsIn (z : Sizes) (b : List ℕ) : Type 0 where
   pub small : Small z
   pub long : depsAt z + 4 * z .deps ≤ length b
-  pub within : (v : ℕ) → v < z .vars → getD (column 3 (areaVars b z)) v 0 + getD (column 4 (areaVars b z)) v 0 ≤ z .deps
+  pub within : (v : ℕ) → v < z .vars → getD (column varFirstDep (areaVars b z)) v 0 + getD (column varDeps (areaVars b z)) v 0 ≤ z .deps
   pub below : (v : ℕ) → v < z .vars → all (λ d. ltb d (z .vars)) (depsIn b z v) ≡ true
 
 -- The next round of marks: 1 for t and for each variable from which a step leads to one that is marked.
@@ -41,4 +42,4 @@ pub record Round (z : Sizes) (b new : List ℕ) : Type 0 where
 -- Records from number v on with the marks of time-dependence, word 7, that a test gives.
 unfoldable pub timedFrom : (ℕ → Bool) → ℕ → List (List ℕ) → List (List ℕ)
 timedFrom timed v [] = []
-timedFrom timed v (r ∷ rs) = set r 7 (flag (timed v)) ∷ timedFrom timed (suc v) rs
+timedFrom timed v (r ∷ rs) = set r varTimed (flag (timed v)) ∷ timedFrom timed (suc v) rs

@@ -16,7 +16,7 @@ use Rattle.ast.specs.declared.sections.Sections.{Sections}
 use Rattle.definitions.specs.Flatten as definition
 use Rattle.ast.specs.declared.numbers.Bounds as floats
 use Rattle.builder.specs.Bounding.{Floating}
-use Rattle.definitions.specs.Numbers.{mostNames, mostNodes, mostStmts, mostDeps, mostInstances, mostBytes, modelCycle, selfListedUnknown, argumentBeyond, overMost}
+use Rattle.definitions.specs.Numbers.{mostNames, mostNodes, mostStmts, mostDeps, mostInstances, mostBytes, nodeLength, stmtLength, variableLength, modelCycle, selfListedUnknown, argumentBeyond, overMost}
 use Rattle.definitions.specs.Variables.{Error, Bounds, at, timeBounds}
 use Rattle.definitions.specs.Check.{Scope}
 use Rattle.definitions.specs.Flatten.{modelAt, scopeOf, flatten, errorsOf, instances, cyclic, selfListed, overfull}
@@ -28,7 +28,7 @@ use Rattle.builder.specs.Tables.{Classes, lackingIn}
 use Rattle.builder.specs.VariableTables.{Listing, rosterIn, Numbers}
 use Rattle.builder.specs.Unfated.{unfated}
 use Rattle.builder.specs.VarRecords.{unheldRecords}
-use Rattle.area.specs.Sections.{Small, stmtsAt, varsAt, depsAt, areaNodes, areaStmts, areaVars, VarsAre, part}
+use Rattle.area.specs.Sections.{Small, nodesAt, stmtsAt, varsAt, depsAt, areaNodes, areaStmts, areaVars, VarsAre, part}
 use Rattle.builder.specs.Fating as fating
 use Rattle.builder.specs.Allocating.{flatsIn, Flattened, Numbered, namesIn, statesIn, indexesIn, ratesIn, roleBy, roleErrorsBy}
 use Rattle.builder.specs.Starting.{startingIn, Righted}
@@ -152,9 +152,9 @@ pub record Known (f : List ℕ) (s : Sections) (m : ℕ) (classes numbers : List
   pub is-open : Open f s
   pub model : m < s .counts .models
   pub classed : Classes (fileIn f s .names) classes
-  pub classes-long : length classes ≡ 256
+  pub classes-long : length classes ≡ mostNames
   pub numbered : Numbers (rosterIn f s m) numbers
-  pub numbers-long : length numbers ≡ 256
+  pub numbers-long : length numbers ≡ mostNames
   pub sizes : SizesOf (fileIn f s) m z
 
 -- The same with the models that statements call, the instances, and time's bounds as floats: what its answer is written from.
@@ -169,10 +169,10 @@ pub record Rooted (f : List ℕ) (s : Sections) (classes callees numbers : List 
 
 -- An area with the nodes, the statements' records `rs`, the variables' records `vs` and the dependents of the answer.
 pub record PartsLaid (f : File) (m : ℕ) (z : Sizes) (rs vs : List (List ℕ)) (b : List ℕ) : Type 0 where
-  pub long : length b ≡ 55384
-  pub nodes : part 40 (32 * z .nodes) b ≡ encode (each flatNodes (flatsOf f m))
-  pub stmts : part (stmtsAt z) (32 * z .stmts) b ≡ encode rs
-  pub vars : part (varsAt z) (48 * z .vars) b ≡ encode vs
+  pub long : length b ≡ mostBytes
+  pub nodes : part nodesAt (4 * nodeLength * z .nodes) b ≡ encode (each flatNodes (flatsOf f m))
+  pub stmts : part (stmtsAt z) (4 * stmtLength * z .stmts) b ≡ encode rs
+  pub vars : part (varsAt z) (4 * variableLength * z .vars) b ≡ encode vs
   pub deps : part (depsAt z) (4 * z .deps) b ≡ bytesOf (each (λ x. x .deps) (scopeAt f m .vars))
 
 -- The variables laid into an area `b` behind n nodes and q statements: the sizes then, and the area with the variables' records and, behind them, their

@@ -14,13 +14,14 @@ use Rattle.ast.specs.Nodes.{spanAt}
 use Rattle.definitions.specs.Numbers.{initialFate, heldFate, noInitialCondition, algebraicInitialCondition}
 use Rattle.definitions.specs.Variables.{Error, error}
 use Rattle.area.specs.Listing.{listLength}
+use Rattle.area.specs.Fields.{stmtRight, varHeld, varInitial}
 use Rattle.area.specs.Sections.{Small, depsAt, areaStmts, areaStmt, areaVars, column}
 use Rattle.builder.specs.Fating.{isFated}
 use Rattle.area.specs.declared.sections.Sizes.{Sizes}
 
 -- the span of the right side of statement i
 unfoldable pub rightSpanIn : List (List ℕ) → List (List ℕ) → ℕ → Span
-rightSpanIn ns rs i = spanAt ns (wordOf (getD rs i []) 3)
+rightSpanIn ns rs i = spanAt ns (wordOf (getD rs i []) stmtRight)
 
 module _ (model : Span) (ns rs : List (List ℕ)) where
   -- of a variable by its name plus 1, the statement it holds plus 1 or 0, and its first initial condition plus 1 or 0
@@ -44,9 +45,9 @@ module _ (model : Span) (ns rs : List (List ℕ)) where
 pub record Righted (b : List ℕ) (z : Sizes) : Type 0 where
   pub small : Small z
   pub long : depsAt z ≤ length b
-  pub right : (i : ℕ) → i < z .stmts → wordOf (areaStmt b z i) 3 < z .nodes
-  pub held : (v : ℕ) → v < z .vars → getD (column 5 (areaVars b z)) v 0 ≡ plusOne (place (isFated heldFate v) (areaStmts b z))
-  pub initial : (v : ℕ) → v < z .vars → getD (column 6 (areaVars b z)) v 0 ≡ times (isFated initialFate v) (areaStmts b z)
+  pub right : (i : ℕ) → i < z .stmts → wordOf (areaStmt b z i) stmtRight < z .nodes
+  pub held : (v : ℕ) → v < z .vars → getD (column varHeld (areaVars b z)) v 0 ≡ plusOne (place (isFated heldFate v) (areaStmts b z))
+  pub initial : (v : ℕ) → v < z .vars → getD (column varInitial (areaVars b z)) v 0 ≡ times (isFated initialFate v) (areaStmts b z)
 
 -- What errors 16 and 17 of root model m are found from, and room to list them behind `count` errors: one for each variable at the most.
 pub record Conditions (f : List ℕ) (s : Sections) (m : ℕ) (b : List ℕ) (z : Sizes) (out : List ℕ) (count : ℕ) : Type 0 where

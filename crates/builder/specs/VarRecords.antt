@@ -11,6 +11,7 @@ use Rattle.ast.specs.Tree.{Unknown}
 use Rattle.ast.specs.Opens.{Open, fileIn}
 use Rattle.ast.specs.declared.sections.Sections.{Sections}
 use Rattle.ast.specs.declared.numbers.Bounds as floats
+use Rattle.area.specs.Fields.{varHeld, varInitial, varTimed}
 use Rattle.area.specs.Sections.{Small, depsAt, areaStmts, areaVars, column, VarsAre}
 use Rattle.area.specs.declared.sections.Sizes.{Sizes}
 use Rattle.definitions.specs.Numbers.{initialFate, heldFate}
@@ -61,14 +62,14 @@ unheldRecords vs = unheldFrom (timeDependent vs) 0 0 vs
 unfoldable pub untimedRecords : List Variable → List (List ℕ)
 untimedRecords vs = unheldFrom isTime 0 0 vs
 
--- ---- what a variable holds, in words 5 and 6 of its record
+-- ---- what a variable holds, in two words of its record
 
 unfoldable pub withHeld : List ℕ → ℕ × ℕ → List ℕ
-withHeld r x = take 5 r ++ (x .0 ∷ x .1 ∷ drop 7 r)
+withHeld r x = take varHeld r ++ (x .0 ∷ x .1 ∷ drop varTimed r)
 
 -- By the statements' records `rs`: the statement that variable v holds plus 1 or 0, and how many initial conditions it has.
 unfoldable pub heldIn : List (List ℕ) → ℕ → ℕ × ℕ
-heldIn rs v = (plusOne (place (isFated 2 v) rs), times (isFated 1 v) rs)
+heldIn rs v = (plusOne (place (isFated heldFate v) rs), times (isFated initialFate v) rs)
 
 -- Of the variables' records from number v on.
 unfoldable pub heldFrom : List (List ℕ) → ℕ → List (List ℕ) → List (List ℕ)
@@ -79,20 +80,20 @@ heldFrom rs v (w ∷ ws) = withHeld w (heldIn rs v) ∷ heldFrom rs (suc v) ws
 pub record NothingHeld (z : Sizes) (b : List ℕ) : Type 0 where
   pub small : Small z
   pub long : depsAt z ≤ length b
-  pub held : (v : ℕ) → v < z .vars → getD (column 5 (areaVars b z)) v 0 ≡ 0
-  pub initial : (v : ℕ) → v < z .vars → getD (column 6 (areaVars b z)) v 0 ≡ 0
+  pub held : (v : ℕ) → v < z .vars → getD (column varHeld (areaVars b z)) v 0 ≡ 0
+  pub initial : (v : ℕ) → v < z .vars → getD (column varInitial (areaVars b z)) v 0 ≡ 0
 
 -- An area in which they hold what the statements from number i on give them.
 pub record HeldBehind (z : Sizes) (i : ℕ) (b : List ℕ) : Type 0 where
   pub small : Small z
   pub long : depsAt z ≤ length b
-  pub held : (v : ℕ) → v < z .vars → getD (column 5 (areaVars b z)) v 0 ≡ plusOne (placeFrom i (isFated heldFate v) (drop i (areaStmts b z)))
-  pub initial : (v : ℕ) → v < z .vars → getD (column 6 (areaVars b z)) v 0 ≡ times (isFated initialFate v) (drop i (areaStmts b z))
+  pub held : (v : ℕ) → v < z .vars → getD (column varHeld (areaVars b z)) v 0 ≡ plusOne (placeFrom i (isFated heldFate v) (drop i (areaStmts b z)))
+  pub initial : (v : ℕ) → v < z .vars → getD (column varInitial (areaVars b z)) v 0 ≡ times (isFated initialFate v) (drop i (areaStmts b z))
 
--- The area b with other words 5 and 6 in the variables' records, and all else as it was, is b′.
+-- The area b with other words of what the variables hold in their records, and all else as it was, is b′.
 pub record HeldChanged (z : Sizes) (b b′ : List ℕ) : Type 0 where
   pub changed : VarsAre z b (areaVars b′ z) b′
-  pub kept : (k : ℕ) → (k ≡ 5 → ⊥) → (k ≡ 6 → ⊥) → column k (areaVars b′ z) ≡ column k (areaVars b z)
+  pub kept : (k : ℕ) → (k ≡ varHeld → ⊥) → (k ≡ varInitial → ⊥) → column k (areaVars b′ z) ≡ column k (areaVars b z)
 
 -- What the header of an answer is written from: model m of an open file, an area with the records of its variables, the first of which is t, counts that
 -- are words, and time's bounds as floats.

@@ -8,6 +8,7 @@ ghost use Rattle.ast.specs.Words.{wordOf, spanFrom};
 ghost use lib.Ieee.{eq};
 ghost use Rattle.ast.specs.Numbers.{numberOf};
 ghost use Rattle.ast.specs.Nodes.{nameAt, opAt, spanAt, bitsAt};
+ghost use Rattle.area.specs.Fields.{stmtName, stmtSpan};
 ghost use Rattle.area.specs.Sections.{Small, nodesEnd, varsAt, depsAt, areaNodes, areaStmt};
 ghost use lib.Dec.{eqb};
 ghost use Rattle.definitions.specs.Numbers.{mostNames, wrongStart};
@@ -221,7 +222,7 @@ fn stmt_error(area: &[u8], z: Sizes, i: usize, kind: u32, name: u32) -> Found
     requires { ⌜ Small z
         × (varsAt z ≤ length (now area))
         × (i < z .stmts) ⌝ }
-    ensures { λ r. ⌜ foundAs r ≡ error kind (spanFrom (areaStmt (now (area .entry)) z i) 4) name ∷ [] ⌝ }
+    ensures { λ r. ⌜ foundAs r ≡ error kind (spanFrom (areaStmt (now (area .entry)) z i) stmtSpan) name ∷ [] ⌝ }
 {
     let at = stmts_at(z);
     let from = record_word(area, at, STMT_WORDS, z.stmts, i, STMT_FROM);
@@ -265,11 +266,11 @@ fn start_error(area: &[u8], z: Sizes, start: Start, lower: f64, call: usize) -> 
 fn rate_error(area: &[u8], z: Sizes, numbers: &[u16], i: usize) -> Found
     requires { ⌜ Small z
         × (i < z .stmts)
-        × (wordOf (areaStmt (now area) z i) 1 < mostNames)
+        × (wordOf (areaStmt (now area) z i) stmtName < mostNames)
         × Numbered (now area) z (now numbers) ⌝ }
     ensures { λ r. ⌜ foundAs r ≡ rateErrorsBy (ratesIn (now (area .entry)) z)
-        (wordOf (areaStmt (now (area .entry)) z i) 1) (spanFrom (areaStmt (now (area .entry)) z i) 4)
-        (entryBy (now (numbers .entry)) (wordOf (areaStmt (now (area .entry)) z i) 1)) ⌝ }
+        (wordOf (areaStmt (now (area .entry)) z i) stmtName) (spanFrom (areaStmt (now (area .entry)) z i) stmtSpan)
+        (entryBy (now (numbers .entry)) (wordOf (areaStmt (now (area .entry)) z i) stmtName)) ⌝ }
 {
     let name = record_word(area, stmts_at(z), STMT_WORDS, z.stmts, i, STMT_NAME);
     let v = numbers[name as usize] as usize;

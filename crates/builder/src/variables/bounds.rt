@@ -9,7 +9,7 @@ ghost use Rattle.ast.specs.Opens.{Open, fileIn};
 ghost use Rattle.definitions.specs.Numbers.{unknownLength};
 ghost use Rattle.definitions.specs.Flatten.{modelAt};
 ghost use Rattle.definitions.specs.Answer.{boundsWords};
-ghost use Rattle.area.specs.Sections.{boundsLength, bitsLength};
+ghost use Rattle.area.specs.Fields.{boundsLength, bitsLength};
 ghost use Rattle.builder.specs.Tables.{Classes};
 ghost use Rattle.builder.specs.Bounding.{boundsFrom, floats, Floating, caseBounds, NamedBelow, unknownBounds, declaredBounds, LastDeclared, timeIn, boundBits, boundsBits, NanDeclared, NansDeclared, Bounded};
 ghost use Rattle.builder.specs.VarRecords.{varBounds};
