@@ -8,10 +8,19 @@ pub const MOST_LISTED: usize = 256;
 
 pub const MOST_BYTES: usize = 55384;
 
-// The lengths of records, in words; a node's is that of the file.
+// The greatest kind of error that exists.
+pub const MOST_KIND: usize = 17;
+
+// The lengths of the header and of records, in words; a node's is that of the file.
+pub const HEADER_WORDS: usize = 10;
+
 pub const STMT_WORDS: usize = 8;
 
 pub const VAR_WORDS: usize = 12;
+
+pub const DEP_WORDS: usize = 1;
+
+pub const ERROR_WORDS: usize = 4;
 
 // The same in bytes.
 pub const HEADER_BYTES: usize = 40;
@@ -24,6 +33,19 @@ pub const ERROR_BYTES: usize = 16;
 
 // All errors that are listed.
 pub const ERRORS_BYTES: usize = 4096;
+
+// The words of the header that count records.
+pub const HEADER_NODES: usize = 0;
+
+pub const HEADER_STMTS: usize = 1;
+
+pub const HEADER_VARS: usize = 2;
+
+pub const HEADER_DEPS: usize = 3;
+
+pub const HEADER_ERRORS: usize = 4;
+
+pub const HEADER_INSTANCES: usize = 5;
 
 // The words of a statement's record behind those that it has in the file.
 pub const STMT_FATE: usize = 6;
@@ -46,6 +68,15 @@ pub const VAR_HELD: usize = 5;
 pub const VAR_INITIAL: usize = 6;
 
 pub const VAR_TIMED: usize = 7;
+
+// The words of an error's record.
+pub const ERROR_KIND: usize = 0;
+
+pub const ERROR_FROM: usize = 1;
+
+pub const ERROR_TO: usize = 2;
+
+pub const ERROR_NAME: usize = 3;
 
 // The fates of statements.
 pub const INITIAL_FATE: u32 = 1;

@@ -27,7 +27,7 @@ pub fn clear(area: &mut [u8], from: usize)
 }
 
 // The first n bytes of an answer at the front of the area.
-fn copy(own: &[u8], n: usize, area: &mut [u8])
+pub fn copy(own: &[u8], n: usize, area: &mut [u8])
     requires { ⌜ (n ≤ length (now own))
         × (n ≤ length (now area)) ⌝ }
     ensures { λ _. ⌜ now (area .exit) ≡ front (now (area .entry)) (take n (now (own .entry))) ⌝ }

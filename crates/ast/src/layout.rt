@@ -166,3 +166,6 @@ pub const NO_DOMAIN: usize = 0;
 pub const RANGE_DOMAIN: usize = 1;
 
 pub const NAMED_DOMAIN: usize = 2;
+
+// Both words of a missing span.
+pub const MISSING: u64 = 4294967295;
