@@ -1,0 +1,140 @@
+-- An area in pieces: zeros behind an area that keeps its layout change nothing; and where its front is as long as any answer, it keeps its layout exactly where the
+-- front does and the rest is zeros, in however many pieces.
+use mathlib.Core.Path.{_≡_, refl, sym, ap, ap₂, _∙_}
+use mathlib.Core.Bool.{Bool, true, false, _&&_}
+use mathlib.Core.List.{List, [], _∷_, _++_}
+use Prim.Native.Nat.{ℕ, zero, suc, _+_, _*_, _≤_}
+use native.Mathlib.Omega.{arith}
+use native.Mathlib.Nat.{suc-mul}
+use borrow.Author.Tests.{le-leb}
+use lib.Dec.{eqb}
+use lib.ListN.{length, take, drop, length-append, length-drop, take-append-drop}
+use lib.Seq.{take-append-le, drop-append-le, take-at}
+use Rattle.functions.specs.Lists.{all, each}
+use Rattle.ast.specs.Words.{words, records, section}
+use Rattle.ast.proofs.Fields.{length-deps}
+use Rattle.ast.proofs.Turns.{and-assoc}
+use Rattle.definitions.specs.Numbers.{mostBytes, headerLength, nodeLength, stmtLength, variableLength, errorLength}
+use Rattle.definitions.specs.Answer.{Area}
+use Rattle.definitions.specs.Area.{nodesIn, stmtsIn, varsIn, depsIn, listedIn, headerIn}
+use Rattle.definitions.specs.Layout.{plain, countsFit, nodesAt, stmtsAt, varsAt, depsAt, errorsAt, endAt, recordsAt, zeros, sectionsFit, recordsFit, headedFits, keepsLayout}
+use Rattle.keeping.specs.Placed.{Counted}
+use Rattle.keeping.proofs.Begun.{counted, kept-parts}
+
+-- ---- a section of the front
+
+records-front : (w n : ℕ) (xs ys : List ℕ) → n * w ≤ length xs → records w n (xs ++ ys) ≡ records w n xs
+unfolding records
+records-front w zero xs ys h = refl
+records-front w (suc n) xs ys h =
+    let l : w + n * w ≤ length xs = omega (arith, h, suc-mul n w) in
+    ap₂ (λ (r : List ℕ) (rs : List (List ℕ)). r ∷ rs) (take-append-le w xs ys (omega arith))
+    (ap (records w n) (drop-append-le w xs ys (omega arith)) ∙ records-front w n (drop w xs) ys (rw length-drop (omega arith)))
+
+words-front : (m : ℕ) (xs ys : List ℕ) → 4 * m ≤ length xs → (rest : List ℕ) × (words (xs ++ ys) ≡ take m (words xs) ++ rest)
+unfolding words
+words-front zero xs ys h = (words (xs ++ ys), refl)
+words-front (suc m) [] ys h = absurd (omega arith)
+words-front (suc m) (a ∷ []) ys h = absurd (omega arith)
+words-front (suc m) (a ∷ b ∷ []) ys h = absurd (omega arith)
+words-front (suc m) (a ∷ b ∷ c ∷ []) ys h = absurd (omega arith)
+words-front (suc m) (a ∷ b ∷ c ∷ d ∷ xs) ys h =
+    let (rest, e) = words-front m xs ys (omega arith) in
+    (rest, ap (λ (ws : List ℕ). (a + 256 * b + 65536 * c + 16777216 * d) ∷ ws) e)
+
+module _ (p q : List ℕ) where
+  deps-front : (n at : ℕ) → at + 4 * n ≤ length p → take n (words (drop at (p ++ q))) ≡ take n (words (drop at p))
+  deps-front n at h =
+      let (rest, e) = words-front n (drop at p) q (rw length-drop (omega arith)) in
+      ap (λ (x : List ℕ). take n (words x)) (drop-append-le at p q (omega arith)) ∙ ap (take n) e ∙ take-at (take n (words (drop at p))) rest n (length-deps p at n h)
+
+  section-front : (w n at : ℕ) → at + 4 * (n * w) ≤ length p → section w n at (p ++ q) ≡ section w n at p
+  unfolding section
+  section-front w n at h =
+      let ws = words (drop at p) in
+      let (rest, e) = words-front (n * w) (drop at p) q (rw length-drop (omega arith)) in
+      let l : n * w ≤ length (take (n * w) ws) = omega (arith, length-deps p at (n * w) h) in
+      ap (λ (x : List ℕ). records w n (words x)) (drop-append-le at p q (omega arith)) ∙ ap (records w n) e ∙ records-front w n (take (n * w) ws) rest l
+      ∙ sym (records-front w n (take (n * w) ws) (drop (n * w) ws) l) ∙ ap (records w n) (take-append-drop (n * w) ws)
+
+  pub header-front : 4 * headerLength ≤ length p → headerIn (p ++ q) ≡ headerIn p
+  unfolding headerIn
+  header-front h = deps-front headerLength 0 h
+
+  pub records-in-front : (h : List ℕ) → endAt plain h ≤ length p → recordsAt plain h (p ++ q) ≡ recordsAt plain h p
+  unfolding recordsAt endAt errorsAt depsAt varsAt stmtsAt nodesAt
+  records-in-front h l =
+      rw (
+        section-front nodeLength (nodesIn h) (nodesAt plain h) (omega arith),
+        section-front stmtLength (stmtsIn h) (stmtsAt plain h) (omega arith),
+        section-front variableLength (varsIn h) (varsAt plain h) (omega arith),
+        deps-front (depsIn h) (depsAt plain h) (omega arith),
+        section-front errorLength (listedIn h) (errorsAt plain h) (omega arith),
+      ) refl
+
+-- ---- zeros
+
+zeros-append : (x y : List ℕ) → zeros (x ++ y) ≡ (zeros x && zeros y)
+unfolding zeros all
+zeros-append [] y = refl
+zeros-append (a ∷ x) y = ap (λ (t : Bool). eqb a 0 && t) (zeros-append x y) ∙ sym (and-assoc (eqb a 0) (zeros x) (zeros y))
+
+-- Pieces are zeros where each of them is.
+pub zeros-pieces : (qs : List (List ℕ)) → zeros (each (λ q. q) qs) ≡ all zeros qs
+unfolding zeros all each
+zeros-pieces [] = refl
+zeros-pieces (q ∷ qs) = zeros-append q (each (λ r. r) qs) ∙ ap (λ (t : Bool). zeros q && t) (zeros-pieces qs)
+
+-- ---- the whole
+
+pub end-within : (h : List ℕ) → Counted h → endAt plain h ≤ mostBytes
+unfolding endAt errorsAt depsAt varsAt stmtsAt nodesAt
+end-within h w = omega (arith, w .nodes, w .stmts, w .vars, w .deps)
+
+pub header-within : (p : List ℕ) → endAt plain (headerIn p) ≤ length p → 4 * headerLength ≤ length p
+unfolding endAt errorsAt depsAt varsAt stmtsAt nodesAt
+header-within p l = omega arith
+
+module _ (kinds : ℕ) (p q : List ℕ) where
+  -- by the header h, where the front has all sections
+  headed-front : (h : List ℕ) → endAt plain h ≤ length p → headedFits plain kinds h (p ++ q) ≡ (headedFits plain kinds h p && zeros q)
+  unfolding headedFits sectionsFit
+  headed-front h l =
+      let l′ : endAt plain h ≤ length (p ++ q) = rw length-append (omega arith) in
+      rw (le-leb (endAt plain h) (length p) l, le-leb (endAt plain h) (length (p ++ q)) l′, drop-append-le (endAt plain h) p q l, zeros-append (drop (endAt plain h) p) q, records-in-front p q h l)
+      (swap (countsFit h) (zeros (drop (endAt plain h) p)) (zeros q) (recordsFit kinds (recordsAt plain h p)))
+    where
+      swap : (w x y z : Bool) → ((w && (x && y)) && z) ≡ (((w && x) && z) && y)
+      swap false x y z = refl
+      swap true false y z = refl
+      swap true true true true = refl
+      swap true true true false = refl
+      swap true true false true = refl
+      swap true true false false = refl
+
+  over-front : (h : List ℕ) → countsFit h ≡ false → headedFits plain kinds h (p ++ q) ≡ (headedFits plain kinds h p && zeros q)
+  unfolding headedFits
+  over-front h e = rw e refl
+
+  -- The front is judged alone, and the rest has to be zeros.
+  pub front-and-rest : mostBytes ≤ length p → keepsLayout plain kinds (p ++ q) ≡ (keepsLayout plain kinds p && zeros q)
+  unfolding keepsLayout headerIn
+  front-and-rest long =
+      let e : headerIn (p ++ q) ≡ headerIn p = header-front p q (omega arith) in
+      ap (λ (h : List ℕ). headedFits plain kinds h (p ++ q)) e ∙ go (countsFit (headerIn p)) refl
+    where
+      go : (t : Bool) → countsFit (headerIn p) ≡ t → headedFits plain kinds (headerIn p) (p ++ q) ≡ (headedFits plain kinds (headerIn p) p && zeros q)
+      go true w = headed-front (headerIn p) (omega (arith, end-within (headerIn p) (counted (headerIn p) w)))
+      go false w = over-front (headerIn p) w
+
+  -- Where an area keeps its layout, it does so with anything behind it exactly where that is zeros.
+  pub kept-and-rest : keepsLayout plain kinds p ≡ true → keepsLayout plain kinds (p ++ q) ≡ zeros q
+  unfolding keepsLayout headerIn
+  kept-and-rest k =
+      let l : endAt plain (headerIn p) ≤ length p = kept-parts kinds p k .1 in
+      let e : headerIn (p ++ q) ≡ headerIn p = header-front p q (header-within p l) in
+      ap (λ (h : List ℕ). headedFits plain kinds h (p ++ q)) e ∙ headed-front (headerIn p) l ∙ ap (λ (t : Bool). t && zeros q) k
+
+-- The rest in pieces.
+pub front-and-pieces : (kinds : ℕ) (p : List ℕ) (qs : List (List ℕ)) → mostBytes ≤ length p → keepsLayout plain kinds (p ++ each (λ q. q) qs) ≡ (keepsLayout plain kinds p && all zeros qs)
+front-and-pieces kinds p qs h = front-and-rest kinds p (each (λ q. q) qs) h ∙ ap (λ (t : Bool). keepsLayout plain kinds p && t) (zeros-pieces qs)
