@@ -1,7 +1,7 @@
 -- A text that comes in pieces: what is kept from one piece to the next, and what it says of the text so far.
 use Prim.Native.Nat.{ℕ, _+_, _≤_, _<_}
 use mathlib.Core.Path.{_≡_}
-use mathlib.Core.List.{List, _++_}
+use mathlib.Core.List.{List, [], _∷_, _++_}
 use lib.ListN.{length, getD}
 use Rattle.positions.specs.declared.End.{End}
 use Rattle.positions.specs.declared.Place.{Place}
@@ -52,6 +52,13 @@ pub record Advanced (e : End) (b starts lines columns lines′ columns′ : List
 pub record Taken (e : End) (b : List ℕ) (r : End) (starts lines columns lines′ columns′ : List ℕ) : Type 0 where
   pub passed : Passed e b r
   pub advanced : Advanced e b starts lines columns lines′ columns′
+
+-- Pieces are taken in one after the other: they lead from the end e and the tables there to the end r and those there.
+pub data Follows : End → List (List ℕ) → End → List ℕ → List ℕ → List ℕ → List ℕ → List ℕ → Type 0 where
+  none : {e : End} {starts lines columns : List ℕ} → Follows e [] e starts lines columns lines columns
+  more : {e r : End} {p : List ℕ} {ps : List (List ℕ)} {starts lines columns lines″ columns″ : List ℕ} (f : End) (lines′ columns′ : List ℕ)
+      → Taken e p f starts lines columns lines′ columns′ → Follows f ps r starts lines′ columns′ lines″ columns″
+      → Follows e (p ∷ ps) r starts lines columns lines″ columns″
 
 -- ---- a text that is read: which bytes come is not known, but what stands in the tables is of them all
 

@@ -1,0 +1,4 @@
+pub mod Counting
+pub mod Growing
+pub mod Entries
+pub mod Promises
