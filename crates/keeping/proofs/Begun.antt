@@ -51,8 +51,21 @@ pub record Begun (s : Sections) (h : List ℕ) : Type 0 where
 begun-made : (h : List ℕ) → Begun (sectionsOf plain h) h
 unfolding sectionsOf endAt errorsAt depsAt varsAt stmtsAt nodesAt
 begun-made h = record {
-  nodes = refl; stmts = refl; vars = refl; deps = refl; errors = refl; end = refl; area-end = refl; node-count = refl; stmt-count = refl; stmt-width = refl; var-count = refl;
-  var-width = refl; dep-count = refl; error-count = refl; error-width = refl;
+  nodes = refl;
+  stmts = refl;
+  vars = refl;
+  deps = refl;
+  errors = refl;
+  end = refl;
+  area-end = refl;
+  node-count = refl;
+  stmt-count = refl;
+  stmt-width = refl;
+  var-count = refl;
+  var-width = refl;
+  dep-count = refl;
+  error-count = refl;
+  error-width = refl;
 }
 
 pub begun : (s : Sections) (h : List ℕ) → s ≡ sectionsOf plain h → Begun s h
