@@ -1,7 +1,7 @@
 -- The tests of an area's records in a loop's terms: the record at i, those behind it, and the end; and the tests of one record, case by case.
-use mathlib.Core.Path.{_≡_, refl, ap}
+use mathlib.Core.Path.{_≡_, refl, ap, _∙_}
 use mathlib.Core.List.{List, []}
-use mathlib.Core.Bool.{Bool, true, not, _&&_, _||_}
+use mathlib.Core.Bool.{true, false, not, _&&_, _||_}
 use Prim.Native.Nat.{ℕ, zero, suc, _+_, _≤_, _<_}
 use native.Mathlib.Omega.{arith}
 use borrow.Author.Tests.{leb-true, lt-ltb, ne-eqb}
@@ -65,14 +65,19 @@ module _ (w n at : ℕ) (b : List ℕ) (i : ℕ) where
   unfolding namesDiffer
   names-done h = ap namesDiffer (done w n at b i h)
 
--- named, and otherwise, as the code asks it
-pub named-apart : (name : ℕ) (r : List ℕ) → namedApart name r ≡ not (eqb (nameOfVariable r) 0 || eqb (nameOfVariable r) name)
-unfolding namedApart
-named-apart name r = go (nameOfVariable r)
-  where
-    go : (k : ℕ) → (ltb 0 k && not (eqb k name)) ≡ not (eqb k 0 || eqb k name)
-    go zero = refl
-    go (suc k) = simp (lt-ltb 0 (suc k) (omega arith), ne-eqb (suc k) 0 (λ e. omega arith))
+apart-test : (name k : ℕ) → (ltb 0 k && not (eqb k name)) ≡ not (eqb k 0 || eqb k name)
+apart-test name zero = refl
+apart-test name (suc k) = simp (lt-ltb 0 (suc k) (omega arith), ne-eqb (suc k) 0 (λ e. omega arith))
+
+-- What the code asks of a variable whose name plus 1 is k: it is not named, or it bears that name.
+module _ (name k : ℕ) (r : List ℕ) (is : k ≡ nameOfVariable r) where
+  pub apart-no : (eqb k 0 || eqb k name) ≡ true → namedApart name r ≡ false
+  unfolding namedApart
+  apart-no h = rw (← is) (apart-test name k ∙ ap not h)
+
+  pub apart-yes : (eqb k 0 || eqb k name) ≡ false → namedApart name r ≡ true
+  unfolding namedApart
+  apart-yes h = rw (← is) (apart-test name k ∙ ap not h)
 
 -- ---- zeros
 

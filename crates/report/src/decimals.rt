@@ -16,7 +16,7 @@ pub fn put_field(out: &mut [u8], at: usize, n: u64, behind: u8) -> usize
 {
     let mut digits = [0u8; 20];
     let k = io::decimal(n, &mut digits);
-    copy(&digits, k, &mut out[at..]);
+    copy(&digits[..k], k, &mut out[at..]);
     out[at + k] = behind;
     at + k + 1
 }

@@ -97,9 +97,9 @@ fn counts(words: &mut Words) -> Result<Counts, Broken> {
     };
     let within = counts.nodes <= MOST_NODES
         && counts.statements <= MOST_STATEMENTS
-        && (1..=MOST_VARIABLES).contains(&counts.variables)
+        && counts.variables <= MOST_VARIABLES
         && counts.dependents <= MOST_DEPENDENTS
-        && (1..=MOST_INSTANCES).contains(&(counts.instances as usize));
+        && counts.instances as usize <= MOST_INSTANCES;
     require(within, "a count is not within its most")?;
     Ok(counts)
 }
@@ -197,15 +197,15 @@ fn statement(words: &mut Words, counts: &Counts) -> Option<Statement> {
         (2, name, 0) if is_name(name) => Equation::Rate { name, right },
         _ => return None,
     };
+    let known = (variable as usize) < counts.variables;
     let fate = match (fate, variable) {
-        (1, v) => Fate::InitialCondition(v),
-        (2, v) => Fate::Held(v),
-        (3, v) => Fate::Replaced(v),
+        (1, v) if known => Fate::InitialCondition(v),
+        (2, v) if known => Fate::Held(v),
+        (3, v) if known => Fate::Replaced(v),
         (4, 0) => Fate::LeftOver,
         _ => return None,
     };
-    let known = (variable as usize) < counts.variables;
-    known.then_some(Statement {
+    Some(Statement {
         equation,
         span,
         fate,

@@ -34,11 +34,16 @@ all-zeros-requires : tie.Need-all-zeros-requires
 all-zeros-requires c κs = search needs
 
 records-fit-requires : tie.Need-records-fit-requires
-records-fit-requires c κs = (laid _ _ (c .before .before .before .sections-in .result) (sym (c .before .before .before .before .before .counts-fit .ensures) ∙ not-false _ (c .before .before .before .before .if2 .left)) (c .before .before .before .sections-in .ensures) (c .before .before .if3 .left), c .before .before .before .sections-in .ensures)
+records-fit-requires c κs =
+    let g = c .before .before .before in
+    let w = sym (g .before .before .counts-fit .ensures) ∙ not-false _ (g .before .if2 .left) in
+    (laid _ _ (g .sections-in .result) w (g .sections-in .ensures) (c .before .before .if3 .left), g .sections-in .ensures)
 
 returns-4 : tie.Need-returns-4
-returns-4 c = let w = sym (c .before .before .before .before .before .before .counts-fit .ensures) ∙ not-false _ (c .before .before .before .before .before .if2 .left) in
-    all-there _ _ (c .before .before .before .before .sections-in .result) w (c .before .before .before .before .sections-in .ensures) _ _ (c .before .before .before .if3 .left) (c .before .all-zeros .ensures) (c .records-fit .ensures)
+returns-4 c =
+    let g = c .before .before .before .before in
+    let w = sym (g .before .before .counts-fit .ensures) ∙ not-false _ (g .before .if2 .left) in
+    all-there _ _ (g .sections-in .result) w (g .sections-in .ensures) _ _ (c .before .before .before .if3 .left) (c .before .all-zeros .ensures) (c .records-fit .ensures)
 
 pub keeps-layout-spec : {M : Type 1} → statement M
 keeps-layout-spec =

@@ -21,8 +21,18 @@ errors-fit-requires : tie.Need-errors-fit-requires
 errors-fit-requires c κs = laid-errors (c .before .before .before .before .before .before .pre .0) (c .before .before .before .before .before .before .pre .1)
 
 returns : tie.Need-returns
-returns c = rw (c .before .before .before .before .before .nodes-fit .ensures, c .before .before .before .before .rows-fit .ensures, c .before .before .before .variables-fit .ensures, c .before .before .names-differ .ensures, c .before .deps-fit .ensures, c .errors-fit .ensures)
-    (records-are _ _ (c .before .before .before .before .before .before .before .args .s) _ (c .before .before .before .before .before .before .before .pre .1))
+returns c =
+    let e = c .before .before .before in
+    let s = e .before .before .before .before in
+    rw (
+      e .before .before .nodes-fit .ensures,
+      e .before .rows-fit .ensures,
+      e .variables-fit .ensures,
+      c .before .before .names-differ .ensures,
+      c .before .deps-fit .ensures,
+      c .errors-fit .ensures,
+    )
+    (records-are _ _ (s .args .s) _ (s .pre .1))
 
 pub records-fit-spec : {M : Type 1} → statement M
 records-fit-spec =

@@ -1,4 +1,4 @@
-use mathlib.Core.Path.{sym, _∙_}
+use mathlib.Core.Path.{refl, sym, _∙_}
 use borrow.Author.Tests.{ne-eqb}
 use borrow.Author.Needs.{needs}
 use Rattle.definitions.specs.Layout.{fateFits}
@@ -16,7 +16,7 @@ cast-if1 c = search needs
 
 returns : tie.Need-returns
 unfolding fateFits
-returns c = rw (sym (c .before .before .word-of .ensures .0) ∙ c .if1 .taken, c .before .word-of2 .ensures .0)
+returns c = rw (sym (c .before .before .word-of .ensures .0) ∙ c .if1 .taken, c .before .word-of2 .ensures .0) refl
 
 cast-result : tie.Need-cast-result
 cast-result c = search needs

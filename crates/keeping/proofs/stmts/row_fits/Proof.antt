@@ -1,3 +1,4 @@
+use mathlib.Core.Path.{refl}
 use native.Mathlib.Omega.{arith}
 use Rattle.ast.specs.RecordsIn.{StmtsLie}
 use Rattle.definitions.specs.Layout.{rowFits}
@@ -17,7 +18,7 @@ fate-fits-requires c κs = search needs
 
 returns : tie.Need-returns
 unfolding rowFits
-returns c = rw (c .before .before .stmt-fits .ensures, c .before .word-of .ensures .0, c .fate-fits .ensures)
+returns c = rw (c .before .before .stmt-fits .ensures, c .before .word-of .ensures .0, c .fate-fits .ensures) refl
 
 pub row-fits-spec : {M : Type 1} → statement M
 row-fits-spec =

@@ -7,7 +7,7 @@ use Rattle.functions.specs.Lists.{all}
 use Rattle.ast.proofs.Turns.{all-turn, all-done}
 use Rattle.ast.specs.RecordsIn.{recordsIn}
 use Rattle.definitions.specs.Layout.{namedApart}
-use Rattle.keeping.proofs.Turns.{named-apart}
+use Rattle.keeping.proofs.Turns.{apart-no, apart-yes}
 use Rattle.keeping.proofs.variables.named_apart.Statement.{statement}
 use Rattle.keeping.proofs.variables.named_apart.Tie as tie
 
@@ -26,7 +26,7 @@ word-of-requires c κs = let p = c .before .before .before .before .pre .0 in
 
 returns : tie.Need-returns Inv-loop μ-loop
 returns c = let l = c .before .before .before .before .loop in
-    sym (l .inv .1 ∙ all-turn _ _ _ _ (l .i) (namedApart _) (c .before .before .if1 .taken) ∙ rw (named-apart _ _, ← c .before .word-of .ensures .0, c .if2 .taken))
+    sym (l .inv .1 ∙ all-turn _ _ _ _ (l .i) (namedApart _) (c .before .before .if1 .taken) ∙ rw (apart-no _ _ _ (c .before .word-of .ensures .0) (c .if2 .taken)))
 
 add-i : tie.Need-add-i Inv-loop μ-loop
 add-i c = omega arith
@@ -36,7 +36,7 @@ loop-less c = omega arith
 
 loop-again : tie.Need-loop-again Inv-loop μ-loop
 loop-again c = let l = c .before .before .before .before .loop in
-    (omega arith, l .inv .1 ∙ all-turn _ _ _ _ (l .i) (namedApart _) (c .before .before .if1 .taken) ∙ rw (named-apart _ _, ← c .before .word-of .ensures .0, c .if2 .left))
+    (omega arith, l .inv .1 ∙ all-turn _ _ _ _ (l .i) (namedApart _) (c .before .before .if1 .taken) ∙ rw (apart-yes _ _ _ (c .before .word-of .ensures .0) (c .if2 .left)))
 
 returns-2 : tie.Need-returns-2 Inv-loop μ-loop
 returns-2 c = let l = c .before .before .loop in

@@ -32,7 +32,18 @@ word-of-requires-8 c κs = search needs
 
 returns : tie.Need-returns
 unfolding variableFits
-returns c = rw (c .before .before .before .before .before .before .before .word-of .ensures .0, c .before .before .before .before .before .before .word-of2 .ensures .0, c .before .before .before .before .before .word-of3 .ensures .0, c .before .before .before .before .word-of4 .ensures .0, c .before .before .before .word-of5 .ensures .0, c .before .before .word-of6 .ensures .0, c .before .word-of7 .ensures .0, c .word-of8 .ensures .0)
+returns c =
+    let e = c .before .before .before in
+    rw (
+      e .before .before .before .before .word-of .ensures .0,
+      e .before .before .before .word-of2 .ensures .0,
+      e .before .before .word-of3 .ensures .0,
+      e .before .word-of4 .ensures .0,
+      e .word-of5 .ensures .0,
+      c .before .before .word-of6 .ensures .0,
+      c .before .word-of7 .ensures .0,
+      c .word-of8 .ensures .0,
+    )
 
 pub variable-fits-spec : {M : Type 1} → statement M
 variable-fits-spec =

@@ -21,7 +21,7 @@ shared-slice-read-if1 : tie.Need-shared-slice-read-if1 Inv-loop μ-loop
 shared-slice-read-if1 c = omega arith
 
 returns : tie.Need-returns Inv-loop μ-loop
-returns c = sym (c .before .before .before .loop .inv .1 ∙ zeros-turn (c .before .before .before .before .args .bytes .now) (c .before .before .before .loop .i) (c .before .before .loop-test .taken) ∙ rw (ne-eqb _ _ (c .if1 .taken)))
+returns c = sym (c .before .before .before .loop .inv .1 ∙ zeros-turn (c .before .before .before .before .args .bytes .now) (c .before .before .before .loop .i) (c .before .before .loop-test .taken) ∙ rw (ne-eqb _ _ (c .if1 .taken)) refl)
 
 add-i : tie.Need-add-i Inv-loop μ-loop
 add-i c = omega arith

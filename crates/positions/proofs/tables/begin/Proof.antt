@@ -45,8 +45,9 @@ loop-less c = omega arith
 
 loop-again : tie.Need-loop-again Inv-loop μ-loop
 loop-again c =
-    let p = c .before .before .before .loop in
-    let starts = c .before .before .before .before .before .before .before .args .starts .now in (
+    let l = c .before .before .before in
+    let p = l .loop in
+    let starts = l .before .before .before .before .args .starts .now in (
       omega arith,
       long-set starts (p .lines) (p .columns) (p .i) (c .first .result) (p .inv .1) (omega arith),
       done-turn starts (p .lines) (p .columns) (p .i) (c .first .result) (p .inv .1) (omega arith) [] (c .first .ensures) (p .inv .2),

@@ -1,0 +1,5 @@
+pub mod Promises
+pub mod Digits
+pub mod Fields
+pub mod Written
+pub mod Tables
