@@ -147,6 +147,11 @@ module _ (kinds : ℕ) (b : List ℕ) where
 
 -- ---- of an area that keeps its layout
 
+-- an area that has its sections has a header
+pub header-within : (p : List ℕ) → endAt plain (headerIn p) ≤ length p → 4 * headerLength ≤ length p
+unfolding endAt errorsAt depsAt varsAt stmtsAt nodesAt
+header-within p l = omega arith
+
 pub kept-parts : (kinds : ℕ) (b : List ℕ) → keepsLayout plain kinds b ≡ true → (countsFit (headerIn b) ≡ true) × (endAt plain (headerIn b) ≤ length b)
 unfolding keepsLayout headedFits sectionsFit headerIn
 kept-parts kinds b k =
@@ -155,3 +160,15 @@ kept-parts kinds b k =
     let (w, k₂) = and-both (countsFit h) _ k₁ in
     let (l, _) = and-both _ (zeros (drop (endAt plain h) b)) k₂ in
     (w, leb-true (endAt plain h) (length b) l)
+
+-- It has a header, whose counts are within the mosts,
+pub kept-header : (kinds : ℕ) (b : List ℕ) → keepsLayout plain kinds b ≡ true → (4 * headerLength ≤ length b) × Counted (headerIn b)
+kept-header kinds b k = let (w, l) = kept-parts kinds b k in (header-within b l, counted (headerIn b) w)
+
+-- and its listed errors lie within it.
+pub kept-errors : (kinds : ℕ) (b : List ℕ) (s : Sections) → keepsLayout plain kinds b ≡ true → s ≡ sectionsOf plain (headerIn b)
+    → ErrorsLie (s .errors) b × (s .errors .count ≤ mostListed)
+kept-errors kinds b s k e =
+    let (w, l) = kept-parts kinds b k in
+    let g = begun s (headerIn b) e in
+    (laid-errors (record { counted = counted (headerIn b) w; long = l }) e, omega (arith, g .error-count))

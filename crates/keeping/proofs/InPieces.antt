@@ -19,7 +19,7 @@ use Rattle.definitions.specs.Answer.{Area}
 use Rattle.definitions.specs.Area.{nodesIn, stmtsIn, varsIn, depsIn, listedIn, headerIn}
 use Rattle.definitions.specs.Layout.{plain, countsFit, nodesAt, stmtsAt, varsAt, depsAt, errorsAt, endAt, recordsAt, zeros, sectionsFit, recordsFit, headedFits, keepsLayout}
 use Rattle.keeping.specs.Placed.{Counted}
-use Rattle.keeping.proofs.Begun.{counted, kept-parts}
+use Rattle.keeping.proofs.Begun.{counted, header-within, kept-parts}
 
 -- ---- a section of the front
 
@@ -90,10 +90,6 @@ zeros-pieces (q ∷ qs) = zeros-append q (each (λ r. r) qs) ∙ ap (λ (t : Boo
 pub end-within : (h : List ℕ) → Counted h → endAt plain h ≤ mostBytes
 unfolding endAt errorsAt depsAt varsAt stmtsAt nodesAt
 end-within h w = omega (arith, w .nodes, w .stmts, w .vars, w .deps)
-
-pub header-within : (p : List ℕ) → endAt plain (headerIn p) ≤ length p → 4 * headerLength ≤ length p
-unfolding endAt errorsAt depsAt varsAt stmtsAt nodesAt
-header-within p l = omega arith
 
 module _ (kinds : ℕ) (p q : List ℕ) where
   -- by the header h, where the front has all sections

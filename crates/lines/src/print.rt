@@ -1,8 +1,8 @@
 // What is printed of an area whose front has been read.
 ghost use mathlib.Core.Bool.{true};
 ghost use mathlib.Core.Path.{_≡_};
-ghost use Prim.Native.Nat.{_≤_};
 ghost use lib.ListN.{length, take};
+ghost use Rattle.io.specs.Counts.{Counts};
 ghost use Rattle.definitions.specs.Numbers.{mostListed};
 ghost use Rattle.definitions.specs.Layout.{plain, mostKind, keepsLayout};
 ghost use Rattle.positions.specs.Pieces.{AsLong};
@@ -37,7 +37,7 @@ fn lines_of(
         × (length (now starts) ≡ mostListed)
         × AsLong (now starts) (now lines) (now columns)
         × (length (now out) ≡ 65536) ⌝ }
-    ensures { λ r. ⌜ (r ≤ length (now (out .exit)))
+    ensures { λ r. ⌜ Counts r (now (out .exit))
         × Printed (now (area .entry)) (take r (now (out .exit))) ⌝ }
 {
     let s = sections_in(area);

@@ -4,11 +4,17 @@ use mathlib.Core.Bool.{true}
 use mathlib.Core.List.{List, [], _∷_, _++_}
 use Prim.Native.Nat.{ℕ, suc, _+_, _≤_, _<_}
 use native.Mathlib.Omega.{arith}
-use lib.ListN.{length, getD}
+use lib.ListN.{length, take, getD, length-append}
+use lib.Seq.{length-take-le}
+use Rattle.io.specs.Counts.{Counts}
+use Rattle.ast.specs.Bytes.{front}
+use Rattle.ast.proofs.Fields.{length-section}
+use Rattle.ast.proofs.Fronts.{take-front}
 use Rattle.functions.specs.Lists.{each}
 use Rattle.ast.specs.RecordsIn.{recordsIn}
 use Rattle.definitions.specs.Area.{headerIn}
 use Rattle.definitions.specs.Layout.{plain, mostKind, kindOfError, recordsAt, keepsLayout}
+use Rattle.keeping.specs.declared.sections.Sections.{Sections}
 use Rattle.keeping.specs.Placed.{sectionsOf}
 use Rattle.positions.specs.declared.Place.{Place}
 use Rattle.positions.specs.Positions.{placeOf, shownFor}
@@ -66,9 +72,21 @@ pub lines-are : (area text : List ℕ) → keepsLayout plain mostKind area ≡ t
 unfolding lines linesOf
 lines-are area text h = rw h refl
 
--- Lines from the tables of any text are the lines of the area and that text.
-pub printed : (area starts₀ starts ls cs : List ℕ) → keepsLayout plain mostKind area ≡ true → length (listedErrors plain area) ≤ length starts
-    → Noted (listedErrors plain area) starts₀ starts → OfText starts ls cs → Printed area (tabledLines ls cs 0 (listedErrors plain area))
-printed area starts₀ starts ls cs keeps few noted x =
-    let e = tabled-are (x .text) starts₀ starts ls cs (listedErrors plain area) few noted (x .placed) in
-    record { text = x .text; are = e ∙ sym (lines-are area (x .text) keeps) }
+-- ---- what is put at the front of a buffer
+
+-- The bytes that are put there are in it,
+pub front-counts : (d d′ e : List ℕ) (r : ℕ) → r ≡ length e → d′ ≡ front d e → Counts r d′
+unfolding front
+front-counts d d′ e r l g = let w : r ≤ length d′ = rw g (rw length-append (omega arith)) in (w, sym (length-take-le r d′ w))
+
+-- and where they are the lines from the tables of any text, they are the lines of the area and that text.
+pub printed : (area starts₀ starts ls cs : List ℕ) (s : Sections) → keepsLayout plain mostKind area ≡ true → s ≡ sectionsOf plain (headerIn area)
+    → Noted (recordsIn (s .errors) area) starts₀ starts → OfText starts ls cs
+    → (d d′ : List ℕ) (r : ℕ) → r ≡ length (tabledLines ls cs 0 (recordsIn (s .errors) area)) → d′ ≡ front d (tabledLines ls cs 0 (recordsIn (s .errors) area))
+    → s .errors .count ≤ length starts → Printed area (take r d′)
+printed area starts₀ starts ls cs s keeps is noted x d d′ r l g few =
+    let rs = recordsIn (s .errors) area in
+    let short : length rs ≤ length starts = omega (arith, few, length-section (s .errors .width) (s .errors .count) (s .errors .at) area) in
+    let are : rs ≡ listedErrors plain area = ap (λ (z : Sections). recordsIn (z .errors) area) is ∙ errors-are area in
+    let e = tabled-are (x .text) starts₀ starts ls cs rs short noted (x .placed) in
+    record { text = x .text; are = rw (l, g) (take-front d (tabledLines ls cs 0 rs)) ∙ e ∙ ap (each (errorLine (x .text))) are ∙ sym (lines-are area (x .text) keeps) }
