@@ -3,7 +3,7 @@
 use generate::prng::Random;
 
 /// Values that rules ask for or stop at.
-const VALUES: [u32; 26] = [
+pub(crate) const VALUES: [u32; 26] = [
     0,
     1,
     2,
@@ -41,6 +41,7 @@ pub fn changed(random: &mut Random, area: &[u8]) -> Vec<u8> {
         2 => area.push(1),
         3 => grow(random, &mut area),
         4 => swap(random, &mut area),
+        5 => no_variables(&mut area),
         _ => {
             for _ in 0..random.weighted(&[(12, 1), (5, 2), (2, 3), (1, 6)]) {
                 one_word(random, &mut area);
@@ -58,6 +59,21 @@ fn grow(random: &mut Random, area: &mut Vec<u8>) {
     area[at] = 1 << random.below(8);
 }
 
+/// No variables and no dependents, and every statement left over.
+fn no_variables(area: &mut Vec<u8>) {
+    let [nodes, statements, variables, dependents] = [0, 4, 8, 12].map(|at| word(area, at));
+    let stmts_at = 40 + 32 * nodes as usize;
+    let vars_at = stmts_at + 32 * statements as usize;
+    let errors_at = vars_at + 48 * variables as usize + 4 * dependents as usize;
+    for record in (stmts_at..vars_at).step_by(32) {
+        put(area, record + 24, 4);
+        put(area, record + 28, 0);
+    }
+    area.drain(vars_at..errors_at);
+    put(area, 8, 0);
+    put(area, 12, 0);
+}
+
 /// The place of a word, more often than others one of the header.
 fn any_word(random: &mut Random, area: &[u8]) -> Option<usize> {
     let words = area.len() / 4;
@@ -65,11 +81,11 @@ fn any_word(random: &mut Random, area: &[u8]) -> Option<usize> {
     (words > 0).then(|| 4 * random.below(most.min(words)))
 }
 
-fn word(area: &[u8], at: usize) -> u32 {
+pub(crate) fn word(area: &[u8], at: usize) -> u32 {
     u32::from_le_bytes(area[at..at + 4].try_into().expect("four bytes"))
 }
 
-fn put(area: &mut [u8], at: usize, word: u32) {
+pub(crate) fn put(area: &mut [u8], at: usize, word: u32) {
     area[at..at + 4].copy_from_slice(&word.to_le_bytes());
 }
 

@@ -3,10 +3,14 @@
 
 mod change;
 mod count;
+mod models;
+mod pack;
 mod programs;
 mod spaced;
 
 pub use change::changed;
 pub use count::{place, printed};
-pub use programs::{judged, lines, program, Judged};
+pub use models::{area_of, text_and_area};
+pub use pack::{case, pack};
+pub use programs::{judged, lines, lines_of, program, Judged};
 pub use spaced::spaced;

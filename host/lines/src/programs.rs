@@ -1,10 +1,11 @@
 //! The proved programs, run.
 
+use crate::pack::case;
 use std::ffi::OsStr;
-use std::io::Write;
-use std::path::PathBuf;
+use std::io::{BufWriter, Write};
+use std::path::{Path, PathBuf};
 use std::process::{Command, Output, Stdio};
-use std::thread;
+use std::{fs, thread};
 
 /// The path of a program that `rt check` has proved and linked.
 pub fn program(name: &str) -> PathBuf {
@@ -18,6 +19,14 @@ pub fn program(name: &str) -> PathBuf {
 pub fn lines<A: AsRef<OsStr>>(arguments: &[A]) -> String {
     let output = Command::new(program("lines")).args(arguments).output();
     text_of(output.expect("the program runs"))
+}
+
+/// What it prints of an area and a text, by way of two files in this folder.
+pub fn lines_of(folder: impl AsRef<Path>, area: &[u8], text: &[u8]) -> String {
+    let files = ["lines.area", "lines.text"].map(|name| folder.as_ref().join(name));
+    fs::write(&files[0], area).expect("written");
+    fs::write(&files[1], text).expect("written");
+    lines(&files)
 }
 
 /// What a program printed: it says nothing on standard error.
@@ -41,13 +50,11 @@ pub fn judged(areas: impl Iterator<Item = (Vec<u8>, bool)> + Send) -> Judged {
     let mut command = Command::new(program("area_cases"));
     let piped = command.stdin(Stdio::piped()).stdout(Stdio::piped());
     let mut child = piped.spawn().expect("the program runs");
-    let mut to = std::io::BufWriter::new(child.stdin.take().expect("it is piped"));
+    let mut to = BufWriter::new(child.stdin.take().expect("it is piped"));
     thread::scope(|scope| {
         scope.spawn(move || {
             for (area, keeps) in areas {
-                let head = [area.len() as u32, u32::from(keeps)].map(u32::to_le_bytes);
-                to.write_all(head.as_flattened()).expect("it reads");
-                to.write_all(&area).expect("it reads");
+                to.write_all(&case(&area, keeps)).expect("it reads");
             }
             to.flush().expect("it reads");
         });

@@ -3,7 +3,15 @@
 use generate::prng::Random;
 
 const GAPS: [&str; 9] = [
-    " ", "  ", "\n", "\n\n", "\r\n", "\t", "\n    ", " # why\n", " # größer\n",
+    " ",
+    "  ",
+    "\n",
+    "\n\n",
+    "\r\n",
+    "\t",
+    "\n    ",
+    " # why\n",
+    " # größer\n",
 ];
 
 /// The text with other gaps: each space and newline outside quotes may become another gap.
@@ -13,7 +21,7 @@ pub fn spaced(random: &mut Random, text: &str) -> String {
     for c in text.chars() {
         quoted ^= c == '"';
         if !quoted && c.is_whitespace() && random.chance(60) {
-            found.push_str(random.pick(&GAPS));
+            found.push_str(GAPS[random.below(GAPS.len())]);
         } else {
             found.push(c);
         }

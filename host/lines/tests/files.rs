@@ -1,9 +1,6 @@
 //! The program's files: missing ones, folders, pipes, zeros behind, and long texts in constant memory.
 
-mod common;
-
-use common::{area_of, scratch};
-use lines::{lines, program};
+use lines::{area_of, lines, program};
 use std::io::Write;
 use std::path::{Path, PathBuf};
 use std::process::{Command, Stdio};
@@ -11,7 +8,12 @@ use std::time::Duration;
 use std::{fs, thread};
 use treefile::examples::P2;
 
-const PRINTED: &str = "3 5 12\n1 1 15\n1 1 16\n";
+const PRINTED: &str = "3 7 12\n1 1 15\n1 1 16\n";
+
+/// Where a test keeps its files.
+fn scratch(name: &str) -> PathBuf {
+    Path::new(env!("CARGO_TARGET_TMPDIR")).join(name)
+}
 
 /// P2 over four lines: its text, and the area of its build.
 fn p2() -> (String, Vec<u8>) {
@@ -70,7 +72,15 @@ fn a_file_that_may_not_be_read_counts_as_empty() {
 fn zeros_behind_however_many() {
     let (text, area) = p2();
     let text = written("zeros.text", text.as_bytes());
-    for zeros in [1, 3, 65_536 - area.len(), 65_537, 70_000, 200_000, 3_000_000] {
+    for zeros in [
+        1,
+        3,
+        65_536 - area.len(),
+        65_537,
+        70_000,
+        200_000,
+        3_000_000,
+    ] {
         let mut long = area.clone();
         long.resize(area.len() + zeros, 0);
         assert_eq!(lines(&[&written("zeros.area", &long), &text]), PRINTED);
@@ -105,7 +115,11 @@ fn pipes_are_read_to_their_end() {
     let (text, area) = p2();
     let fifo = scratch("text.fifo");
     let _ = fs::remove_file(&fifo);
-    assert!(Command::new("mkfifo").arg(&fifo).status().unwrap().success());
+    assert!(Command::new("mkfifo")
+        .arg(&fifo)
+        .status()
+        .unwrap()
+        .success());
     let mut command = Command::new(program("lines"));
     let piped = command.arg("/dev/stdin").arg(&fifo);
     let mut child = piped

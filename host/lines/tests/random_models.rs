@@ -1,21 +1,22 @@
 //! Random models with their own texts: the program against a count in Rust, and against the witness sheet's places.
 
-mod common;
-
 use builder::Answer;
-use common::{printed, text_and_area};
+use lines::{area_of, lines_of, text_and_area};
 use sheet::Text;
+use std::fs;
+use std::path::{Path, PathBuf};
 
-const MODELS: usize = 1500;
+const MODELS: usize = 3000;
 
 #[test]
 fn lines_and_columns_of_random_models() {
+    let folder = folder("random");
     let (mut models, mut errors, mut wide) = (0, 0, 0);
     let mut texts = (1..).filter_map(text_and_area);
     while models < MODELS {
         let (text, area) = texts.next().expect("there is no end");
         let answer = Answer::read(&area).expect("an accepted area keeps its layout");
-        let said = printed("random", &area, text.as_bytes());
+        let said = lines_of(&folder, &area, text.as_bytes());
         assert_eq!(said, lines::printed(&answer, text.as_bytes()), "{text}");
         assert_eq!(said.lines().count(), answer.errors.len());
         if text.is_ascii() {
@@ -26,8 +27,15 @@ fn lines_and_columns_of_random_models() {
         models += 1;
         errors += answer.errors.len();
     }
-    assert!(errors > 2 * MODELS, "{errors}");
+    assert!(errors > MODELS, "{errors}");
     assert!((MODELS / 20..MODELS * 19 / 20).contains(&wide), "{wide}");
+}
+
+/// A folder of a test's own.
+fn folder(name: &str) -> PathBuf {
+    let path = Path::new(env!("CARGO_TARGET_TMPDIR")).join(name);
+    fs::create_dir_all(&path).expect("made");
+    path
 }
 
 /// The same by the witness sheet's own lines and columns, which count characters.
@@ -46,9 +54,10 @@ fn of_sheet(answer: &Answer, text: &str) -> String {
 fn columns_are_bytes() {
     let text = "model root(x(t)) { # ß\n \"ß\" = \"ß\"; dot(x) = y; x(0) = 1 }";
     let file = treefile::text::parse(text).unwrap().assemble().to_bytes();
-    let area = common::area_of(&file, b"root").unwrap();
+    let area = area_of(&file, b"root").unwrap();
     let answer = Answer::read(&area).unwrap();
-    let said = printed("wide", &area, text.as_bytes());
+    let folder = folder("wide");
+    let said = lines_of(&folder, &area, text.as_bytes());
     assert_eq!(said, lines::printed(&answer, text.as_bytes()));
     assert_ne!(said, of_sheet(&answer, text));
 }

@@ -1,9 +1,6 @@
 //! The sample cases of line and column, made by a reference of their own: what the program prints of each.
 
-mod common;
-
 use builder::Answer;
-use common::printed;
 
 struct Case<'a> {
     words: &'a str,
@@ -20,7 +17,7 @@ fn bytes(hex: &str) -> Vec<u8> {
     (0..hex.len()).step_by(2).map(digits).collect()
 }
 
-fn cases(pack: &str) -> Vec<Case> {
+fn cases(pack: &str) -> Vec<Case<'_>> {
     let mut found: Vec<Case> = Vec::new();
     for line in pack.lines().filter(|line| !line.starts_with('#')) {
         let Some((field, value)) = line.split_once(' ') else {
@@ -52,7 +49,7 @@ fn sample_cases() {
     assert_eq!(cases.len(), 111);
     let mut kept = 0;
     for case in &cases {
-        let said = printed("sample", &case.area, &case.text);
+        let said = lines::lines_of(env!("CARGO_TARGET_TMPDIR"), &case.area, &case.text);
         assert_eq!(said, case.prints, "{}", case.words);
         let counted = Answer::read(&case.area).map(|answer| lines::printed(&answer, &case.text));
         kept += usize::from(counted.is_ok());
