@@ -39,7 +39,7 @@ place-beyond : (t : List ℕ) (s : ℕ) → length t < s → placeOf t s ≡ now
 unfolding placeOf
 place-beyond t s h = rw (lt-leb s (length t) h) refl
 
-place-stays : (t u : List ℕ) (s : ℕ) → s ≤ length t → placeOf (t ++ u) s ≡ placeOf t s
+pub place-stays : (t u : List ℕ) (s : ℕ) → s ≤ length t → placeOf (t ++ u) s ≡ placeOf t s
 place-stays t u s h =
     place-there (t ++ u) s (rw length-append (omega arith))
     ∙ (λ i. record { line = line-stays t u s h i; column = column-stays t u s h i })

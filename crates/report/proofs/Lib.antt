@@ -3,3 +3,4 @@ pub mod Digits
 pub mod Fields
 pub mod Written
 pub mod Tables
+pub mod WholeFiles

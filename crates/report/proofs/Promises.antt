@@ -19,7 +19,7 @@ use Rattle.positions.specs.Positions.{newline, isNewline}
 use Rattle.positions.specs.declared.Place.{Place}
 use Rattle.positions.proofs.Counting.{times-append}
 use Rattle.report.specs.Decimals.{decimal}
-use Rattle.report.specs.Lines.{space, field, lineFor, errorLine, listedErrors, linesOf, lines}
+use Rattle.report.specs.Lines.{space, field, lineFor, errorLine, listedErrors, lines}
 use Rattle.report.proofs.Digits.{decimal-digits}
 use Rattle.report.proofs.Tables.{lines-are}
 
@@ -84,8 +84,3 @@ pub line-count : (area text : List ℕ) → keepsLayout plain mostKind area ≡ 
 unfolding errorLine
 line-count area text h =
     ap (times isNewline) (lines-are area text h) ∙ times-each isNewline (errorLine text) (λ r. line-newlines _ _) (listedErrors plain area) ∙ listed-count area
-
--- Nothing is printed of one that breaks it.
-pub no-line : (area text : List ℕ) → keepsLayout plain mostKind area ≡ false → lines area text ≡ []
-unfolding lines linesOf
-no-line area text h = rw h refl

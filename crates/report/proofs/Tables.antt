@@ -1,6 +1,6 @@
 -- Lines from the tables of a text are the lines of that text.
 use mathlib.Core.Path.{_≡_, refl, sym, ap, ap₂, _∙_}
-use mathlib.Core.Bool.{true}
+use mathlib.Core.Bool.{true, false}
 use mathlib.Core.List.{List, [], _∷_, _++_}
 use Prim.Native.Nat.{ℕ, suc, _+_, _≤_, _<_}
 use native.Mathlib.Omega.{arith}
@@ -71,6 +71,11 @@ errors-are area = refl
 pub lines-are : (area text : List ℕ) → keepsLayout plain mostKind area ≡ true → lines area text ≡ each (errorLine text) (listedErrors plain area)
 unfolding lines linesOf
 lines-are area text h = rw h refl
+
+-- Nothing is printed of one that breaks it.
+pub no-line : (area text : List ℕ) → keepsLayout plain mostKind area ≡ false → lines area text ≡ []
+unfolding lines linesOf
+no-line area text h = rw h refl
 
 -- ---- what is put at the front of a buffer
 
