@@ -2,3 +2,4 @@ pub mod Counting
 pub mod Growing
 pub mod Entries
 pub mod Promises
+pub mod Missing
