@@ -158,7 +158,7 @@ uint64_t build(const uint8_t *file, size_t file_length,
 #define BUILDER_VARIABLE_LOWER 8
 #define BUILDER_VARIABLE_UPPER 10
 
-/* A listed error. */
+/* A listed error. Its span is in bytes of the model's source; the program `lines` prints the line and the column. */
 #define BUILDER_ERROR_KIND 0
 #define BUILDER_ERROR_SPAN 1
 #define BUILDER_ERROR_NAME 3      /* plus 1 */

@@ -15,7 +15,6 @@ use Rattle.ast.specs.Words.{words, records, section}
 use Rattle.ast.proofs.Fields.{length-deps}
 use Rattle.ast.proofs.Turns.{and-assoc}
 use Rattle.definitions.specs.Numbers.{mostBytes, headerLength, nodeLength, stmtLength, variableLength, errorLength}
-use Rattle.definitions.specs.Answer.{Area}
 use Rattle.definitions.specs.Area.{nodesIn, stmtsIn, varsIn, depsIn, listedIn, headerIn}
 use Rattle.definitions.specs.Layout.{plain, countsFit, nodesAt, stmtsAt, varsAt, depsAt, errorsAt, endAt, recordsAt, zeros, sectionsFit, recordsFit, headedFits, keepsLayout}
 use Rattle.keeping.specs.Placed.{Counted}

@@ -1,5 +1,5 @@
 -- The sections of an area by place.
-use Prim.Native.Nat.{ℕ, _+_, _*_, _≤_}
+use Prim.Native.Nat.{ℕ, _≤_}
 use mathlib.Core.List.{List}
 use lib.ListN.{length}
 use Rattle.ast.specs.RecordsIn.{RecordsLie}

@@ -1,5 +1,4 @@
-// Whether an area that may be longer than any buffer keeps its layout: its front is judged whole, and the rest has to be
-// zeros.
+// Whether what is left of an area is zeros: its front is judged whole, and an area may be longer than any buffer.
 use keeping::zeros::all_zeros;
 
 // What the next piece of a file is. A read that fails is no zeros: a file that cannot be read counts as empty.

@@ -54,7 +54,9 @@ fn with_path(area: &[u8], path: &[u8])
     let mut columns = table();
     let mut out = io::large_buffer();
     let n = lines_of(area, path, &mut starts, &mut lines, &mut columns, &mut out);
-    io::write_all(STDOUT_FILENO, &out[..n]);
+    if !io::write_all(STDOUT_FILENO, &out[..n]) {
+        os::fail(b"lines: standard output");
+    }
 }
 
 // The text's name is the second argument; those behind it are not looked at.

@@ -1,5 +1,5 @@
-// Reads a text once, piece by piece, into the tables of the starts' lines and columns. A contract cannot say which bytes
-// are read: these say that the tables are those of one text, none of it left out or taken twice.
+// Reads a text once, piece by piece, into the tables of the starts' lines and columns. A contract cannot say which
+// bytes are read: these say that the tables are those of a text.
 ghost use mathlib.Core.List.{[]};
 ghost use mathlib.Core.Path.{_≡_};
 ghost use lib.ListN.{length};

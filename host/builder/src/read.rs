@@ -53,7 +53,8 @@ impl Counts {
 }
 
 impl Answer {
-    /// The answer in an area that was accepted; what stands behind the answer is zero.
+    /// The answer in an area that keeps its layout; what stands behind the answer is zero. The zeros that a refused build
+    /// leaves are an area with nothing in it, so the number comes first.
     pub fn read(area: &[u8]) -> Result<Answer, Broken> {
         require(
             area.len() >= 4 * HEADER_WORDS,

@@ -109,6 +109,24 @@ fn nothing_before_the_whole_area_is_judged() {
     assert_eq!(lines(&[&written("last.area", &bytes(&words)), &text]), "");
 }
 
+/// What cannot be written is not lost in silence.
+#[test]
+fn standard_output_that_is_full() {
+    let (text, area) = p2();
+    let files = [
+        written("full.area", &area),
+        written("full.text", text.as_bytes()),
+    ];
+    let full = fs::File::options().write(true).open("/dev/full").unwrap();
+    let output = Command::new(program("lines"))
+        .args(files)
+        .stdout(full)
+        .output()
+        .unwrap();
+    let said = String::from_utf8(output.stderr).unwrap();
+    assert!(said.starts_with("lines: standard output: "), "{said}");
+}
+
 /// Both files come through pipes, a few bytes at a time.
 #[test]
 fn pipes_are_read_to_their_end() {

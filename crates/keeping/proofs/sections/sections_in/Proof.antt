@@ -1,5 +1,4 @@
 use mathlib.Core.Path.{refl}
-use native.Mathlib.Omega.{arith}
 use Rattle.definitions.specs.Layout.{nodesAt, stmtsAt, varsAt, depsAt, errorsAt, endAt}
 use Rattle.keeping.specs.Placed.{sectionsOf}
 use borrow.Author.Needs.{needs}

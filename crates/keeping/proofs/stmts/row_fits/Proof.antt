@@ -1,6 +1,5 @@
 use mathlib.Core.Path.{refl}
 use native.Mathlib.Omega.{arith}
-use Rattle.ast.specs.RecordsIn.{StmtsLie}
 use Rattle.definitions.specs.Layout.{rowFits}
 use borrow.Author.Needs.{needs}
 use Rattle.keeping.proofs.stmts.row_fits.Statement.{statement}

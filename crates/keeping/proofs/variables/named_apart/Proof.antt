@@ -1,6 +1,5 @@
 use mathlib.Core.Path.{_≡_, refl, sym, _∙_}
 use native.Mathlib.Omega.{arith}
-use borrow.Author.Tests.{not-true, not-false}
 use Prim.Native.Nat.{_≤_, _-_}
 use lib.ListN.{drop}
 use Rattle.functions.specs.Lists.{all}

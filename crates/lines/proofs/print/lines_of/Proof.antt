@@ -1,7 +1,6 @@
 use native.Mathlib.Omega.{arith}
 use Rattle.definitions.specs.Layout.{mostKind}
 use Rattle.keeping.proofs.Begun.{kept-header, kept-errors}
-use Rattle.report.specs.Tabled.{Tabled}
 use Rattle.report.proofs.Tables.{front-counts, printed}
 use borrow.Author.Needs.{needs}
 use Rattle.lines.proofs.print.lines_of.Statement.{statement}
