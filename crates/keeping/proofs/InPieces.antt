@@ -1,5 +1,5 @@
 -- An area in pieces: zeros behind an area that keeps its layout change nothing; and where its front is as long as any answer, it keeps its layout exactly where the
--- front does and the rest is zeros, in however many pieces.
+-- front does and the rest is zeros.
 use mathlib.Core.Path.{_≡_, refl, sym, ap, ap₂, _∙_}
 use mathlib.Core.Bool.{Bool, true, false, _&&_}
 use mathlib.Core.List.{List, [], _∷_, _++_}
@@ -86,7 +86,7 @@ zeros-pieces (q ∷ qs) = zeros-append q (each (λ r. r) qs) ∙ ap (λ (t : Boo
 
 -- ---- the whole
 
-pub end-within : (h : List ℕ) → Counted h → endAt plain h ≤ mostBytes
+end-within : (h : List ℕ) → Counted h → endAt plain h ≤ mostBytes
 unfolding endAt errorsAt depsAt varsAt stmtsAt nodesAt
 end-within h w = omega (arith, w .nodes, w .stmts, w .vars, w .deps)
 
@@ -129,7 +129,3 @@ module _ (kinds : ℕ) (p q : List ℕ) where
       let l : endAt plain (headerIn p) ≤ length p = kept-parts kinds p k .1 in
       let e : headerIn (p ++ q) ≡ headerIn p = header-front p q (header-within p l) in
       ap (λ (h : List ℕ). headedFits plain kinds h (p ++ q)) e ∙ headed-front (headerIn p) l ∙ ap (λ (t : Bool). t && zeros q) k
-
--- The rest in pieces.
-pub front-and-pieces : (kinds : ℕ) (p : List ℕ) (qs : List (List ℕ)) → mostBytes ≤ length p → keepsLayout plain kinds (p ++ each (λ q. q) qs) ≡ (keepsLayout plain kinds p && all zeros qs)
-front-and-pieces kinds p qs h = front-and-rest kinds p (each (λ q. q) qs) h ∙ ap (λ (t : Bool). keepsLayout plain kinds p && t) (zeros-pieces qs)

@@ -99,7 +99,3 @@ texts s = record { text = s .text; placed = s .placed }
 -- The end of no text and its tables.
 pub stands-first : {starts lines columns : List ℕ} (e : End) → e ≡ endOf [] → Bounded e → Placed [] starts lines columns → Standing e starts lines columns
 stands-first e g h p = record { text = []; is-end = g; bounded = h; placed = p }
-
--- The tables of no text are those of a text.
-pub of-none : {starts lines columns : List ℕ} → Placed [] starts lines columns → OfText starts lines columns
-of-none p = record { text = []; placed = p }

@@ -4,8 +4,9 @@ use mathlib.Core.Bool.{Bool, true}
 use mathlib.Core.List.{List, [], _∷_, _++_, map}
 use Prim.Native.Nat.{ℕ, _+_, _-_}
 use native.Mathlib.Omega.{arith}
+use lib.Dec.{T}
 use lib.ListN.{length, take, replicate}
-use Rattle.functions.specs.Lists.{each, flag, times}
+use Rattle.functions.specs.Lists.{all, each, flag, times}
 use Rattle.ast.specs.Words.{section}
 use Rattle.ast.proofs.Fields.{length-section}
 use Rattle.definitions.specs.Numbers.{errorLength, mostListed}
@@ -20,8 +21,13 @@ use Rattle.positions.specs.declared.Place.{Place}
 use Rattle.positions.proofs.Counting.{times-append}
 use Rattle.report.specs.Decimals.{decimal}
 use Rattle.report.specs.Lines.{space, field, lineFor, errorLine, listedErrors, lines}
+use Rattle.report.specs.Examples.{linesTable, lines-examples}
 use Rattle.report.proofs.Digits.{decimal-digits}
 use Rattle.report.proofs.Tables.{lines-are}
+
+-- What is printed of areas and texts of a table: each byte of a text, its end and what is above it, missing spans, areas that break their layout.
+pub the-lines-examples : T (all (λ b. b) linesTable)
+the-lines-examples = lines-examples
 
 -- ---- the listed errors of an answer
 
