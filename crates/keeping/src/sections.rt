@@ -7,7 +7,7 @@ ghost use Rattle.ast.specs.Words.{wordOf};
 ghost use Rattle.definitions.specs.Numbers.{headerLength};
 ghost use Rattle.definitions.specs.Area.{headerIn, listedIn};
 ghost use Rattle.definitions.specs.Layout.{plain, countsFit};
-ghost use Rattle.keeping.specs.Placed.{sectionsOf, Counted};
+ghost use Rattle.keeping.specs.Placed.{placed, sectionsOf, Counted};
 use area::layout::DEP_WORDS;
 use area::layout::ERROR_BYTES;
 use area::layout::ERROR_WORDS;
@@ -79,6 +79,17 @@ fn listed(area: &[u8]) -> usize
     MOST_LISTED
 }
 
+// So many records of a width in words, from a byte on.
+fn by_place(at: usize, width: usize, count: usize) -> Records
+    ensures { λ r. ⌜ r ≡ placed at width count ⌝ }
+{
+    Records {
+        at: at,
+        width: width,
+        count: count,
+    }
+}
+
 pub fn sections_in(area: &[u8]) -> Sections
     requires { ⌜ (4 * headerLength ≤ length (now area))
         × Counted (headerIn (now area)) ⌝ }
@@ -98,26 +109,10 @@ pub fn sections_in(area: &[u8]) -> Sections
             at: HEADER_BYTES,
             count: nodes,
         },
-        stmts: Records {
-            at: stmts_at,
-            width: STMT_WORDS,
-            count: stmts,
-        },
-        vars: Records {
-            at: vars_at,
-            width: VAR_WORDS,
-            count: vars,
-        },
-        deps: Records {
-            at: deps_at,
-            width: DEP_WORDS,
-            count: deps,
-        },
-        errors: Records {
-            at: errors_at,
-            width: ERROR_WORDS,
-            count: errors,
-        },
+        stmts: by_place(stmts_at, STMT_WORDS, stmts),
+        vars: by_place(vars_at, VAR_WORDS, vars),
+        deps: by_place(deps_at, DEP_WORDS, deps),
+        errors: by_place(errors_at, ERROR_WORDS, errors),
         end: errors_at + ERROR_BYTES * errors,
     }
 }

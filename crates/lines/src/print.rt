@@ -1,11 +1,13 @@
 // What is printed of an area whose front has been read.
 ghost use mathlib.Core.Bool.{true};
 ghost use mathlib.Core.Path.{_≡_};
+ghost use Prim.Native.Nat.{_*_, _≤_};
 ghost use lib.ListN.{length, take};
 ghost use Rattle.io.specs.Counts.{Counts};
 ghost use Rattle.definitions.specs.Numbers.{mostListed};
 ghost use Rattle.definitions.specs.Layout.{plain, mostKind, keepsLayout};
 ghost use Rattle.positions.specs.Pieces.{AsLong};
+ghost use Rattle.report.specs.Lines.{mostLine};
 ghost use Rattle.report.specs.Tabled.{Printed};
 use super::judge::rest_is_zeros;
 use super::text::places;
@@ -36,7 +38,7 @@ fn lines_of(
     requires { ⌜ (keepsLayout plain mostKind (now area) ≡ true)
         × (length (now starts) ≡ mostListed)
         × AsLong (now starts) (now lines) (now columns)
-        × (length (now out) ≡ 65536) ⌝ }
+        × (mostListed * mostLine ≤ length (now out)) ⌝ }
     ensures { λ r. ⌜ Counts r (now (out .exit))
         × Printed (now (area .entry)) (take r (now (out .exit))) ⌝ }
 {

@@ -1,7 +1,7 @@
 // Reads a text once, piece by piece, into the tables of the starts' lines and columns. A contract cannot say which
 // bytes are read: these say that the tables are those of a text.
 ghost use mathlib.Core.List.{[]};
-ghost use mathlib.Core.Path.{_≡_};
+ghost use Prim.Native.Nat.{_^_, _≤_};
 ghost use lib.ListN.{length};
 ghost use Rattle.positions.specs.Pieces.{AsLong, Placed, OfText};
 use positions::ends::beginning;
@@ -13,7 +13,7 @@ const WORD: u64 = 4294967296;
 
 // Takes in a file to its end, by way of a buffer, and tells whether every read was done.
 fn follow(fd: i32, piece: &mut [u8], starts: &[u64], lines: &mut [u64], columns: &mut [u64]) -> bool
-    requires { ⌜ (length (now piece) ≡ 65536)
+    requires { ⌜ (length (now piece) ≤ 2 ^ 16)
         × Placed [] (now starts) (now lines) (now columns) ⌝ }
     ensures { λ _. ⌜ OfText (now (starts .entry)) (now (lines .exit)) (now (columns .exit)) ⌝ }
 {

@@ -44,6 +44,18 @@ mul-errors-at c = search needs
 add-errors-at : tie.Need-add-errors-at
 add-errors-at c = search needs
 
+by-place-requires : tie.Need-by-place-requires
+by-place-requires c κs = search needs
+
+by-place-requires-2 : tie.Need-by-place-requires-2
+by-place-requires-2 c κs = search needs
+
+by-place-requires-3 : tie.Need-by-place-requires-3
+by-place-requires-3 c κs = search needs
+
+by-place-requires-4 : tie.Need-by-place-requires-4
+by-place-requires-4 c κs = search needs
+
 mul-t11 : tie.Need-mul-t11
 mul-t11 c = search needs
 
@@ -52,7 +64,20 @@ add-t17 c = search needs
 
 returns : tie.Need-returns
 unfolding sectionsOf endAt errorsAt depsAt varsAt stmtsAt nodesAt
-returns c = rw (c .before .before .before .before .header-word .ensures .0, c .before .before .before .header-word2 .ensures .0, c .before .before .header-word3 .ensures .0, c .before .header-word4 .ensures .0, c .listed .ensures) refl
+returns c =
+    let p = c .before .before .before .before in
+    rw (
+      c .before .before .before .by-place .ensures,
+      c .before .before .by-place2 .ensures,
+      c .before .by-place3 .ensures,
+      c .by-place4 .ensures,
+      p .before .before .before .before .header-word .ensures .0,
+      p .before .before .before .header-word2 .ensures .0,
+      p .before .before .header-word3 .ensures .0,
+      p .before .header-word4 .ensures .0,
+      p .listed .ensures,
+    )
+    refl
 
 pub sections-in-spec : {M : Type 1} → statement M
 sections-in-spec =
@@ -71,6 +96,10 @@ sections-in-spec =
     add-deps-at
     mul-errors-at
     add-errors-at
+    by-place-requires
+    by-place-requires-2
+    by-place-requires-3
+    by-place-requires-4
     mul-t11
     add-t17
     returns)
