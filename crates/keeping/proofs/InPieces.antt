@@ -1,19 +1,18 @@
 -- An area in pieces: zeros behind an area that keeps its layout change nothing; and where its front is as long as any answer, it keeps its layout exactly where the
 -- front does and the rest is zeros.
-use mathlib.Core.Path.{_≡_, refl, sym, ap, ap₂, _∙_}
+use mathlib.Core.Path.{_≡_, refl, sym, ap, _∙_}
 use mathlib.Core.Bool.{Bool, true, false, _&&_}
 use mathlib.Core.List.{List, [], _∷_, _++_}
-use Prim.Native.Nat.{ℕ, zero, suc, _+_, _*_, _≤_}
+use Prim.Native.Nat.{ℕ, _+_, _*_, _≤_}
 use native.Mathlib.Omega.{arith}
-use native.Mathlib.Nat.{suc-mul}
 use borrow.Author.Tests.{le-leb}
 use lib.Dec.{eqb}
-use lib.ListN.{length, take, drop, length-append, length-drop, take-append-drop}
-use lib.Seq.{take-append-le, drop-append-le, take-at}
+use lib.ListN.{length, take, drop, getD, length-append}
+use lib.Seq.{take-append-le, drop-append-le}
 use Rattle.functions.specs.Lists.{all, each}
 use Rattle.ast.specs.Words.{words, records, section}
-use Rattle.ast.proofs.Fields.{length-deps}
 use Rattle.ast.proofs.Turns.{and-assoc}
+use Rattle.area.proofs.SectionsKept.{section-kept}
 use Rattle.definitions.specs.Numbers.{mostBytes, headerLength, nodeLength, stmtLength, variableLength, errorLength}
 use Rattle.definitions.specs.Area.{nodesIn, stmtsIn, varsIn, depsIn, listedIn, headerIn}
 use Rattle.definitions.specs.Layout.{plain, countsFit, nodesAt, stmtsAt, varsAt, depsAt, errorsAt, endAt, recordsAt, zeros, sectionsFit, recordsFit, headedFits, keepsLayout}
@@ -22,39 +21,15 @@ use Rattle.keeping.proofs.Begun.{counted, header-within, kept-parts}
 
 -- ---- a section of the front
 
-records-front : (w n : ℕ) (xs ys : List ℕ) → n * w ≤ length xs → records w n (xs ++ ys) ≡ records w n xs
-unfolding records
-records-front w zero xs ys h = refl
-records-front w (suc n) xs ys h =
-    let l : w + n * w ≤ length xs = omega (arith, h, suc-mul n w) in
-    ap₂ (λ (r : List ℕ) (rs : List (List ℕ)). r ∷ rs) (take-append-le w xs ys (omega arith))
-    (ap (records w n) (drop-append-le w xs ys (omega arith)) ∙ records-front w n (drop w xs) ys (rw length-drop (omega arith)))
-
-words-front : (m : ℕ) (xs ys : List ℕ) → 4 * m ≤ length xs → (rest : List ℕ) × (words (xs ++ ys) ≡ take m (words xs) ++ rest)
-unfolding words
-words-front zero xs ys h = (words (xs ++ ys), refl)
-words-front (suc m) [] ys h = absurd (omega arith)
-words-front (suc m) (a ∷ []) ys h = absurd (omega arith)
-words-front (suc m) (a ∷ b ∷ []) ys h = absurd (omega arith)
-words-front (suc m) (a ∷ b ∷ c ∷ []) ys h = absurd (omega arith)
-words-front (suc m) (a ∷ b ∷ c ∷ d ∷ xs) ys h =
-    let (rest, e) = words-front m xs ys (omega arith) in
-    (rest, ap (λ (ws : List ℕ). (a + 256 * b + 65536 * c + 16777216 * d) ∷ ws) e)
-
 module _ (p q : List ℕ) where
-  deps-front : (n at : ℕ) → at + 4 * n ≤ length p → take n (words (drop at (p ++ q))) ≡ take n (words (drop at p))
-  deps-front n at h =
-      let (rest, e) = words-front n (drop at p) q (rw length-drop (omega arith)) in
-      ap (λ (x : List ℕ). take n (words x)) (drop-append-le at p q (omega arith)) ∙ ap (take n) e ∙ take-at (take n (words (drop at p))) rest n (length-deps p at n h)
-
   section-front : (w n at : ℕ) → at + 4 * (n * w) ≤ length p → section w n at (p ++ q) ≡ section w n at p
-  unfolding section
   section-front w n at h =
-      let ws = words (drop at p) in
-      let (rest, e) = words-front (n * w) (drop at p) q (rw length-drop (omega arith)) in
-      let l : n * w ≤ length (take (n * w) ws) = omega (arith, length-deps p at (n * w) h) in
-      ap (λ (x : List ℕ). records w n (words x)) (drop-append-le at p q (omega arith)) ∙ ap (records w n) e ∙ records-front w n (take (n * w) ws) rest l
-      ∙ sym (records-front w n (take (n * w) ws) (drop (n * w) ws) l) ∙ ap (records w n) (take-append-drop (n * w) ws)
+      section-kept w n at (length p) (p ++ q) p h (rw length-append (omega arith)) (omega arith) (take-append-le (length p) p q (omega arith))
+
+  -- n words are one record of that width
+  deps-front : (n at : ℕ) → at + 4 * n ≤ length p → take n (words (drop at (p ++ q))) ≡ take n (words (drop at p))
+  unfolding section records
+  deps-front n at h = ap (λ (rs : List (List ℕ)). getD rs 0 []) (section-front n 1 at (omega arith))
 
   pub header-front : 4 * headerLength ≤ length p → headerIn (p ++ q) ≡ headerIn p
   unfolding headerIn

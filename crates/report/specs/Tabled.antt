@@ -25,10 +25,11 @@ pub record Tabled (es : Records) (area ls cs : List ℕ) : Type 0 where
   pub lines : es .count ≤ length ls
   pub columns : es .count ≤ length cs
 
--- The table `starts` has become one of the starts of the errors rs.
+-- The table `starts` has become one of the starts of the errors rs, and is as it was behind them.
 pub record Noted (rs : List (List ℕ)) (starts starts′ : List ℕ) : Type 0 where
   pub long : length starts′ ≡ length starts
   pub each : (i : ℕ) → i < length rs → getD starts′ i 0 ≡ startOfError (getD rs i [])
+  pub rest : (i : ℕ) → length rs ≤ i → getD starts′ i 0 ≡ getD starts i 0
 
 -- The bytes b are the lines of the area and a text.
 pub record Printed (area b : List ℕ) : Type 0 where

@@ -1,8 +1,9 @@
-use mathlib.Core.Path.{_≡_, refl}
+use mathlib.Core.Path.{_≡_, refl, _∙_}
 use mathlib.Core.List.{[]}
 use Prim.Native.Nat.{ℕ, _-_, _≤_, _<_}
 use native.Mathlib.Omega.{arith}
 use lib.ListN.{length, getD, length-set}
+use lib.Seq.{getD-set-other}
 use Rattle.ast.specs.RecordsIn.{recordsIn}
 use Rattle.ast.proofs.Fields.{length-section}
 use Rattle.report.specs.Lines.{startOfError}
@@ -13,12 +14,13 @@ use Rattle.report.proofs.starts.note_starts.Tie as tie
 abbrev Inv-loop : tie.InvT-loop
 Inv-loop area es starts₀ i₀ starts i =
     (i ≤ es .count) × (length starts ≡ length starts₀) × ((j : ℕ) → j < i → getD starts j 0 ≡ startOfError (getD (recordsIn es area) j []))
+    × ((j : ℕ) → i ≤ j → getD starts j 0 ≡ getD starts₀ j 0)
 
 abbrev μ-loop : tie.MeasureT-loop
 μ-loop area es starts₀ i₀ starts i = es .count - i
 
 loop-holds : tie.Need-loop-holds Inv-loop μ-loop
-loop-holds c = (omega arith, refl, λ j l. absurd (omega arith))
+loop-holds c = (omega arith, refl, λ j l. absurd (omega arith), λ j l. refl)
 
 word-of-requires : tie.Need-word-of-requires Inv-loop μ-loop
 word-of-requires c κs =
@@ -43,7 +45,7 @@ loop-again c =
     let a = loop .before .before .before .args in
     let inv = loop .loop .inv in
     let noted = noted-more (recordsIn (a .es) (a .area .now)) (loop .loop .i) (loop .loop .starts) _ (omega arith) (c .word-of .ensures .0) (inv .2) in
-    (omega arith, simp length-set (inv .1), noted)
+    (omega arith, simp length-set (inv .1), noted, λ j l. getD-set-other (loop .loop .starts) (loop .loop .i) j _ 0 (λ e. omega arith) ∙ inv .3 j (omega arith))
 
 same-length : tie.Need-same-length Inv-loop μ-loop
 same-length c = c .before .before .loop .inv .1
@@ -53,7 +55,7 @@ returns c =
     let loop = c .before .before in
     let a = loop .before .before .before .args in
     let n = length-section (a .es .width) (a .es .count) (a .es .at) (a .area .now) in
-    record { long = loop .loop .inv .1; each = λ j l. loop .loop .inv .2 j (omega (arith, n)) }
+    record { long = loop .loop .inv .1; each = λ j l. loop .loop .inv .2 j (omega (arith, n)); rest = λ j l. loop .loop .inv .3 j (omega (arith, n)) }
 
 pub note-starts-spec : {M : Type 1} → statement M
 note-starts-spec =
