@@ -13,7 +13,7 @@ use super::layout::{
 use ast::words::put_word;
 
 // What a test finds: nothing, or an error's kind, its span, and a name plus 1 or 0.
-#[derive(Drop)]
+#[derive(Clone, Copy)]
 pub enum Found {
     Nothing,
     Error(u32, u32, u32, u32),

@@ -7,7 +7,7 @@ ghost use Rattle.area.specs.Sections.{Small, nodes_end, stmts_at, vars_at, deps_
 use super::layout::{HEADER_BYTES, STMT_BYTES, VAR_BYTES};
 use ast::layout::{DEP_BYTES, NODE_BYTES};
 
-#[derive(Drop)]
+#[derive(Clone, Copy)]
 pub struct Sizes {
     pub nodes: usize,
     pub stmts: usize,

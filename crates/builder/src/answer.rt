@@ -27,14 +27,14 @@ use ast::layout::{MOST_NAMES, MOST_STMTS};
 use ast::sections::Sections;
 
 // What the build of a model answers: a refusal's number, or the bytes used.
-#[derive(Drop)]
+#[derive(Clone, Copy)]
 pub enum Answered {
     Refused(u32),
     Used(usize),
 }
 
 // How big an answer is: its instances, flattened statements and nodes.
-#[derive(Drop)]
+#[derive(Clone, Copy)]
 pub struct Extent {
     pub instances: usize,
     pub stmts: usize,

@@ -1,5 +1,7 @@
 // The continuous builder: from a tree file and a root name to an answer area. A build goes through build, answer,
 // names, models, extent, flattening, variables, allocation, errors; `root` and `numbers` are what they share.
+#![tactic(auto)]
+
 pub mod allocation;
 pub mod answer;
 pub mod build;

@@ -3,7 +3,7 @@ use area::sections::Sizes;
 use ast::numbers::Bounds;
 
 // Its number, its instances, the sizes of the answer's sections, and time's bounds.
-#[derive(Drop)]
+#[derive(Clone, Copy)]
 pub struct Root {
     pub model: usize,
     pub instances: usize,

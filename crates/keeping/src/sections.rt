@@ -16,7 +16,7 @@ use ast::layout::{DEP_BYTES, MOST_DEPS, MOST_NODES, MOST_STMTS, NODE_BYTES};
 use ast::sections::{Nodes, Records, record_word};
 
 // Each section by place, and the byte behind the last.
-#[derive(Drop)]
+#[derive(Clone, Copy)]
 pub struct Sections {
     pub nodes: Nodes,
     pub stmts: Records,

@@ -1,11 +1,13 @@
 // Line and column of places in a text that comes piece by piece: any number of places in one pass. A text is at most
 // 2^40 bytes.
+#![tactic(auto)]
+
 pub mod ends;
 pub mod shown;
 pub mod tables;
 
 // The end of the text so far: its length, and the line and the column there.
-#[derive(Drop)]
+#[derive(Clone, Copy)]
 pub struct End {
     pub size: u64,
     pub line: u64,
@@ -13,7 +15,7 @@ pub struct End {
 }
 
 // A line and a column, or 0 and 0.
-#[derive(Drop)]
+#[derive(Clone, Copy)]
 pub struct Place {
     pub line: u64,
     pub column: u64,

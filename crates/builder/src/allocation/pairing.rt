@@ -49,7 +49,7 @@ pub fn left_count(roles: &[u32], n: usize) -> usize
 }
 
 // States, in order.
-#[derive(Drop)]
+#[derive(Clone, Copy)]
 pub struct Queue {
     pub count: usize,
     pub states: [u32; MOST_VARS],

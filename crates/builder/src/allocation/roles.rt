@@ -27,7 +27,7 @@ use ast::sections::record_word;
 
 // A left side that is a call by a variable's name: nothing of the kind, too short to reach the time index, or with a
 // number there: the variable, and the node of the argument.
-#[derive(Drop)]
+#[derive(Clone, Copy)]
 pub enum Start {
     Nothing,
     Short,

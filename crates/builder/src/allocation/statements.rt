@@ -13,7 +13,7 @@ use crate::allocation::roles::roles;
 use area::sections::Sizes;
 
 // How many statements are left, and how many states lack an equation.
-#[derive(Drop)]
+#[derive(Clone, Copy)]
 pub struct Left {
     pub stmts: usize,
     pub states: usize,

@@ -29,7 +29,7 @@ use ast::records::{model, node, stmt, unknown};
 use ast::sections::{Nodes, Sections, node_word};
 
 // Statement `stmt` of a model, submodels gone through to a depth of so many models.
-#[derive(Drop)]
+#[derive(Clone, Copy)]
 struct Place {
     model: usize,
     stmt: usize,

@@ -26,7 +26,7 @@ use ast::layout::{
 use ast::sections::{Nodes, Sections, node_field, node_word};
 
 // What is checked, and against what: nodes by place, the sections of the file, and the model whose variables count.
-#[derive(Drop)]
+#[derive(Clone, Copy)]
 pub struct Checked {
     pub nodes: Nodes,
     pub sections: Sections,
@@ -34,7 +34,7 @@ pub struct Checked {
 }
 
 // Arguments before node `end`: how many, and how many nodes they have in all.
-#[derive(Drop)]
+#[derive(Clone, Copy)]
 pub struct Run {
     pub end: usize,
     pub args: usize,

@@ -21,7 +21,7 @@ use ast::sections::{Nodes, Sections};
 use ast::subst::measure_expr;
 
 // How big flattened statements are: how many there are, and how many nodes their trees have.
-#[derive(Drop)]
+#[derive(Clone, Copy)]
 pub struct FlatExtent {
     pub stmts: usize,
     pub nodes: usize,

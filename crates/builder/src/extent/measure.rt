@@ -13,7 +13,7 @@ use ast::layout::{MOST_NAMES, MOST_NODES, MOST_STMTS};
 use ast::sections::Sections;
 
 // A refusal's number, or the numbers of instances, flattened statements and flattened nodes.
-#[derive(Drop)]
+#[derive(Clone, Copy)]
 pub enum Measured {
     Refused(u32),
     Sized(usize, usize, usize),

@@ -25,7 +25,7 @@ use ast::subst::clone_and_subst;
 use ast::words::put_record;
 
 // How many nodes are written, and the byte behind the records written.
-#[derive(Drop)]
+#[derive(Clone, Copy)]
 pub struct Written {
     pub nodes: usize,
     pub end: usize,

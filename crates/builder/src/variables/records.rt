@@ -37,7 +37,7 @@ fn flag_of(b: bool) -> u32
 
 // What a variable's record says in front of its bounds: its name plus 1, its dependents from `first` up to `end`, its
 // time index plus 1 or 0, and whether it is time-dependent.
-#[derive(Drop)]
+#[derive(Clone, Copy)]
 struct Lead {
     name: u32,
     first: u32,
