@@ -1,0 +1,13 @@
+-- ---- the places: the entry, and where the last word is read
+use native.Mathlib.Omega.{arith}
+use Rattle.ast.proofs.Copies.{copied_put}
+use Rattle.ast.proofs.subst.copy_node.Goals as goal
+
+pub returns : goal.returns
+returns c = let a = c.args in
+    let low = c.node_field-low.ensures in (
+      copied_put _ a.out.now _ _ _ _ _ _ _ _ _
+          c.node_field-kind.ensures c.node_field-name.ensures
+          c.node_field-op.ensures low c.node_field-high.ensures c.put_record.ensures,
+      omega (arith, low),
+    )
