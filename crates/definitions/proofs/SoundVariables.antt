@@ -87,7 +87,7 @@ module _ (n : ℕ) (ns : List (List ℕ)) where
   unfolding last_bounds
   last_doubles v b [] h g = h
   last_doubles v b (u ∷ us) h g =
-      last_doubles v _ us (cond_either Doubles (eqb (suc u.name) v) (domain_bounds ns u.name u.domain) b (domain_doubles u.name u.domain g.0.domain) h) g.1
+      last_doubles v (cond (eqb (suc u.name) v) (domain_bounds ns u.name u.domain) b) us (cond_either Doubles (eqb (suc u.name) v) (domain_bounds ns u.name u.domain) b (domain_doubles u.name u.domain g.0.domain) h) g.1
 
   pub time_doubles : (us : List Unknown) → Each (SoundUnknown n) us → Doubles (time_bounds ns us)
   unfolding time_bounds
@@ -118,7 +118,7 @@ module _ (n : ℕ) (ns : List (List ℕ)) where
   unfolding declare
   declare_named vs [] h g = h
   declare_named vs (u ∷ us) h g =
-      declare_named _ us (all_cond Named (is_reserved ns u.name || member (suc u.name) vs) vs (vs ++ suc u.name ∷ []) h (every_append Named vs (suc u.name ∷ []) h (ltb-true u.name n g.0.name, tt))) g.1
+      declare_named (cond (is_reserved ns u.name || member (suc u.name) vs) vs (vs ++ suc u.name ∷ [])) us (all_cond Named (is_reserved ns u.name || member (suc u.name) vs) vs (vs ++ suc u.name ∷ []) h (every_append Named vs (suc u.name ∷ []) h (ltb-true u.name n g.0.name, tt))) g.1
 
   time_named : length ns ≡ n → Named (time_name ns)
   unfolding time_name place

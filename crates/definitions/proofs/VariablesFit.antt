@@ -55,7 +55,7 @@ apart_next false false ns m e x h = apart_last ns m x h e
 declare_apart : (names : List (List ℕ)) (vs : List ℕ) (us : List Unknown) → Apart vs → Apart (declare names vs us)
 unfolding declare
 declare_apart names vs [] x = x
-declare_apart names vs (u ∷ us) x = declare_apart names _ us (apart_next (is_reserved names u.name) _ vs (suc u.name) refl x (omega arith))
+declare_apart names vs (u ∷ us) x = declare_apart names (cond (is_reserved names u.name || member (suc u.name) vs) vs (vs ++ suc u.name ∷ [])) us (apart_next (is_reserved names u.name) _ vs (suc u.name) refl x (omega arith))
 
 -- a variable bears the name it is made of
 variable_names_lem : (names : List (List ℕ)) (vs : List ℕ) (us : List Unknown) (ws : List ℕ) → map (λ (v : Variable). v.name) (map (variable names vs us) ws) ≡ ws

@@ -1,0 +1,9 @@
+use native.Mathlib.Omega.{arith}
+use borrow.Author.Rules.{rules}
+use Rattle.keeping.proofs.sections.listed.Goals as goal
+
+pub returns-then-errors-lt-MOST_LISTED : goal.returns-then-errors-lt-MOST_LISTED
+returns-then-errors-lt-MOST_LISTED c = omega arith
+
+pub returns : goal.returns
+returns c = omega arith

@@ -1,0 +1,16 @@
+use mathlib.Core.Path.{◌≡◌, refl, sym, ◌∙◌}
+use native.Mathlib.Omega.{arith}
+use Prim.Native.Nat.{◌≤◌, ◌-◌}
+use lib.ListN.{drop}
+use Rattle.functions.specs.Lists.{all}
+use Rattle.ast.proofs.Turns.{all_turn, all_done}
+use Rattle.ast.specs.RecordsIn.{records_in}
+use Rattle.definitions.specs.Layout.{named_apart}
+use Rattle.keeping.proofs.Turns.{apart_no, apart_yes}
+use Rattle.keeping.proofs.variables.named_apart.Given as goal
+
+abbrev pub invariant-loop-i : goal.invariant-loop-i
+invariant-loop-i l = (l.i ≤ l.rs.count) × (all (named_apart l.name) (drop l.from (records_in l.rs l.area)) ≡ all (named_apart l.name) (drop l.i (records_in l.rs l.area)))
+
+abbrev pub decreases-loop-i : goal.decreases-loop-i
+decreases-loop-i l = l.rs.count - l.i

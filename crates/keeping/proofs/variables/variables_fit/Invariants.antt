@@ -1,0 +1,17 @@
+use mathlib.Core.Path.{◌≡◌, refl, sym, ◌∙◌}
+use native.Mathlib.Omega.{arith}
+use borrow.Author.Tests.{not-true, not-false}
+use Prim.Native.Nat.{◌≤◌, ◌-◌}
+use lib.ListN.{drop}
+use mathlib.Core.List.{[]}
+use lib.ListN.{get_or}
+use Rattle.ast.specs.RecordsIn.{records_in}
+use Rattle.definitions.specs.Layout.{variables_fit}
+use Rattle.keeping.proofs.Turns.{variables_turn, variables_done, variable_next}
+use Rattle.keeping.proofs.variables.variables_fit.Given as goal
+
+abbrev pub invariant-loop-i : goal.invariant-loop-i
+invariant-loop-i l = (l.i ≤ l.rs.count) × (l.first ≤ l.deps) × (variables_fit l.stmts l.deps 0 (records_in l.rs l.area) ≡ variables_fit l.stmts l.deps l.first (drop l.i (records_in l.rs l.area)))
+
+abbrev pub decreases-loop-i : goal.decreases-loop-i
+decreases-loop-i l = l.rs.count - l.i

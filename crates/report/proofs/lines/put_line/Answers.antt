@@ -1,0 +1,14 @@
+use native.Mathlib.Omega.{arith}
+use Rattle.report.proofs.Written.{line_end, put_line}
+use borrow.Author.Rules.{rules}
+use Rattle.report.proofs.lines.put_line.Goals as goal
+
+pub returns : goal.returns
+returns c = let a = c.args in
+    let e₁ = c.put_field-second.ensures in
+    let e₂ = c.put_field-third.ensures in
+    let e₃ = c.put_field.ensures in (
+      line_end a.place a.kind a.at _ _ e₁.0 e₂.0 _ e₃.0,
+      omega arith,
+      put_line a.place a.kind a.at _ _ e₁.0 e₂.0 a.out.now _ _ _ (omega arith) e₁.2 e₂.2 e₃.2,
+    )
