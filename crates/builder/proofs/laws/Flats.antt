@@ -79,7 +79,7 @@ module _ (b : List ℕ) (z : Sizes) where
   -- statement i of all
   pub flat_at_lem : (i : ℕ) → get_or (flats_in b z) i (flat_at (area_nodes b z) []) ≡ flat_in b z i
   unfolding flats_in flat_in
-  flat_at_lem i = ListN.get_d_map (flat_at (area_nodes b z)) (area_stmts b z) i []
+  flat_at_lem i = ListN.get_or-map (flat_at (area_nodes b z)) (area_stmts b z) i []
 
   -- the same by its own value, as a run's laws have it
   pub flat_here : (i : ℕ) → i < z.stmts → get_or (flats_in b z) i (flat_in b z i) ≡ flat_in b z i
@@ -107,12 +107,12 @@ module _ (b : List ℕ) (z : Sizes) where
   pub rate_at : (v : ℕ) → eqb (get_or (rates_in b z) v 0) 1 ≡ eqb (get_or (states_in b z) v 0) 1 && eqb (get_or (column 7 (area_vars b z)) v 0) 1
   unfolding rates_in column word_of flag
   rate_at v =
-      ap (λ (n : ℕ). eqb n 1) (ListN.get_d_map (λ r. flag (eqb (word_of r 1) 1 && eqb (word_of r 7) 1)) (area_vars b z) v [])
+      ap (λ (n : ℕ). eqb n 1) (ListN.get_or-map (λ r. flag (eqb (word_of r 1) 1 && eqb (word_of r 7) 1)) (area_vars b z) v [])
       ∙ flag_one (eqb (word_of (get_or (area_vars b z) v []) 1) 1 && eqb (word_of (get_or (area_vars b z) v []) 7) 1)
       ∙ sym (rw (word 1, word 7) refl)
     where
       word : (k : ℕ) → get_or (column k (area_vars b z)) v 0 ≡ word_of (get_or (area_vars b z) v []) k
-      word k = ListN.get_d_map (λ r. word_of r k) (area_vars b z) v []
+      word k = ListN.get_or-map (λ r. word_of r k) (area_vars b z) v []
 
   module _ (i : ℕ) where
     -- one of kind 1 is an equation

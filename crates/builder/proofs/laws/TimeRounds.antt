@@ -1,6 +1,6 @@
 -- Reaching t in the records of an area's variables: round by round, the marks of a round taken over record by record.
 use mathlib.Core.Path.{◌≡◌, refl, sym, ap, ◌∙◌}
-use mathlib.Core.Bool.{Bool, true, false, not, ◌||◌, or_false as or_nothing}
+use mathlib.Core.Bool.{Bool, true, false, not, ◌||◌, or-false as or_nothing}
 use mathlib.Core.List.{List, [], ◌∷◌}
 use Prim.Native.Nat.{ℕ, zero, suc, ◌+◌, ◌-◌, ◌*◌, ◌≤◌, ◌<◌}
 use native.Mathlib.Nat.{zero-add}

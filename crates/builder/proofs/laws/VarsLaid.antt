@@ -156,7 +156,7 @@ module _ (f : List ℕ) (s : Sections) (o : Open f s) (m : ℕ) where
     word_at k v l =
         let a : 0 + v ≡ v = omega arith in
         let c : 0 + length (each ds (take v vs)) ≡ length (each ds (take v vs)) = omega arith in
-        ListN.get_d_map (λ r. word_of r k) (area_vars b₂ z) v []
+        ListN.get_or-map (λ r. word_of r k) (area_vars b₂ z) v []
         ∙ ap (λ (rs : List (List ℕ)). word_of (get_or rs v []) k) written_vars
         ∙ ap (λ (r : List ℕ). word_of r k) (record_at is_time vs 0 0 v l ∙ ap₂ (λ (i n : ℕ). unheld_words is_time i n (at vs v)) a c)
 

@@ -173,7 +173,7 @@ module _ (vs : List Variable) (z : Sizes) (b : List ℕ) (vars : z.vars ≡ leng
         ∙ ap (λ (x : List ℕ). take 12 (words x)) behind
         ∙ sym (record_placed 12 z.vars (vars_at z) v so_far (omega (arith, vars)))
         ∙ ap (λ (rs : List (List ℕ)). get_or rs v []) kept in
-        ListN.get_d_map (λ r. get_or r 0 0) (area_vars b' z) v [] ∙ ap (λ (r : List ℕ). get_or r 0 0) r ∙ sym (ListN.get_d_map (λ r. get_or r 0 0) (area_vars b z) v [])
+        ListN.get_or-map (λ r. get_or r 0 0) (area_vars b' z) v [] ∙ ap (λ (r : List ℕ). get_or r 0 0) r ∙ sym (ListN.get_or-map (λ r. get_or r 0 0) (area_vars b z) v [])
 
     -- one more
     pub written_more : v < length vs → (b'' : List ℕ)

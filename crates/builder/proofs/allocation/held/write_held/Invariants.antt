@@ -1,0 +1,14 @@
+use mathlib.Core.Path.{◌≡◌}
+use Prim.Native.Nat.{◌+◌, ◌-◌, ◌≤◌}
+use native.Mathlib.Omega.{arith}
+use Rattle.builder.specs.VarRecords.{HeldBehind, HeldChanged}
+use Rattle.builder.proofs.laws.FateRecords.{AllBytes}
+use Rattle.builder.proofs.laws.HeldSteps.{held_none, held_same, held_then}
+use Rattle.builder.proofs.laws.HeldRecords.{held_put}
+use Rattle.builder.proofs.allocation.held.write_held.Given as goal
+
+abbrev pub invariant-loop-i : goal.invariant-loop-i
+invariant-loop-i l = (l.i ≤ l.z.stmts) × AllBytes l.area × HeldBehind l.z l.i l.area × HeldChanged l.z l.initial.area l.area
+
+abbrev pub decreases-loop-i : goal.decreases-loop-i
+decreases-loop-i l = l.i

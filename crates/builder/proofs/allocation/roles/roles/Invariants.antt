@@ -1,0 +1,13 @@
+use mathlib.Core.Path.{refl}
+use Prim.Native.Nat.{◌-◌, ◌≤◌, ◌<◌}
+use native.Mathlib.Omega.{arith}
+use Rattle.builder.specs.Allocating.{flat_in, indexes_in, rates_in, role_by}
+use Rattle.builder.proofs.laws.Filled.{Filled, filled_none, filled_more}
+use Rattle.builder.proofs.laws.Flats.{map_filled}
+use Rattle.builder.proofs.allocation.roles.roles.Given as goal
+
+abbrev pub invariant-loop-i : goal.invariant-loop-i
+invariant-loop-i l = (l.i ≤ l.z.stmts) × Filled 256 (λ k. role_by l.numbers (indexes_in l.area l.z) (rates_in l.area l.z) l.lower (flat_in l.area l.z k)) l.i l.out
+
+abbrev pub decreases-loop-i : goal.decreases-loop-i
+decreases-loop-i l = l.z.stmts - l.i

@@ -1,0 +1,7 @@
+use mathlib.Core.Path.{sym}
+use Rattle.builder.proofs.laws.Flats.{rate_at}
+use borrow.Author.Rules.{rules}
+use Rattle.builder.proofs.allocation.roles.takes_rate.Goals as goal
+
+pub returns : goal.returns
+returns c = rw (c.var_of.ensures, c.var_of-2.ensures) (sym (rate_at _ _ _))

@@ -1,0 +1,26 @@
+-- ---- the places: the entry, and where the model is built, roles are stated, statements and states are counted
+use native.Mathlib.Omega.{arith}
+use Rattle.builder.proofs.laws.ErrorParts.{roles_room, count_room, starting_room, all_listed}
+use borrow.Author.Rules.{rules}
+use Rattle.builder.proofs.errors.all.all_errors.Goals as goal
+
+pub models_errors-built-requires : goal.models_errors-built-requires
+models_errors-built-requires c = let p = c.requires in
+    (p.0.called, p.0.model, record { long = omega (arith, p.1); few = omega (arith, p.0.few) })
+
+pub roles_errors-stated-requires : goal.roles_errors-stated-requires
+roles_errors-stated-requires c = let p = c.requires in
+    (p.0.flattened, p.0.numbered, roles_room p.0 _ _ _ p.1 c.models_errors-built.ensures _)
+
+pub list-counted-requires : goal.list-counted-requires
+list-counted-requires c = let p = c.requires in
+    count_room p.0 _ _ _ p.1 c.models_errors-built.ensures _ _ _ c.roles_errors-stated.ensures
+
+pub starting_errors-requires : goal.starting_errors-requires
+starting_errors-requires c = let p = c.requires in
+    let room = starting_room p.0 _ _ _ p.1 c.models_errors-built.ensures _ _ _ c.roles_errors-stated.ensures _ _ _ _ _ c.count_error.ensures c.list-counted.ensures in
+    record { opened = p.0.called.opened; model = p.0.model; righted = p.0.righted; long = room.0; few = room.1 }
+
+pub returns : goal.returns
+returns c = let p = c.requires in
+    all_listed p.0 _ _ _ p.1 c.models_errors-built.ensures _ _ _ c.roles_errors-stated.ensures _ _ _ _ _ c.count_error.ensures c.list-counted.ensures _ _ c.starting_errors.ensures

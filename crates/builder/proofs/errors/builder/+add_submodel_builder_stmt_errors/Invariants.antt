@@ -1,0 +1,36 @@
+-- `builder::builder::builder` and the two functions that it calls in turn meet their contracts: statement by statement, a submodel's by the model that it calls. The measure is three times the depth, and one or two more for a statement.
+use mathlib.Core.Path.{refl, sym, ap, ◌∙◌}
+use mathlib.Core.List.{[]}
+use Prim.Native.Nat.{ℕ, ◌+◌, ◌-◌, ◌*◌, ◌≤◌, ◌<◌}
+use native.Mathlib.Omega.{arith}
+use lib.ListN.{length, take}
+use Rattle.functions.specs.Lists.{each}
+use Rattle.ast.specs.Opens.{file_in}
+use Rattle.definitions.specs.Flatten.{model_at, stmt_errors, errors_of}
+use Rattle.area.specs.Listing.{Lists}
+use Rattle.builder.specs.Checking.{scope_in, stmt_in}
+use Rattle.area.proofs.Listings.{lists_none, lists_then, room_first, room_then, length_listed}
+use Rattle.builder.proofs.laws.Runs.{stmts_below}
+use Rattle.builder.proofs.laws.Calling.{entry_below}
+use Rattle.builder.proofs.laws.Calls.{call_args}
+use Rattle.builder.proofs.laws.ModelErrors.{run_begins, run_room, run_goes, run_ends, stmt_here, stmt_there, stmts_past, errors_none, errors_more, against, not_three, own_same, call_in, any_scope, submodel_missing_lem, submodel_found}
+use Rattle.builder.proofs.errors.builder.add_submodel.Reads as add-submodel
+use Rattle.builder.proofs.errors.builder.builder.Reads as builder
+use Rattle.builder.proofs.errors.builder.stmt_errors.Reads as stmt_errors_lem
+use Rattle.builder.proofs.errors.builder.+add_submodel_builder_stmt_errors.Given as goal
+
+abbrev pub decreases-add_submodel : goal.decreases-add_submodel
+decreases-add_submodel l = 3 * l.k + 1
+
+abbrev pub decreases-builder : goal.decreases-builder
+decreases-builder l = 3 * l.k
+
+abbrev pub decreases-stmt_errors : goal.decreases-stmt_errors
+decreases-stmt_errors l = 3 * l.place.depth + 2
+
+abbrev pub invariant-builder-loop-i : goal.invariant-builder-loop-i
+invariant-builder-loop-i l = (l.i ≤ l.stmts)
+    × Lists l.initial.out l.initial.listed (each (stmt_errors (file_in l.f l.s) (λ j. errors_of (file_in l.f l.s) (l.k - 1) j) (scope_in l.f l.s l.m)) (take l.i (model_at (file_in l.f l.s) l.m).stmts)) l.listed l.out
+
+abbrev pub decreases-builder-loop-i : goal.decreases-builder-loop-i
+decreases-builder-loop-i l = l.stmts - l.i

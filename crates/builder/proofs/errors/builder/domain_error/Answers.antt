@@ -1,0 +1,31 @@
+-- `builder::builder::domain_error` meets its contract: by the domain that is read.
+use mathlib.Core.Path.{sym, ◌∙◌}
+use native.Mathlib.Omega.{arith}
+use Rattle.area.specs.Listing.{found_as}
+use Rattle.builder.proofs.laws.ModelErrors.{domain_none, domain_range, domain_small, domain_named}
+use borrow.Author.Rules.{rules}
+use Rattle.builder.proofs.errors.builder.domain_error.Goals as goal
+
+pub bounds-classes-name : goal.bounds-classes-name
+bounds-classes-name c = let p = c.requires in
+    let read-domain = c.read_domain in
+    domain_small p read-domain.result read-domain.ensures _ c.in-Named.is
+
+pub unknown_error-requires : goal.unknown_error-requires
+unknown_error-requires c = let p = c.requires in
+    let read-domain = c.read_domain in
+    (p.opened, p.within, omega (arith, domain_small p read-domain.result read-domain.ensures _ c.in-Named.is))
+
+pub returns-in-None : goal.returns-in-None
+unfolding found_as
+returns-in-None c = let read-domain = c.read_domain in
+    sym (domain_none c.requires read-domain.result read-domain.ensures c.in-None.is)
+
+pub returns-in-Span : goal.returns-in-Span
+unfolding found_as
+returns-in-Span c = let read-domain = c.read_domain in
+    sym (domain_range c.requires read-domain.result read-domain.ensures _ _ c.in-Span.is)
+
+pub returns-in-Named : goal.returns-in-Named
+returns-in-Named c = let read-domain = c.read_domain in
+    c.unknown_error.ensures ∙ sym (domain_named c.requires read-domain.result read-domain.ensures _ c.in-Named.is)

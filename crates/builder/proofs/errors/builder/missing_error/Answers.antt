@@ -1,0 +1,24 @@
+-- `builder::builder::missing_error` meets its contract: the span is the statement's, the name the call's.
+use mathlib.Core.Path.{refl, sym}
+use native.Mathlib.Omega.{arith}
+use Rattle.ast.specs.Words.{span_from}
+use Rattle.area.specs.Listing.{found_as}
+use Rattle.builder.proofs.laws.ModelErrors.{call_in, call_named}
+use borrow.Author.Rules.{rules}
+use Rattle.builder.proofs.errors.builder.missing_error.Goals as goal
+
+pub node-name-requires : goal.node-name-requires
+node-name-requires c = let p = c.requires in
+    let stmt3 = c.stmt in
+    let q = call_in p.0 c.args.q p.1 3 (sym p.2) refl stmt3.result stmt3.ensures.0 in
+    (p.0, (q.within, omega arith))
+
+pub overflow_cast-word : goal.overflow_cast-word
+overflow_cast-word c = let p = c.requires in
+    let a = c.args in
+    let stmt3 = c.stmt in
+    omega (arith, c.node-name.ensures.0, call_named p.0 a.q p.1 3 (sym p.2) refl stmt3.result stmt3.ensures.0)
+
+pub returns : goal.returns
+unfolding found_as span_from
+returns c = rw (c.stmt-from.ensures.0, c.stmt-to.ensures.0, c.node-name.ensures.0, c.stmt.ensures.0) refl

@@ -1,0 +1,42 @@
+-- `builder::builder::unknown_errors` meets its contract: the domain's error, then the name's.
+use native.Mathlib.Omega.{arith}
+use Rattle.area.proofs.Listings.{lists_then, room_then}
+use Rattle.builder.proofs.laws.ModelErrors.{unknown_small, unknown_more}
+use borrow.Author.Rules.{rules}
+use Rattle.builder.proofs.errors.builder.unknown_errors.Goals as goal
+
+pub domain_error-requires : goal.domain_error-requires
+domain_error-requires c = c.requires.0
+
+pub list-listed-requires : goal.list-listed-requires
+list-listed-requires c = let p = c.requires in
+    (p.1.long, omega (arith, p.1.few))
+
+pub bounds-classes-name : goal.bounds-classes-name
+bounds-classes-name c = let unknown = c.unknown-name in
+    omega (arith, unknown_small c.requires.0 unknown.result unknown.ensures.0)
+
+pub unknown_error-requires : goal.unknown_error-requires
+unknown_error-requires c = let p = c.requires in
+    let unknown = c.unknown-name in
+    (p.0.opened, p.0.within, omega (arith, unknown_small p.0 unknown.result unknown.ensures.0))
+
+pub list-requires : goal.list-requires
+list-requires c = let p = c.requires in
+    let unknown = c.unknown-name in
+    let is-reserved = c.is_reserved in
+    let is-time = c.is_time in
+    let e = unknown_more p.0 unknown.result unknown.ensures.0 is-reserved.result is-time.result is-reserved.ensures is-time.ensures in
+    let l = rw c.domain_error.ensures at c.list-listed.ensures in
+    let r = room_then e _ _ p.1 l in
+    (r.long, omega (arith, r.few))
+
+pub returns : goal.returns
+returns c = let list = c.list-listed in
+    let unknown = c.unknown-name in
+    let is-reserved = c.is_reserved in
+    let is-time = c.is_time in
+    let e = unknown_more c.requires.0 unknown.result unknown.ensures.0 is-reserved.result is-time.result is-reserved.ensures is-time.ensures in
+    let l = rw c.domain_error.ensures at list.ensures in
+    let n = rw c.unknown_error.ensures at c.list.ensures in
+    lists_then e _ _ _ _ _ _ l n

@@ -1,0 +1,39 @@
+-- `builder::check::has_keyword` meets its contract: the last argument bears one, or one before it does. The measure is the count of the arguments.
+use mathlib.Core.Path.{sym, ap, ◌∙◌}
+use Prim.Native.Nat.{ℕ, ◌<◌}
+use native.Mathlib.Omega.{arith}
+use Rattle.definitions.specs.Check.{has_keyword}
+use Rattle.builder.proofs.laws.Checks.{args_end, arg_last, arg_within, args_rest, args_fewer, has_keyword_here, has_keyword_before}
+use Rattle.builder.proofs.errors.check.has_keyword.Reads as has-keyword
+use Rattle.builder.proofs.errors.check.+has_keyword.Goals as goal
+
+pub returns-then-run-eq0 : goal.returns-then-run-eq0
+unfolding has_keyword
+returns-then-run-eq0 t c = ap has_keyword (sym (args_end c.requires.1 c.if-run-eq0.true))
+
+pub overflow_sub-run : goal.overflow_sub-run
+overflow_sub-run t c = let l = arg_last c.requires.1 c.if-run-eq0.false in
+    omega (arith, l.two)
+
+pub node_word-requires : goal.node_word-requires
+node_word-requires t c = (c.requires.1.formed.lie, arg_within c.requires.1 c.if-run-eq0.false, omega arith)
+
+pub returns-then-node_word-ne0 : goal.returns-then-node_word-ne0
+returns-then-node_word-ne0 t c = let node_word = c.node_word in
+    sym (has_keyword_here c.requires.1 c.if-run-eq0.false node_word.result node_word.ensures.0 c.if-node_word-ne0.true)
+
+pub before_last-requires : goal.before_last-requires
+before_last-requires t c = (c.requires, omega (arith, c.if-run-eq0.false))
+
+pub has_keyword-requires : goal.has_keyword-requires
+has_keyword-requires t c = let if1 = c.if-run-eq0 in
+    let before_last = c.before_last in
+    let z = before_last.result in
+    let e = before_last.ensures in
+    (omega (arith, c.decreases, args_fewer c.requires.1 if1.false z e), (c.requires.0, args_rest c.requires.1 if1.false z e))
+
+pub returns : goal.returns
+returns t c = let if1 = c.if-run-eq0 in
+    let node_word = c.node_word in
+    let before_last = c.before_last in
+    c.has_keyword.ensures ∙ sym (has_keyword_before c.requires.1 if1.false before_last.result before_last.ensures node_word.result node_word.ensures.0 c.if-node_word-ne0.false)

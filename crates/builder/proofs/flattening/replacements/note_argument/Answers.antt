@@ -1,0 +1,27 @@
+use mathlib.Core.Path.{◌∙◌}
+use native.Mathlib.Omega.{arith}
+use Prim.Native.Nat.{◌-◌, ◌<◌}
+use lib.ListN.{length}
+use Rattle.builder.proofs.laws.OpenStmts.{names_few}
+use Rattle.builder.proofs.laws.Replacing.{argument_keyword, argument_child, noted, noted_none, noted_in, noted_length}
+use borrow.Author.Rules.{rules}
+use Rattle.builder.proofs.flattening.replacements.note_argument.Goals as goal
+
+pub target-name-requires : goal.target-name-requires
+target-name-requires c = let p = c.requires in
+    let k = argument_keyword _ _ p.0 c.args.end p.2.some p.2.within p.2.kind in
+    (p.0, (p.1, omega (arith, k, c.node.ensures.0)))
+
+pub returns-then-name-ne0 : goal.returns-then-name-ne0
+returns-then-name-ne0 c = let args = c.args in
+    let p = c.requires in
+    let target = c.target-name in
+    let a = argument_child _ _ p.0 args.end p.2.some p.2.within p.2.kind in
+    let e = c.set_free.ensures in
+    let b : target.result - 1 < length args.row.now = omega (arith, names_few _ _ p.0, target.ensures.1) in
+    let d : target.result - 1 < args.s.counts.names = omega (arith, target.ensures.1) in
+    (record { long = noted_length args.row.now _ (target.result - 1) (args.end - 1) e ∙ p.3.long; fit = noted_in args.f.now args.s args.row.now _ (target.result - 1) (args.end - 1) p.3.fit d b (omega (arith, a.0)) (omega (arith, a.0, p.2.within)) a.1 e }, rw (← c.node.ensures.0, ← target.ensures.0) (noted _ args.row.now _ target.result (args.end - 1) (omega arith) b (omega (arith, a.0)) e))
+
+pub returns-else-name-ne0 : goal.returns-else-name-ne0
+returns-else-name-ne0 c = let p = c.requires in
+    (p.3, rw (← c.node.ensures.0, ← c.target-name.ensures.0) (noted_none _ _ _ _ (omega arith)))

@@ -1,0 +1,8 @@
+use native.Mathlib.Omega.{arith}
+use Rattle.ast.proofs.Fronts.{lent_put}
+use borrow.Author.Rules.{rules}
+use Rattle.builder.proofs.flattening.statements.record_at.Goals as goal
+
+pub returns : goal.returns
+returns c = let a = c.args in
+    lent_put a.out.now _ _ a.at (omega (arith, c.requires)) c.put_record.ensures

@@ -1,0 +1,24 @@
+use mathlib.Core.Path.{refl}
+use native.Mathlib.Omega.{arith}
+use lib.ListN.{length-take, length-drop}
+use Rattle.builder.proofs.laws.Descents.{readable}
+use Rattle.builder.proofs.laws.Putting.{bearing_size, tree_put}
+use borrow.Author.Rules.{rules}
+use Rattle.builder.proofs.flattening.statements.write_tree.Goals as goal
+
+pub clone_and_subst-requires : goal.clone_and_subst-requires
+clone_and_subst-requires c = let a = c.args in
+    let p = c.requires in
+    let z = bearing_size a.f.now a.s p.0 a.rows.now a.level a.i c.node-from.result c.node-to.result in
+    (readable a.f.now a.s p.0 a.rows.now a.level p.2 _ _ refl (p.1.within, p.1.expr), record { few = omega (arith, z, p.3.few); held = simp (length-take, length-drop) (omega (arith, z, p.3.fit)) })
+
+pub overflow_add-result : goal.overflow_add-result
+overflow_add-result c = let a = c.args in
+    let p = c.requires in
+    let z = bearing_size a.f.now a.s p.0 a.rows.now a.level a.i c.node-from.result c.node-to.result in
+    omega (arith, z, p.3.few, c.clone_and_subst.ensures.0)
+
+pub returns : goal.returns
+returns c = let a = c.args in
+    let p = c.requires in
+    tree_put a.f.now a.s p.0 a.rows.now a.level a.i _ _ a.out.now _ a.done _ (omega (arith, p.3.fit)) p.1.within p.1.expr c.node-from.ensures.0 c.node-to.ensures.0 c.clone_and_subst.ensures

@@ -1,0 +1,16 @@
+use mathlib.Core.Path.{◌≡◌, sym, ◌∙◌}
+use Prim.Native.Nat.{◌-◌, ◌≤◌, ℕ}
+use native.Mathlib.Omega.{arith}
+use mathlib.Core.Bool.{true}
+use Rattle.ast.specs.Nodes.{op_at, size_at, args_fit, args_before}
+use Rattle.ast.specs.Opens.{contents_in}
+use Rattle.definitions.specs.Flatten as flatten
+use Rattle.builder.proofs.laws.OpenRecords.{call_args, arg_here}
+use Rattle.builder.proofs.laws.Refusals.{beyond_yes, beyond_no, beyond_done}
+use Rattle.builder.proofs.models.reached.beyond.Given as goal
+
+abbrev pub invariant-loop-left : goal.invariant-loop-left
+invariant-loop-left l = (total : ℕ) × (l.end ≤ l.s.counts.nodes) × (args_fit (contents_in l.f l.s).nodes l.end l.left total ≡ true) × (flatten.args_beyond l.n (args_before (contents_in l.f l.s).nodes l.call (op_at (contents_in l.f l.s).nodes l.call) (size_at (contents_in l.f l.s).nodes l.call - 1)) ≡ flatten.args_beyond l.n (args_before (contents_in l.f l.s).nodes l.end l.left total))
+
+abbrev pub decreases-loop-left : goal.decreases-loop-left
+decreases-loop-left l = l.left

@@ -1,0 +1,16 @@
+use mathlib.Core.Path.{refl, ap, ◌∙◌}
+use Prim.Native.Nat.{◌-◌, ◌≤◌}
+use native.Mathlib.Omega.{arith}
+use borrow.Author.Rules.{rules}
+use Rattle.ast.specs.Opens.{file_in}
+use Rattle.definitions.specs.Names.{text_of}
+use Rattle.builder.proofs.laws.Filled.{Filled, filled_none, filled_more}
+use Rattle.builder.proofs.laws.Open.{names_long}
+use Rattle.builder.specs.Tables.{class_of}
+use Rattle.builder.proofs.names.classes.Given as goal
+
+abbrev pub invariant-loop-n : goal.invariant-loop-n
+invariant-loop-n l = (l.n ≤ l.s.counts.names) × Filled 256 (λ k. class_of (text_of (file_in l.f l.s).names k)) l.n l.out
+
+abbrev pub decreases-loop-n : goal.decreases-loop-n
+decreases-loop-n l = l.s.counts.names - l.n

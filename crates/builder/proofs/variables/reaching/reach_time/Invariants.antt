@@ -1,0 +1,15 @@
+use mathlib.Core.Path.{◌≡◌, subst, ◌∙◌}
+use Prim.Native.Nat.{ℕ, ◌-◌, ◌≤◌}
+use native.Mathlib.Omega.{arith}
+use borrow.Author.Rules.{rules}
+use borrow.Author.Tests.{not-true}
+use Rattle.area.specs.Sections.{area_vars, VarsAre}
+use Rattle.builder.specs.Reaching.{DepsIn, timed_by, timed_from}
+use Rattle.builder.proofs.laws.TimeRounds.{deps_stay, reached_none, reached_more, reached_end}
+use Rattle.builder.proofs.variables.reaching.reach_time.Given as goal
+
+abbrev pub invariant-loop-k : goal.invariant-loop-k
+invariant-loop-k l = (l.k ≤ l.z.vars) × VarsAre l.z l.initial.area (timed_from (timed_by l.initial.area l.z l.k) 0 (area_vars l.initial.area l.z)) l.area
+
+abbrev pub decreases-loop-k : goal.decreases-loop-k
+decreases-loop-k l = l.z.vars - l.k

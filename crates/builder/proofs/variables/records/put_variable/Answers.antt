@@ -1,0 +1,16 @@
+use mathlib.Core.Path.{refl}
+use native.Mathlib.Omega.{arith}
+use Rattle.builder.specs.VarRecords.{lead_words}
+use Rattle.builder.proofs.laws.VarLaws.{lead_and_bounds}
+use borrow.Author.Rules.{rules}
+use Rattle.builder.proofs.variables.records.put_variable.Goals as goal
+
+pub put_var_bounds-requires : goal.put_var_bounds-requires
+put_var_bounds-requires c = let p = c.requires in
+    (p.0, omega (arith, c.put_lead.auto.area))
+
+pub returns : goal.returns
+unfolding lead_words
+returns c = let a = c.args in
+    let put-lead = c.put_lead in
+    lead_and_bounds a.area.now _ _ _ a.at _ refl (omega arith) put-lead.ensures c.put_var_bounds.ensures

@@ -1,0 +1,16 @@
+use mathlib.Core.Path.{◌≡◌, sym, ap, ◌∙◌}
+use Prim.Native.Nat.{◌-◌, ◌≤◌}
+use native.Mathlib.Omega.{arith}
+use mathlib.Core.Option.{none}
+use lib.ListN.{take}
+use Rattle.functions.specs.Lists.{plus_one}
+use Rattle.definitions.specs.Variables.{last_time}
+use Rattle.builder.specs.VariableTables.{words_from}
+use Rattle.builder.proofs.laws.Timing.{time_all, time_found, time_passed, time_none}
+use Rattle.builder.proofs.variables.roster.time_index.Given as goal
+
+abbrev pub invariant-loop-i : goal.invariant-loop-i
+invariant-loop-i l = (l.first ≤ l.i) × (l.i ≤ l.end) × (last_time 0 none (words_from l.deps l.first l.end) ≡ last_time 0 none (take (l.i - l.first) (words_from l.deps l.first l.end)))
+
+abbrev pub decreases-loop-i : goal.decreases-loop-i
+decreases-loop-i l = l.i
