@@ -41,13 +41,13 @@ def snake(name):
         return OVERRIDE[name]
     if not (name[0].islower() or name[0] == "_"):
         return name
-    return re.sub(r"(?<=[a-z0-9'])[A-Z]", lambda m: "_" + m[0].lower(), name).replace("-", "_")
+    return re.sub(r"(?<=[a-z0-9'])[A-Z]|(?<=[A-Z])[A-Z](?=[a-z])", lambda m: "_" + m[0].lower(), name).replace("-", "_").lower()
 
 
 def table():
     specs, laws = set(), set()
     for path in antt("specs") + antt("proofs"):
-        if os.path.basename(path) in ("Proof.antt", "Answers.antt", "Invariants.antt"):
+        if os.path.basename(path) == "Proof.antt":
             continue
         text = bare(open(path, encoding="utf-8").read())
         for m in list(DECLARED.finditer(text)) + list(HEADED.finditer(text)):

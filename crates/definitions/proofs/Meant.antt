@@ -12,7 +12,7 @@ use Rattle.functions.proofs.Lists.{clash}
 use Rattle.ast.specs.Tree.{File}
 use Rattle.definitions.specs.Names.{spells}
 use Rattle.definitions.specs.Variables.{Error, time_dependent}
-use Rattle.definitions.specs.Flatten.{model_at, scope_of, submodels, errors_of, instances, cyclic}
+use Rattle.definitions.specs.Flatten.{model_at, scope_of, submodels, errors_of, cyclic}
 use Rattle.definitions.specs.Roles.{role_of, role_errors}
 use Rattle.definitions.specs.Allocate.{fates_of, paired_states, lacking, left_count, count_errors, starting_errors}
 use Rattle.definitions.specs.Answer.{Answer}

@@ -139,8 +139,8 @@ abbrev built_in_start : Row
 built_in_start = row (root (over sin (t ∷ []) ∷ []) (dot sin (num one) ∷ (app sin (num 0) == num one) ∷ []) ∷ []) 1000 (answers [] (2 ∷ 1 ∷ []) 5 1 364)
 
 -- P1 with t from NaN and x(NaN)=1: a NaN equals nothing, so errors 12 15 16
-abbrev not_aNumber : Row
-not_aNumber = row (root (unknown t [] (range nan infinity) ∷ xt ∷ []) (decay ∷ start (num nan) ∷ []) ∷ []) 1000 (answers (12 ∷ 15 ∷ 16 ∷ []) (2 ∷ 4 ∷ []) 6 1 444)
+abbrev not_a_number : Row
+not_a_number = row (root (unknown t [] (range nan infinity) ∷ xt ∷ []) (decay ∷ start (num nan) ∷ []) ∷ []) 1000 (answers (12 ∷ 15 ∷ 16 ∷ []) (2 ∷ 4 ∷ []) 6 1 444)
 
 -- x(t), y(t); x=1; dot(s)=1; x(0)=1: dot(s) is error 5 and stays among those left, paired with y; 17 on x, 16 on y
 abbrev paired_rate : Row
@@ -185,7 +185,7 @@ pub own_table : List Row
 own_table =
     own_bounds ∷ time_from_zero ∷ time_depends ∷ domains ∷ domain_first ∷ declared_twice ∷ last_times ∷ passed_over ∷ through_other
     ∷ keyword_counted ∷ not_rechecked ∷ declared_counted ∷ later_wins ∷ unknown_keyword ∷ at_once ∷ names_stay ∷ top_span ∷ three_deep ∷ own_errors_first ∷ missing ∷ first_meant
-    ∷ right_first ∷ built_in_call ∷ variable_call ∷ by_place ∷ built_in_start ∷ not_aNumber ∷ paired_rate ∷ paired_invalid ∷ first_condition
+    ∷ right_first ∷ built_in_call ∷ variable_call ∷ by_place ∷ built_in_start ∷ not_a_number ∷ paired_rate ∷ paired_invalid ∷ first_condition
     ∷ short_by_one ∷ long_cycle ∷ reached_listed ∷ not_reached ∷ beyond ∷ not_beyond ∷ []
 
 pub own_examples : T (all meets own_table)

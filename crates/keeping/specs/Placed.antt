@@ -2,7 +2,7 @@
 use Rattle.std.specs.Prelude.{ℕ, ◌≤◌, List, length}
 use Rattle.ast.specs.RecordsIn.{RecordsLie}
 use Rattle.ast.specs.declared.sections.Records.{Records}
-use Rattle.definitions.specs.Numbers.{most_nodes, most_stmts, most_variables, most_deps, stmt_length, variable_length, dep_length, error_length}
+use Rattle.definitions.specs.Numbers.{most_nodes, most_stmts, most_variables, most_deps, stmt_length, dep_length, error_length}
 use Rattle.definitions.specs.Area.{nodes_in, stmts_in, vars_in, deps_in, listed_in}
 use Rattle.definitions.specs.Layout.{Layout, plain, nodes_at, stmts_at, vars_at, deps_at, errors_at, end_at}
 use Rattle.area.specs.Fields.{lead_length}

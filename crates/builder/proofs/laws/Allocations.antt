@@ -55,7 +55,7 @@ unfolding less_one plus_one
 less_plus none = refl
 less_plus (some v) = refl
 
-module _ (c : Scope) (time : Bounds) (numbers indexes rateTable : List ℕ) (lower : Float) (a : Agree c time numbers indexes rateTable lower) where
+module _ (c : Scope) (time : Bounds) (numbers indexes rate_table : List ℕ) (lower : Float) (a : Agree c time numbers indexes rate_table lower) where
   -- ---- entries
 
   entry_number : (n : ℕ) → n < length c.names → entry_by numbers n ≡ lookup c n
@@ -66,7 +66,7 @@ module _ (c : Scope) (time : Bounds) (numbers indexes rateTable : List ℕ) (low
   unfolding entry_by
   entry_index v h = ap less_one (a.index v h) ∙ less_plus (time_index (at c.vars v))
 
-  entry_rate : (v : ℕ) → v < length c.vars → eqb (get_or rateTable v 0) 1 ≡ takes_rate c v
+  entry_rate : (v : ℕ) → v < length c.vars → eqb (get_or rate_table v 0) 1 ≡ takes_rate c v
   entry_rate v h = ap (λ (k : ℕ). eqb k 1) (a.rate v h) ∙ flag_one (takes_rate c v)
 
   -- ---- left sides
@@ -123,7 +123,7 @@ module _ (c : Scope) (time : Bounds) (numbers indexes rateTable : List ℕ) (low
   start_errors_lem none = refl
   start_errors_lem (some x) = rw (a.low, same_float_lem x.bits time.lower) refl
 
-  rate_number_lem : (n : ℕ) → n < length c.names → rate_number rateTable (entry_by numbers n) ≡ role_number (rate_role c (lookup c n))
+  rate_number_lem : (n : ℕ) → n < length c.names → rate_number rate_table (entry_by numbers n) ≡ role_number (rate_role c (lookup c n))
   unfolding rate_number role_number rate_role
   rate_number_lem n h = go (lookup c n) refl
     where
@@ -131,22 +131,22 @@ module _ (c : Scope) (time : Bounds) (numbers indexes rateTable : List ℕ) (low
       by v true = refl
       by v false = refl
 
-      go : (o : Option ℕ) → lookup c n ≡ o → rate_number rateTable (entry_by numbers n) ≡ role_number (rate_role c (lookup c n))
+      go : (o : Option ℕ) → lookup c n ≡ o → rate_number rate_table (entry_by numbers n) ≡ role_number (rate_role c (lookup c n))
       go none e = rw (entry_number n h, e) refl
       go (some v) e = rw (entry_number n h, e, entry_rate v (lookup_below c n v e)) (by v (takes_rate c v))
 
-  rate_errors_lem : (n : ℕ) (s : Span) → n < length c.names → rate_errors_by rateTable n s (entry_by numbers n) ≡ rate_errors c n s (lookup c n)
+  rate_errors_lem : (n : ℕ) (s : Span) → n < length c.names → rate_errors_by rate_table n s (entry_by numbers n) ≡ rate_errors c n s (lookup c n)
   unfolding rate_errors_by rate_errors
   rate_errors_lem n s h = go (lookup c n) refl
     where
-      go : (o : Option ℕ) → lookup c n ≡ o → rate_errors_by rateTable n s (entry_by numbers n) ≡ rate_errors c n s (lookup c n)
+      go : (o : Option ℕ) → lookup c n ≡ o → rate_errors_by rate_table n s (entry_by numbers n) ≡ rate_errors c n s (lookup c n)
       go none e = rw (entry_number n h, e) refl
       go (some v) e = rw (entry_number n h, e, entry_rate v (lookup_below c n v e)) refl
 
   -- ---- statements
 
   -- the role
-  pub role_same : (q : Flat) → FlatFormed (length c.names) q → role_by numbers indexes rateTable lower q ≡ role_number (role_of c time q)
+  pub role_same : (q : Flat) → FlatFormed (length c.names) q → role_by numbers indexes rate_table lower q ≡ role_number (role_of c time q)
   unfolding role_by role_of
   role_same (equation l r s) w = ap (start_number lower) (start_same l w.0) ∙ start_number_lem (start_of c l)
   role_same (rate n r s) w = rate_number_lem n w.0
@@ -158,7 +158,7 @@ module _ (c : Scope) (time : Bounds) (numbers indexes rateTable : List ℕ) (low
   flat_short (rate n r s) w = refl
 
   -- the errors
-  pub errors_same : (q : Flat) → FlatFormed (length c.names) q → role_errors_by numbers indexes rateTable lower q ≡ role_errors c time q
+  pub errors_same : (q : Flat) → FlatFormed (length c.names) q → role_errors_by numbers indexes rate_table lower q ≡ role_errors c time q
   unfolding role_errors_by role_errors
   errors_same (equation l r s) w = ap (start_errors_by lower) (start_same l w.0) ∙ start_errors_lem (start_of c l)
   errors_same (rate n r s) w = rate_errors_lem n s w.0
@@ -181,7 +181,7 @@ module _ (d : Flat) where
   each_alike f g [] h = refl
   each_alike f g (q ∷ l) h = rw (h 0 (omega arith), each_alike f g l (λ i k. h (suc i) (omega arith))) refl
 
-module _ (c : Scope) (time : Bounds) (numbers indexes rateTable : List ℕ) (lower : Float) (a : Agree c time numbers indexes rateTable lower) (b : List ℕ) (z : Sizes) (o : Flattened (length c.names) b z) where
+module _ (c : Scope) (time : Bounds) (numbers indexes rate_table : List ℕ) (lower : Float) (a : Agree c time numbers indexes rate_table lower) (b : List ℕ) (z : Sizes) (o : Flattened (length c.names) b z) where
   abbrev no_flat : Flat
   no_flat = flat_at (area_nodes b z) []
 
@@ -189,13 +189,13 @@ module _ (c : Scope) (time : Bounds) (numbers indexes rateTable : List ℕ) (low
   all_formed i h = rw (flat_at_lem b z i) (flat_formed (length c.names) b z o i (omega (arith, flats_count b z)))
 
   -- their roles
-  pub roles_same : map (role_by numbers indexes rateTable lower) (flats_in b z) ≡ map (λ q. role_number (role_of c time q)) (flats_in b z)
-  roles_same = map_alike no_flat _ _ (flats_in b z) (λ i h. role_same c time numbers indexes rateTable lower a (get_or (flats_in b z) i no_flat) (all_formed i h))
+  pub roles_same : map (role_by numbers indexes rate_table lower) (flats_in b z) ≡ map (λ q. role_number (role_of c time q)) (flats_in b z)
+  roles_same = map_alike no_flat _ _ (flats_in b z) (λ i h. role_same c time numbers indexes rate_table lower a (get_or (flats_in b z) i no_flat) (all_formed i h))
 
   -- whether any left side is too short
   pub shorts_same : any (short_by numbers indexes) (flats_in b z) ≡ any (too_short c) (flats_in b z)
-  shorts_same = any_alike no_flat _ _ (flats_in b z) (λ i h. flat_short c time numbers indexes rateTable lower a (get_or (flats_in b z) i no_flat) (all_formed i h))
+  shorts_same = any_alike no_flat _ _ (flats_in b z) (λ i h. flat_short c time numbers indexes rate_table lower a (get_or (flats_in b z) i no_flat) (all_formed i h))
 
   -- their errors
-  pub all_errors_same : each (role_errors_by numbers indexes rateTable lower) (flats_in b z) ≡ each (role_errors c time) (flats_in b z)
-  all_errors_same = each_alike no_flat _ _ (flats_in b z) (λ i h. errors_same c time numbers indexes rateTable lower a (get_or (flats_in b z) i no_flat) (all_formed i h))
+  pub all_errors_same : each (role_errors_by numbers indexes rate_table lower) (flats_in b z) ≡ each (role_errors c time) (flats_in b z)
+  all_errors_same = each_alike no_flat _ _ (flats_in b z) (λ i h. errors_same c time numbers indexes rate_table lower a (get_or (flats_in b z) i no_flat) (all_formed i h))

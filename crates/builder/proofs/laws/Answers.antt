@@ -26,80 +26,80 @@ use Rattle.builder.specs.declared.answer.Answered.TheVariants as is
 abbrev number : Bool → Bool → Bool → ℕ
 number cycle listed beyond = cond cycle 6 (cond listed 7 (cond beyond 8 0))
 
-abbrev measuredBy : Bool → Bool → Bool → Bool → Measure → Result Measure
-measuredBy cycle listed beyond big z = cond (eqb (number cycle listed beyond) 0) (cond big (refusal 9) (accepted z)) (refusal (number cycle listed beyond))
+abbrev measured_by : Bool → Bool → Bool → Bool → Measure → Result Measure
+measured_by cycle listed beyond big z = cond (eqb (number cycle listed beyond) 0) (cond big (refusal 9) (accepted z)) (refusal (number cycle listed beyond))
 
-abbrev answeredBy : Bool → Bool → Bool → Bool → Result Answer → Result Answer
-answeredBy cycle listed beyond big r = cond cycle (refusal 6) (cond listed (refusal 7) (cond beyond (refusal 8) (cond big (refusal 9) r)))
+abbrev answered_by : Bool → Bool → Bool → Bool → Result Answer → Result Answer
+answered_by cycle listed beyond big r = cond cycle (refusal 6) (cond listed (refusal 7) (cond beyond (refusal 8) (cond big (refusal 9) r)))
 
-refused-by : (cycle listed beyond big : Bool) (z : Measure) (k : ℕ) (r : Result Answer) → measuredBy cycle listed beyond big z ≡ refusal k → answeredBy cycle listed beyond big r ≡ refusal k
-refused-by true l b g z k r e = cc
-refused-by false true b g z k r e = cc
-refused-by false false true g z k r e = cc
-refused-by false false false true z k r e = cc
-refused-by false false false false z k r e = clash (cc)
+refused_by : (cycle listed beyond big : Bool) (z : Measure) (k : ℕ) (r : Result Answer) → measured_by cycle listed beyond big z ≡ refusal k → answered_by cycle listed beyond big r ≡ refusal k
+refused_by true l b g z k r e = cc
+refused_by false true b g z k r e = cc
+refused_by false false true g z k r e = cc
+refused_by false false false true z k r e = cc
+refused_by false false false false z k r e = clash (cc)
 
-sized-by : (cycle listed beyond big : Bool) (z y : Measure) (r : Result Answer) → measuredBy cycle listed beyond big z ≡ accepted y
-    → (y ≡ z) × (big ≡ false) × (answeredBy cycle listed beyond big r ≡ r)
-sized-by true l b g z y r e = clash (cc)
-sized-by false true b g z y r e = clash (cc)
-sized-by false false true g z y r e = clash (cc)
-sized-by false false false true z y r e = clash (cc)
-sized-by false false false false z y r e = (cc, refl, refl)
+sized_by : (cycle listed beyond big : Bool) (z y : Measure) (r : Result Answer) → measured_by cycle listed beyond big z ≡ accepted y
+    → (y ≡ z) × (big ≡ false) × (answered_by cycle listed beyond big r ≡ r)
+sized_by true l b g z y r e = clash (cc)
+sized_by false true b g z y r e = clash (cc)
+sized_by false false true g z y r e = clash (cc)
+sized_by false false false true z y r e = clash (cc)
+sized_by false false false false z y r e = (cc, refl, refl)
 
 module _ (f : File) (m : ℕ) where
   -- refused
-  pub measured-refused : (x : measured.Measured) (k : ℕ) → x ≡ Refused k → measured_as x ≡ measure_of f m → answer_of_model f m ≡ refusal k
+  pub measured_refused : (x : measured.Measured) (k : ℕ) → x ≡ Refused k → measured_as x ≡ measure_of f m → answer_of_model f m ≡ refusal k
   unfolding measure_of forbidden_of size_of measured_as answer_of_model allocated
-  measured-refused x k e h = refused-by (cyclic f m) (self_listed f m) (overfull f m) (too_big f m (flats_of f m)) _ k _ (sym h ∙ ap measured_as e)
+  measured_refused x k e h = refused_by (cyclic f m) (self_listed f m) (overfull f m) (too_big f m (flats_of f m)) _ k _ (sym h ∙ ap measured_as e)
 
   -- sized
-  pub measured-sized : (x : measured.Measured) (i q n : ℕ) → x ≡ Sized i q n → measured_as x ≡ measure_of f m
+  pub measured_sized : (x : measured.Measured) (i q n : ℕ) → x ≡ Sized i q n → measured_as x ≡ measure_of f m
       → (i ≡ instances f (length f.models) m) × (q ≡ length (flats_of f m)) × (n ≡ sum_of flat_size (flats_of f m)) × (too_big f m (flats_of f m) ≡ false)
       × (answer_of_model f m ≡ cond (any_short (scope_at f m) (flats_of f m)) (refusal 10) (accepted (answer_at f m)))
   unfolding measure_of forbidden_of size_of measured_as answer_of_model allocated
-  measured-sized x i q n e h =
-      let (z, big, r) = sized-by (cyclic f m) (self_listed f m) (overfull f m) (too_big f m (flats_of f m)) _ _ _ (sym h ∙ ap measured_as e) in
+  measured_sized x i q n e h =
+      let (z, big, r) = sized_by (cyclic f m) (self_listed f m) (overfull f m) (too_big f m (flats_of f m)) _ _ _ (sym h ∙ ap measured_as e) in
       (ap (λ (y : Measure). y.instances) z, ap (λ (y : Measure). y.stmts) z, ap (λ (y : Measure). y.nodes) z, big, r)
 
 -- ---- an answer: a refusal, or the bytes used of an area
 
-pub given-refused : (k : ℕ) (b : List ℕ) (r : Result Answer) → r ≡ refusal k → answered_as (is.Refused k) b ≡ bytes_in r
+pub given_refused : (k : ℕ) (b : List ℕ) (r : Result Answer) → r ≡ refusal k → answered_as (is.Refused k) b ≡ bytes_in r
 unfolding answered_as bytes_in
-given-refused k b r e = sym (ap bytes_in e)
+given_refused k b r e = sym (ap bytes_in e)
 
-pub used-refused : (k : ℕ) → used_in (is.Refused k) ≤ 55384
+pub used_refused : (k : ℕ) → used_in (is.Refused k) ≤ 55384
 unfolding used_in
-used-refused k = omega arith
+used_refused k = omega arith
 
 -- handed over
-pub hands-refused : (room : ℕ) (a : answered.Answered) (k : ℕ) (b : List ℕ) → a ≡ is.Refused k → fitted_in room (answered_as a b) ≡ refusal k
+pub hands_refused : (room : ℕ) (a : answered.Answered) (k : ℕ) (b : List ℕ) → a ≡ is.Refused k → fitted_in room (answered_as a b) ≡ refusal k
 unfolding answered_as fitted_in
-hands-refused room a k b e = ap (λ (x : answered.Answered). fitted_in room (answered_as x b)) e
+hands_refused room a k b e = ap (λ (x : answered.Answered). fitted_in room (answered_as x b)) e
 
-pub hands-used : (room : ℕ) (a : answered.Answered) (n : ℕ) (b : List ℕ) → a ≡ is.Used n → fitted_in room (answered_as a b) ≡ fitted room (take n b)
+pub hands_used : (room : ℕ) (a : answered.Answered) (n : ℕ) (b : List ℕ) → a ≡ is.Used n → fitted_in room (answered_as a b) ≡ fitted room (take n b)
 unfolding answered_as fitted_in
-hands-used room a n b e = ap (λ (x : answered.Answered). fitted_in room (answered_as x b)) e
+hands_used room a n b e = ap (λ (x : answered.Answered). fitted_in room (answered_as x b)) e
 
-pub used-is : (a : answered.Answered) (n : ℕ) → a ≡ is.Used n → used_in a ≡ n
+pub used_is : (a : answered.Answered) (n : ℕ) → a ≡ is.Used n → used_in a ≡ n
 unfolding used_in
-used-is a n e = ap used_in e
+used_is a n e = ap used_in e
 
 -- at the front of an area
-given-front : (a : answered.Answered) (ys rest : List ℕ) → used_in a ≤ length ys → answered_as a (ys ++ rest) ≡ answered_as a ys
+given_front : (a : answered.Answered) (ys rest : List ℕ) → used_in a ≤ length ys → answered_as a (ys ++ rest) ≡ answered_as a ys
 unfolding answered_as used_in
-given-front (is.Refused k) ys rest h = refl
-given-front (is.Used n) ys rest h = ap accepted (take-append-le n ys rest h)
+given_front (is.Refused k) ys rest h = refl
+given_front (is.Used n) ys rest h = ap accepted (take-append-le n ys rest h)
 
 -- and kept there
-pub given-within : (area ys last : List ℕ) (a : answered.Answered) (r : ℕ) (b : Result (List ℕ)) → 55384 ≤ length area
+pub given_within : (area ys last : List ℕ) (a : answered.Answered) (r : ℕ) (b : Result (List ℕ)) → 55384 ≤ length area
     → (answered_as a ys ≡ b) × (used_in a ≤ 55384) → length ys ≡ 55384
     → (r ≡ told (fitted_in (length (ys ++ drop 55384 area)) (answered_as a (ys ++ drop 55384 area))))
     × (last ≡ result_area (length (ys ++ drop 55384 area)) (fitted_in (length (ys ++ drop 55384 area)) (answered_as a (ys ++ drop 55384 area))))
     → (r ≡ told (fitted_in (length area) b)) × (last ≡ result_area (length area) (fitted_in (length area) b))
-given-within area ys last a r b h g l k =
+given_within area ys last a r b h g l k =
     let room : length (ys ++ drop 55384 area) ≡ length area = simp (length-append, length-drop) (omega (arith, l, h)) in
-    let same : answered_as a (ys ++ drop 55384 area) ≡ b = given-front a ys (drop 55384 area) (omega (arith, g.1, l)) ∙ g.0 in
+    let same : answered_as a (ys ++ drop 55384 area) ≡ b = given_front a ys (drop 55384 area) (omega (arith, g.1, l)) ∙ g.0 in
     let e : fitted_in (length (ys ++ drop 55384 area)) (answered_as a (ys ++ drop 55384 area)) ≡ fitted_in (length area) b = ap (λ (n : ℕ). fitted_in n (answered_as a (ys ++ drop 55384 area))) room ∙ ap (fitted_in (length area)) same in
     (k.0 ∙ ap told e, k.1 ∙ ap (λ (n : ℕ). result_area n (fitted_in (length (ys ++ drop 55384 area)) (answered_as a (ys ++ drop 55384 area)))) room ∙ ap (result_area (length area)) e)
 
@@ -124,17 +124,17 @@ writes room (accepted a) = refl
 
 module _ (f root : List ℕ) (room : ℕ) where
   -- of a file that is not opened
-  pub built-refused : (n : ℕ) → file.open_file f ≡ file.refused n → build f root room ≡ refusal n
+  pub built_refused : (n : ℕ) → file.open_file f ≡ file.refused n → build f root room ≡ refusal n
   unfolding build answer answer_in_file written
-  built-refused n e = rw e refl
+  built_refused n e = rw e refl
 
   module _ (t : File) (is_open : file.open_file f ≡ file.opened t) where
     -- of a file in which no model has the root name
-    pub built-none : root_of t root ≡ none → build f root room ≡ refusal 5
+    pub built_none : root_of t root ≡ none → build f root room ≡ refusal 5
     unfolding build answer answer_in_file answer_of_root written
-    built-none e = rw (is_open, e) refl
+    built_none e = rw (is_open, e) refl
 
     -- of a model found
-    pub built-at : (m : ℕ) → root_of t root ≡ some m → build f root room ≡ fitted_in room (bytes_in (answer_of_model t m))
+    pub built_at : (m : ℕ) → root_of t root ≡ some m → build f root room ≡ fitted_in room (bytes_in (answer_of_model t m))
     unfolding build answer answer_in_file answer_of_root
-    built-at m e = rw (is_open, e) (writes room (answer_of_model t m))
+    built_at m e = rw (is_open, e) (writes room (answer_of_model t m))

@@ -21,7 +21,7 @@ use Rattle.ast.specs.Records.{domain_of, unknown_of}
 use Rattle.ast.specs.Numbers.{number_of, DomainRead}
 use Rattle.ast.specs.WellFormed.{DomainFormed}
 use Rattle.ast.specs.declared.numbers.Bounds as declared
-use Rattle.ast.specs.declared.numbers.Domain as declaredDomain
+use Rattle.ast.specs.declared.numbers.Domain as declared_domain
 use Rattle.ast.specs.declared.numbers.Domain.TheVariants.{Named}
 use Rattle.ast.specs.declared.sections.Sections.{Sections}
 use Rattle.ast.specs.Opens.{Open, contents_in, file_in}
@@ -79,7 +79,7 @@ named_below names k unstated l h = tt
 named_below names k (range a b) l h = tt
 named_below names k (named n) l h = omega arith
 
-pub below_is : (k n : ℕ) (d : declaredDomain.Domain) → d ≡ Named n → NamedBelow k d → n < k
+pub below_is : (k n : ℕ) (d : declared_domain.Domain) → d ≡ Named n → NamedBelow k d → n < k
 unfolding NamedBelow
 below_is k n d e h = rw e at h
 
@@ -182,7 +182,7 @@ both_put f s r x d d₁ d₂ p l u el eu h e₁ e₂ = e₂ ∙ rw (← el, ← 
 -- ---- unknown u of a file
 
 module _ (f : List ℕ) (s : Sections) (u : ℕ) where
-  module _ (o : Open f s) (h : u < s.counts.unknowns) (d : declaredDomain.Domain) (e : DomainRead (domain_of (unknown_record f s u)) d) where
+  module _ (o : Open f s) (h : u < s.counts.unknowns) (d : declared_domain.Domain) (e : DomainRead (domain_of (unknown_record f s u)) d) where
     its_formed : DomainFormed (length (file_in f s).names) (domain_of (unknown_record f s u))
     its_formed = rw (names_long f s) (domain_formed s.counts.names (unknown_record f s u) (unknown_is f s o u h).domain_fits_lem e.small)
 

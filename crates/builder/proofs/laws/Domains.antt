@@ -12,7 +12,7 @@ use Rattle.ast.specs.Words.{word_of, blank}
 use Rattle.ast.specs.Records.{domain_fits, domain_of}
 use Rattle.ast.specs.Numbers.{number_of, Stated, stated, stated_in, RangeSmall}
 use Rattle.ast.specs.WellFormed.{DomainFormed}
-use Rattle.ast.specs.declared.numbers.Domain as declaredDomain
+use Rattle.ast.specs.declared.numbers.Domain as declared_domain
 use Rattle.ast.specs.declared.numbers.Domain.TheVariants.{None, Span, Named}
 
 module _ (names : ℕ) (r : List ℕ) (fits : domain_fits names r ≡ true) where
@@ -36,16 +36,16 @@ module _ (names : ℕ) (r : List ℕ) (fits : domain_fits names r ≡ true) wher
       go false false e g = rw (e, g) (λ h. other_named e g)
 
 -- the code's case of a domain
-abbrev pub coded : Domain → declaredDomain.Domain
+abbrev pub coded : Domain → declared_domain.Domain
 coded unstated = None
 coded (range l u) = Span (number_of l) (number_of u)
 coded (named n) = Named n
 
-pub says_coded : (x : declaredDomain.Domain) (d : Domain) → stated x ≡ stated_in d → x ≡ coded d
+pub says_coded : (x : declared_domain.Domain) (d : Domain) → stated x ≡ stated_in d → x ≡ coded d
 unfolding stated stated_in
 says_coded x d e = go x d (ap (λ (z : Stated). z.kind) e) e
   where
-    go : (x : declaredDomain.Domain) (d : Domain) → (stated x).kind ≡ (stated_in d).kind → stated x ≡ stated_in d → x ≡ coded d
+    go : (x : declared_domain.Domain) (d : Domain) → (stated x).kind ≡ (stated_in d).kind → stated x ≡ stated_in d → x ≡ coded d
     go None unstated k e = refl
     go None (range l u) k e = absurd (omega (arith, k))
     go None (named n) k e = absurd (omega (arith, k))

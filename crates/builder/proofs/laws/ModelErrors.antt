@@ -23,7 +23,7 @@ use Rattle.ast.specs.WellFormed.{DomainFormed}
 use Rattle.ast.specs.Opens.{Open, contents_in, file_in, nodes_of}
 use Rattle.ast.specs.declared.sections.Nodes.{Nodes}
 use Rattle.ast.specs.declared.sections.Sections.{Sections}
-use Rattle.ast.specs.declared.numbers.Domain as declaredDomain
+use Rattle.ast.specs.declared.numbers.Domain as declared_domain
 use Rattle.ast.specs.declared.numbers.Domain.TheVariants as is
 use Rattle.ast.proofs.Encodes.{each_append}
 use Rattle.definitions.specs.Names.{text_of}
@@ -61,7 +61,7 @@ module _ {f : List ℕ} {s : Sections} {cs : List ℕ} {u : ℕ} (q : UnknownIn 
   class_of_lem x h = q.classes.class x (omega (arith, (long f s q.opened).file_names))
 
   -- its domain, read as x
-  module _ (x : declaredDomain.Domain) (e : DomainRead (domain_of record_u) x) where
+  module _ (x : declared_domain.Domain) (e : DomainRead (domain_of record_u) x) where
     is_coded : x ≡ coded (domain_of record_u)
     is_coded = says_coded x (domain_of record_u) e.says
 

@@ -9,7 +9,7 @@ use native.Mathlib.Numerals.{sub-one}
 use borrow.Author.Tests.{ne_eqb}
 use lib.Dec.{leb, eqb}
 use lib.ListN.{length, get_or}
-use Rattle.functions.specs.Lists.{any, member, plus_one, reaches}
+use Rattle.functions.specs.Lists.{member, plus_one, reaches}
 use Rattle.ast.specs.Tree.{Span, Expr, Args, snoc, count, Stmt, own, submodel, File}
 use Rattle.ast.specs.Nodes.{name_at, op_at, size_at, args_fit, nodes_fit, args_before}
 use Rattle.ast.proofs.Fitting.{last_arg}

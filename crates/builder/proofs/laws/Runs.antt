@@ -9,7 +9,7 @@ use lib.ListN.{length, drop, get_or}
 use Rattle.functions.specs.Lists.{any}
 use Rattle.functions.proofs.Lists.{drop_past}
 use Rattle.functions.proofs.Loops.{any_step}
-use Rattle.ast.specs.Tree.{count, Stmt, Unknown}
+use Rattle.ast.specs.Tree.{Stmt, Unknown}
 use Rattle.definitions.specs.Flatten.{model_at}
 use Rattle.ast.specs.Words.{word_of}
 use Rattle.ast.specs.Records.{unknown_of, stmt_of}

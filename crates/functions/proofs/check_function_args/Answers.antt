@@ -1,6 +1,5 @@
 use mathlib.Core.Path.{ap, ◌∙◌}
 use Rattle.functions.specs.Rules.{allows, takes}
-use borrow.Author.Rules.{rules}
 use Rattle.functions.proofs.check_function_args.Goals as goal
 
 pub returns : goal.returns

@@ -1,9 +1,6 @@
-use mathlib.Core.Path.{◌≡◌, refl, sym, ◌∙◌}
-use Prim.Native.Nat.{◌-◌, ◌≤◌}
+use mathlib.Core.Path.{refl, sym, ◌∙◌}
 use native.Mathlib.Omega.{arith}
-use borrow.Author.Rules.{rules}
-use lib.ListN.{drop}
-use Rattle.functions.specs.Rules.{table, rule_in, rule_of}
+use Rattle.functions.specs.Rules.{rule_of}
 use Rattle.functions.proofs.Table.{rule_here, rule_end}
 use Rattle.functions.proofs.function_rule.Goals as goal
 

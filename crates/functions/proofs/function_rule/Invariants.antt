@@ -1,10 +1,7 @@
-use mathlib.Core.Path.{◌≡◌, refl, sym, ◌∙◌}
+use mathlib.Core.Path.{◌≡◌}
 use Prim.Native.Nat.{◌-◌, ◌≤◌}
-use native.Mathlib.Omega.{arith}
-use borrow.Author.Rules.{rules}
 use lib.ListN.{drop}
 use Rattle.functions.specs.Rules.{table, rule_in, rule_of}
-use Rattle.functions.proofs.Table.{rule_here, rule_end}
 use Rattle.functions.proofs.function_rule.Given as goal
 
 abbrev pub invariant-loop-i : goal.invariant-loop-i

@@ -2,7 +2,6 @@ use mathlib.Core.Path.{ap, ◌∙◌}
 use native.Mathlib.Omega.{arith}
 use Rattle.functions.specs.Lists.{same_text}
 use Rattle.functions.proofs.Table.{row_read, row_asked, row_name}
-use borrow.Author.Rules.{rules}
 use Rattle.functions.proofs.is_row.Goals as goal
 
 pub bounds-places-i : goal.bounds-places-i

@@ -1,7 +1,6 @@
 use mathlib.Core.Path.{sym, ap}
 use Rattle.functions.specs.declared.Rule.{Rule}
 use Rattle.functions.specs.Rules.{allows}
-use borrow.Author.Rules.{rules}
 use Rattle.functions.proofs.rule_allows.Goals as goal
 
 pub returns-in-One : goal.returns-in-One

@@ -1,8 +1,5 @@
-use Prim.Native.Nat.{◌≤◌, ◌-◌}
-use mathlib.Core.Path.{◌≡◌, refl, sym, ◌∙◌}
+use mathlib.Core.Path.{refl, sym, ◌∙◌}
 use native.Mathlib.Omega.{arith}
-use lib.ListN.{length, drop}
-use Rattle.functions.specs.Lists.{same_text}
 use borrow.Author.Tests.{eq-eqb, ne_eqb}
 use Rattle.functions.proofs.Texts.{same_text_long, same_text_step, same_text_end}
 use Rattle.functions.proofs.same_bytes.Goals as goal

@@ -1,10 +1,7 @@
 use Prim.Native.Nat.{◌≤◌, ◌-◌}
-use mathlib.Core.Path.{◌≡◌, refl, sym, ◌∙◌}
-use native.Mathlib.Omega.{arith}
+use mathlib.Core.Path.{◌≡◌}
 use lib.ListN.{length, drop}
 use Rattle.functions.specs.Lists.{same_text}
-use borrow.Author.Tests.{eq-eqb, ne_eqb}
-use Rattle.functions.proofs.Texts.{same_text_long, same_text_step, same_text_end}
 use Rattle.functions.proofs.same_bytes.Given as goal
 
 abbrev pub invariant-loop-i : goal.invariant-loop-i

@@ -1,6 +1,5 @@
 use Rattle.area.specs.Listing.{found_as}
 use Rattle.area.proofs.Listings.{lists_none}
-use borrow.Author.Rules.{rules}
 use Rattle.area.proofs.errors.list.Goals as goal
 
 pub returns-in-Nothing : goal.returns-in-Nothing

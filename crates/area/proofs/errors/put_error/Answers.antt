@@ -2,7 +2,6 @@
 use mathlib.Core.Path.{refl}
 use native.Mathlib.Omega.{arith}
 use Rattle.area.proofs.Listings.{error_counted, error_listed}
-use borrow.Author.Rules.{rules}
 use Rattle.area.proofs.errors.put_error.Goals as goal
 
 pub returns-then-count-ge-MOST_LISTED : goal.returns-then-count-ge-MOST_LISTED

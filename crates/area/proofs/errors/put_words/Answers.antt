@@ -1,5 +1,4 @@
 -- `area::errors::put_words` meets its contract: the four words stand one behind the other from a place on. Assumes nothing.
-use borrow.Author.Rules.{rules}
 use Rattle.area.proofs.Puts.{put_four}
 use Rattle.area.proofs.errors.put_words.Goals as goal
 

@@ -1,4 +1,3 @@
-use borrow.Author.Rules.{rules}
 use Rattle.area.proofs.Puts.{put_six}
 use Rattle.area.proofs.header.put_counts.Goals as goal
 

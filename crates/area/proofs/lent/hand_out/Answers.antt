@@ -3,7 +3,6 @@ use mathlib.Core.Path.{sym, ap, ◌∙◌}
 use lib.ListN.{length}
 use Rattle.definitions.specs.Build.{told, result_area}
 use Rattle.area.proofs.HandedOut.{handed, not_handed}
-use borrow.Author.Rules.{rules}
 use Rattle.area.proofs.lent.hand_out.Goals as goal
 
 pub returns-then-area-used : goal.returns-then-area-used

@@ -1,7 +1,6 @@
 use mathlib.Core.Path.{refl, ◌∙◌}
 use native.Mathlib.Omega.{arith}
 use Rattle.ast.proofs.Fronts.{lent_put}
-use borrow.Author.Rules.{rules}
 use Rattle.area.proofs.lent.put_errors.Goals as goal
 
 pub returns : goal.returns

@@ -1,5 +1,4 @@
 use Rattle.area.proofs.HandedOut.{cleared}
-use borrow.Author.Rules.{rules}
 use Rattle.area.proofs.lent.refuse.Goals as goal
 
 pub returns : goal.returns

@@ -1,7 +1,6 @@
 use mathlib.Core.Path.{refl}
 use Rattle.area.specs.Sections.{stmts_at, vars_at, deps_at, errors_at}
 use native.Mathlib.Omega.{arith}
-use borrow.Author.Rules.{rules}
 use Rattle.area.proofs.sections.errors_at.Goals as goal
 
 pub overflow_add-result : goal.overflow_add-result

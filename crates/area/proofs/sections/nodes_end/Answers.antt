@@ -1,5 +1,4 @@
 use mathlib.Core.Path.{refl}
-use borrow.Author.Rules.{rules}
 use Rattle.area.proofs.sections.nodes_end.Goals as goal
 
 pub returns : goal.returns

@@ -1,5 +1,4 @@
 use Rattle.area.specs.Sections.{stmts_at}
-use borrow.Author.Rules.{rules}
 use Rattle.area.proofs.sections.stmts_at.Goals as goal
 
 pub returns : goal.returns

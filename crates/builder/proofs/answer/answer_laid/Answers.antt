@@ -1,7 +1,6 @@
 -- ---- the places: the entry, and where it is known that no left side is too short
 use Rattle.builder.proofs.laws.RootFinish.{allocate_needs}
 use Rattle.builder.proofs.laws.ShortAnswers.{short_given, used_given}
-use borrow.Author.Rules.{rules}
 use Rattle.builder.proofs.answer.answer_laid.Goals as goal
 
 pub any_short-requires : goal.any_short-requires

@@ -2,7 +2,6 @@
 use native.Mathlib.Omega.{arith}
 use Rattle.builder.proofs.laws.RootFinish.{errors_needs, copy_needs, header_needs, finished}
 use Rattle.builder.proofs.laws.RootWritten.{room}
-use borrow.Author.Rules.{rules}
 use Rattle.builder.proofs.answer.finish.Goals as goal
 
 pub all_errors-count-requires : goal.all_errors-count-requires

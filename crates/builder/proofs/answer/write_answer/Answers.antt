@@ -1,6 +1,5 @@
 -- ---- the places: the entry, the fates written, what the variables hold written
 use Rattle.builder.proofs.laws.RootFinish.{allocate_needs, left_is, states_are, fates_are, held_needs, held_is}
-use borrow.Author.Rules.{rules}
 use Rattle.builder.proofs.answer.write_answer.Goals as goal
 
 pub allocate_stmts-left-requires : goal.allocate_stmts-left-requires

@@ -1,7 +1,6 @@
 -- ---- the place: the entry
 use native.Mathlib.Omega.{arith}
 use Rattle.builder.proofs.laws.Replacing.{zeros_in}
-use borrow.Author.Rules.{rules}
 use Rattle.builder.proofs.build.answer.Goals as goal
 
 pub answer_with-requires : goal.answer_with-requires

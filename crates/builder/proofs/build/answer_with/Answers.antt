@@ -2,8 +2,7 @@
 use native.Mathlib.Omega.{arith}
 use mathlib.Core.Path.{sym, ap, ◌∙◌}
 use Rattle.builder.specs.Root.{bytes_in}
-use Rattle.builder.proofs.laws.Answers.{measured-refused, measured-sized, given-refused, used-refused}
-use borrow.Author.Rules.{rules}
+use Rattle.builder.proofs.laws.Answers.{measured_refused, measured_sized, given_refused, used_refused}
 use Rattle.builder.proofs.build.answer_with.Goals as goal
 
 pub measure-requires : goal.measure-requires
@@ -12,13 +11,13 @@ measure-requires c = let p = c.requires in
 
 pub fill-requires : goal.fill-requires
 fill-requires c = let measure = c.measure in
-    let z = measured-sized _ _ _ _ _ _ c.in-Sized.is measure.ensures.0 in
+    let z = measured_sized _ _ _ _ _ _ c.in-Sized.is measure.ensures.0 in
     let p = c.requires in
     (record { called = p.called; classes_long = p.classes_long; model = p.model; rows_long = measure.ensures.1.long; rows_in = measure.ensures.1.fit; long = p.long }, record { instances = z.0; stmts = z.1; nodes = z.2; small = z.3 })
 
 pub returns-in-Refused : goal.returns-in-Refused
-returns-in-Refused c = (given-refused _ _ _ (measured-refused _ _ _ _ c.in-Refused.is c.measure.ensures.0), used-refused _)
+returns-in-Refused c = (given_refused _ _ _ (measured_refused _ _ _ _ c.in-Refused.is c.measure.ensures.0), used_refused _)
 
 pub returns-in-Sized : goal.returns-in-Sized
 returns-in-Sized c = let fill = c.fill in
-    (fill.ensures.0 ∙ sym (ap bytes_in (measured-sized _ _ _ _ _ _ c.in-Sized.is c.measure.ensures.0).4), fill.ensures.1)
+    (fill.ensures.0 ∙ sym (ap bytes_in (measured_sized _ _ _ _ _ _ c.in-Sized.is c.measure.ensures.0).4), fill.ensures.1)

@@ -3,8 +3,7 @@ use mathlib.Core.Path.{sym, ap, ◌∙◌}
 use lib.ListN.{length}
 use Rattle.definitions.specs.Build.{told, result_area}
 use Rattle.ast.proofs.Passed.{opens_refused, opens_file}
-use Rattle.builder.proofs.laws.Answers.{built-refused}
-use borrow.Author.Rules.{rules}
+use Rattle.builder.proofs.laws.Answers.{built_refused}
 use Rattle.builder.proofs.build.build.Goals as goal
 
 pub build_opened-requires : goal.build_opened-requires
@@ -13,5 +12,5 @@ build_opened-requires c = opens_file _ _ _ _ c.open.ensures _ c.in-File.is
 pub returns-in-Refused : goal.returns-in-Refused
 returns-in-Refused c = let a = c.args in
     let o = opens_refused _ _ _ _ c.open.ensures _ c.in-Refused.is in
-    let e = built-refused _ a.root.now (length a.area.now) _ o in
+    let e = built_refused _ a.root.now (length a.area.now) _ o in
     (c.refuse.ensures.0 ∙ sym (ap told e), c.refuse.ensures.1 ∙ sym (ap (result_area (length a.area.now)) e))

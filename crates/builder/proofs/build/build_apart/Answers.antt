@@ -2,7 +2,6 @@ use mathlib.Core.Path.{ap, ◌∙◌}
 use lib.ListN.{length}
 use Rattle.definitions.specs.Build.{told, result_area}
 use Rattle.builder.specs.Root.{fitted_in}
-use borrow.Author.Rules.{rules}
 use Rattle.builder.proofs.build.build_apart.Goals as goal
 
 pub returns-then-s-le-FEW_MODELS : goal.returns-then-s-le-FEW_MODELS

@@ -4,14 +4,13 @@ use native.Mathlib.Omega.{arith}
 use lib.ListN.{length}
 use Rattle.definitions.specs.Build.{told, result_area}
 use Rattle.builder.proofs.laws.Finding.{root_below}
-use Rattle.builder.proofs.laws.Answers.{place_of, place_none, built-none, built-at}
-use borrow.Author.Rules.{rules}
+use Rattle.builder.proofs.laws.Answers.{place_of, place_none, built_none, built_at}
 use Rattle.builder.proofs.build.build_opened.Goals as goal
 
 pub returns-then-m-eq0 : goal.returns-then-m-eq0
 returns-then-m-eq0 c = let a = c.args in
     let room = length a.area.now in
-    let e = built-none _ a.root.now room _ c.requires.1 (place_none _ _ c.find_root-m.ensures c.if-m-eq0.true) in
+    let e = built_none _ a.root.now room _ c.requires.1 (place_none _ _ c.find_root-m.ensures c.if-m-eq0.true) in
     (c.refuse.ensures.0 ∙ sym (ap told e), c.refuse.ensures.1 ∙ sym (ap (result_area room) e))
 
 pub build_apart-requires : goal.build_apart-requires
@@ -21,7 +20,7 @@ build_apart-requires c = let a = c.args in
 pub returns-then-area-lt-MOST_BYTES : goal.returns-then-area-lt-MOST_BYTES
 returns-then-area-lt-MOST_BYTES c = let a = c.args in
     let room = length a.area.now in
-    let e = built-at _ a.root.now room _ c.requires.1 _ (place_of _ _ c.find_root-m.ensures c.if-m-eq0.false) in
+    let e = built_at _ a.root.now room _ c.requires.1 _ (place_of _ _ c.find_root-m.ensures c.if-m-eq0.false) in
     (c.build_apart.ensures.0 ∙ sym (ap told e), c.build_apart.ensures.1 ∙ sym (ap (result_area room) e))
 
 pub build_within-requires : goal.build_within-requires
@@ -31,5 +30,5 @@ build_within-requires c = let a = c.args in
 pub returns : goal.returns
 returns c = let a = c.args in
     let room = length a.area.now in
-    let e = built-at _ a.root.now room _ c.requires.1 _ (place_of _ _ c.find_root-m.ensures c.if-m-eq0.false) in
+    let e = built_at _ a.root.now room _ c.requires.1 _ (place_of _ _ c.find_root-m.ensures c.if-m-eq0.false) in
     (c.build_within.ensures.0 ∙ sym (ap told e), c.build_within.ensures.1 ∙ sym (ap (result_area room) e))

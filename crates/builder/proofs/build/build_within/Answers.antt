@@ -1,8 +1,7 @@
 -- ---- the entry, from where few models or many are answered
 use mathlib.Core.Path.{sym, ◌∙◌}
 use lib.Seq.{length-take-le}
-use Rattle.builder.proofs.laws.Answers.{given-within}
-use borrow.Author.Rules.{rules}
+use Rattle.builder.proofs.laws.Answers.{given_within}
 use Rattle.builder.proofs.build.build_within.Goals as goal
 
 pub slice_bounds-answer_few-end-then-s-le-FEW_MODELS : goal.slice_bounds-answer_few-end-then-s-le-FEW_MODELS
@@ -16,7 +15,7 @@ pub returns-then-s-le-FEW_MODELS : goal.returns-then-s-le-FEW_MODELS
 returns-then-s-le-FEW_MODELS c = let a = c.args in
     let p = c.requires in
     let answer = c.answer_few-a in
-    given-within a.area.now _ _ _ _ _ p.2 answer.ensures (answer.auto.area ∙ length-take-le 55384 a.area.now p.2) c.keep.ensures
+    given_within a.area.now _ _ _ _ _ p.2 answer.ensures (answer.auto.area ∙ length-take-le 55384 a.area.now p.2) c.keep.ensures
 
 pub slice_bounds-answer-end-2 : goal.slice_bounds-answer-end-2
 slice_bounds-answer-end-2 c = sym (length-take-le 55384 c.args.area.now c.requires.2)
@@ -29,4 +28,4 @@ pub returns : goal.returns
 returns c = let a = c.args in
     let p = c.requires in
     let answer = c.answer-a in
-    given-within a.area.now _ _ _ _ _ p.2 answer.ensures (answer.auto.area ∙ length-take-le 55384 a.area.now p.2) c.keep-2.ensures
+    given_within a.area.now _ _ _ _ _ p.2 answer.ensures (answer.auto.area ∙ length-take-le 55384 a.area.now p.2) c.keep-2.ensures

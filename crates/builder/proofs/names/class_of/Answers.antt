@@ -1,9 +1,6 @@
 use mathlib.Core.Path.{◌≡◌, refl, sym, ◌∙◌}
-use Prim.Native.Nat.{◌-◌, ◌≤◌}
 use native.Mathlib.Omega.{arith}
-use borrow.Author.Rules.{rules}
-use lib.ListN.{drop}
-use Rattle.builder.specs.Tables.{deciding, class_from, class_of}
+use Rattle.builder.specs.Tables.{class_of}
 use Rattle.builder.proofs.laws.Classes.{class_here, class_end}
 use Rattle.builder.proofs.names.class_of.Goals as goal
 

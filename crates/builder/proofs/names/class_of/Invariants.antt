@@ -1,10 +1,7 @@
-use mathlib.Core.Path.{◌≡◌, refl, sym, ◌∙◌}
+use mathlib.Core.Path.{◌≡◌}
 use Prim.Native.Nat.{◌-◌, ◌≤◌}
-use native.Mathlib.Omega.{arith}
-use borrow.Author.Rules.{rules}
 use lib.ListN.{drop}
 use Rattle.builder.specs.Tables.{deciding, class_from, class_of}
-use Rattle.builder.proofs.laws.Classes.{class_here, class_end}
 use Rattle.builder.proofs.names.class_of.Given as goal
 
 abbrev pub invariant-loop-i : goal.invariant-loop-i

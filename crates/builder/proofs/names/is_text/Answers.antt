@@ -2,7 +2,6 @@ use mathlib.Core.Path.{ap, ◌∙◌}
 use native.Mathlib.Omega.{arith}
 use Rattle.functions.specs.Lists.{same_text}
 use Rattle.builder.proofs.laws.Classes.{text_read, text_asked, text_word}
-use borrow.Author.Rules.{rules}
 use Rattle.builder.proofs.names.is_text.Goals as goal
 
 pub bounds-places-i : goal.bounds-places-i

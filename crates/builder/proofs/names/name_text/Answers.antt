@@ -1,7 +1,6 @@
 use native.Mathlib.Omega.{arith}
 use Rattle.ast.proofs.Opened.{ranges}
 use Rattle.builder.proofs.laws.Open.{name_within, name_part}
-use borrow.Author.Rules.{rules}
 use Rattle.builder.proofs.names.name_text.Goals as goal
 
 pub slice_bounds-result-end : goal.slice_bounds-result-end

@@ -1,6 +1,5 @@
 use mathlib.Core.Path.{sym, ap}
 use Rattle.builder.specs.Tables.{rule_number}
-use borrow.Author.Rules.{rules}
 use Rattle.builder.proofs.names.rule_number.Goals as goal
 
 pub returns-in-One : goal.returns-in-One

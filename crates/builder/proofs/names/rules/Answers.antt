@@ -1,10 +1,6 @@
 use mathlib.Core.Path.{refl, ap, ◌∙◌}
-use Prim.Native.Nat.{◌-◌, ◌≤◌}
 use native.Mathlib.Omega.{arith}
-use borrow.Author.Rules.{rules}
-use Rattle.ast.specs.Opens.{file_in}
-use Rattle.definitions.specs.Names.{text_of}
-use Rattle.builder.proofs.laws.Filled.{Filled, filled_none, filled_more}
+use Rattle.builder.proofs.laws.Filled.{filled_none, filled_more}
 use Rattle.builder.proofs.laws.Open.{names_long}
 use Rattle.functions.specs.Rules.{rule_of}
 use Rattle.builder.specs.Tables.{rule_number}

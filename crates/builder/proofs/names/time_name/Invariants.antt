@@ -1,10 +1,7 @@
-use Rattle.builder.proofs.laws.Open.{names_long}
-use Rattle.builder.proofs.laws.ScopeTables.{time_yes, time_no, time_end}
-use mathlib.Core.Path.{◌≡◌, refl, sym, ap, ◌∙◌}
+use mathlib.Core.Path.{◌≡◌}
 use Prim.Native.Nat.{◌-◌, ◌≤◌}
-use native.Mathlib.Omega.{arith}
 use lib.ListN.{drop}
-use Rattle.functions.specs.Lists.{text, same_text, place, place_from, plus_one}
+use Rattle.functions.specs.Lists.{text, same_text, place_from, plus_one}
 use Rattle.ast.specs.Opens.{file_in}
 use Rattle.definitions.specs.Names.{time_name}
 use Rattle.builder.proofs.names.time_name.Given as goal

@@ -1,6 +1,5 @@
 use Rattle.ast.specs.Words.{in_order, span_from}
 use Rattle.definitions.specs.Layout.{error_fits}
-use borrow.Author.Rules.{rules}
 use Rattle.keeping.proofs.errors.error_fits.Goals as goal
 
 pub returns : goal.returns

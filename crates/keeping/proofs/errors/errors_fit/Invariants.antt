@@ -1,11 +1,8 @@
-use mathlib.Core.Path.{◌≡◌, refl, sym, ◌∙◌}
-use native.Mathlib.Omega.{arith}
-use borrow.Author.Tests.{not-true, not-false}
+use mathlib.Core.Path.{◌≡◌}
 use Prim.Native.Nat.{◌≤◌, ◌-◌}
 use lib.ListN.{drop}
 use Rattle.functions.specs.Lists.{all}
 use Rattle.ast.specs.RecordsIn.{records_in}
-use Rattle.ast.proofs.Turns.{all_turn, all_done}
 use Rattle.definitions.specs.Layout.{error_fits}
 use Rattle.keeping.proofs.errors.errors_fit.Given as goal
 

@@ -1,8 +1,6 @@
 use mathlib.Core.Path.{sym, ◌∙◌}
 use native.Mathlib.Omega.{arith}
-use borrow.Author.Tests.{not-true, not-false}
 use Rattle.keeping.proofs.Begun.{counted, no_header, over_most_lem, too_short_lem, all_there, laid}
-use borrow.Author.Rules.{rules}
 use Rattle.keeping.proofs.kept.keeps_layout.Goals as goal
 
 pub returns-then-area-lt-HEADER_BYTES : goal.returns-then-area-lt-HEADER_BYTES

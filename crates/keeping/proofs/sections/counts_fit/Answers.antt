@@ -1,4 +1,3 @@
-use borrow.Author.Rules.{rules}
 use Rattle.definitions.specs.Layout.{counts_fit}
 use Rattle.keeping.proofs.sections.counts_fit.Goals as goal
 

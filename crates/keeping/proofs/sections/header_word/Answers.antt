@@ -1,7 +1,6 @@
 use native.Mathlib.Omega.{arith}
 use Rattle.ast.specs.Words.{records, section}
 use Rattle.definitions.specs.Area.{header_in}
-use borrow.Author.Rules.{rules}
 use Rattle.keeping.proofs.sections.header_word.Goals as goal
 
 pub record_word-requires : goal.record_word-requires

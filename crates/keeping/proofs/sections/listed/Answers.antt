@@ -1,5 +1,4 @@
 use native.Mathlib.Omega.{arith}
-use borrow.Author.Rules.{rules}
 use Rattle.keeping.proofs.sections.listed.Goals as goal
 
 pub returns-then-errors-lt-MOST_LISTED : goal.returns-then-errors-lt-MOST_LISTED

@@ -1,7 +1,6 @@
 use mathlib.Core.Path.{refl}
 use Rattle.definitions.specs.Layout.{nodes_at, stmts_at, vars_at, deps_at, errors_at, end_at}
 use Rattle.keeping.specs.Placed.{sections_of}
-use borrow.Author.Rules.{rules}
 use Rattle.keeping.proofs.sections.sections_in.Goals as goal
 
 pub returns : goal.returns

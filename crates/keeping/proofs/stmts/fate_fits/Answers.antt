@@ -1,6 +1,5 @@
 use mathlib.Core.Path.{refl, sym, ◌∙◌}
 use borrow.Author.Tests.{ne_eqb}
-use borrow.Author.Rules.{rules}
 use Rattle.definitions.specs.Layout.{fate_fits}
 use Rattle.keeping.proofs.stmts.fate_fits.Goals as goal
 

@@ -1,7 +1,6 @@
 use mathlib.Core.Path.{refl}
 use native.Mathlib.Omega.{arith}
 use Rattle.definitions.specs.Layout.{row_fits}
-use borrow.Author.Rules.{rules}
 use Rattle.keeping.proofs.stmts.row_fits.Goals as goal
 
 pub stmt_fits-requires : goal.stmt_fits-requires

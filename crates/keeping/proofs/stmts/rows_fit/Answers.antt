@@ -1,11 +1,6 @@
-use mathlib.Core.Path.{◌≡◌, refl, sym, ◌∙◌}
+use mathlib.Core.Path.{refl, sym, ◌∙◌}
 use native.Mathlib.Omega.{arith}
-use borrow.Author.Tests.{not-true, not-false}
-use Prim.Native.Nat.{◌≤◌, ◌-◌, ◌^◌}
-use lib.ListN.{drop}
 use Rattle.ast.specs.NodesIn.{nodes_in}
-use Rattle.ast.specs.RecordsIn.{records_in}
-use Rattle.definitions.specs.Layout.{rows_fit}
 use Rattle.keeping.proofs.Turns.{rows_turn, rows_done}
 use Rattle.keeping.proofs.stmts.rows_fit.Goals as goal
 

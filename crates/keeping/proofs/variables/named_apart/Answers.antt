@@ -1,10 +1,6 @@
-use mathlib.Core.Path.{◌≡◌, refl, sym, ◌∙◌}
+use mathlib.Core.Path.{refl, sym, ◌∙◌}
 use native.Mathlib.Omega.{arith}
-use Prim.Native.Nat.{◌≤◌, ◌-◌}
-use lib.ListN.{drop}
-use Rattle.functions.specs.Lists.{all}
 use Rattle.ast.proofs.Turns.{all_turn, all_done}
-use Rattle.ast.specs.RecordsIn.{records_in}
 use Rattle.definitions.specs.Layout.{named_apart}
 use Rattle.keeping.proofs.Turns.{apart_no, apart_yes}
 use Rattle.keeping.proofs.variables.named_apart.Goals as goal

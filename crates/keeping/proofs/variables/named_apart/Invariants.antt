@@ -1,12 +1,9 @@
-use mathlib.Core.Path.{◌≡◌, refl, sym, ◌∙◌}
-use native.Mathlib.Omega.{arith}
+use mathlib.Core.Path.{◌≡◌}
 use Prim.Native.Nat.{◌≤◌, ◌-◌}
 use lib.ListN.{drop}
 use Rattle.functions.specs.Lists.{all}
-use Rattle.ast.proofs.Turns.{all_turn, all_done}
 use Rattle.ast.specs.RecordsIn.{records_in}
 use Rattle.definitions.specs.Layout.{named_apart}
-use Rattle.keeping.proofs.Turns.{apart_no, apart_yes}
 use Rattle.keeping.proofs.variables.named_apart.Given as goal
 
 abbrev pub invariant-loop-i : goal.invariant-loop-i

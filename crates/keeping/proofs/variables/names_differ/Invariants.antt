@@ -1,11 +1,8 @@
-use mathlib.Core.Path.{◌≡◌, refl, sym, ◌∙◌}
-use native.Mathlib.Omega.{arith}
-use borrow.Author.Tests.{not-true, not-false}
+use mathlib.Core.Path.{◌≡◌}
 use Prim.Native.Nat.{◌≤◌, ◌-◌}
 use lib.ListN.{drop}
 use Rattle.ast.specs.RecordsIn.{records_in}
 use Rattle.definitions.specs.Layout.{names_differ}
-use Rattle.keeping.proofs.Turns.{names_turn, names_done}
 use Rattle.keeping.proofs.variables.names_differ.Given as goal
 
 abbrev pub invariant-loop-i : goal.invariant-loop-i

@@ -1,5 +1,4 @@
 use Rattle.definitions.specs.Layout.{variable_fits}
-use borrow.Author.Rules.{rules}
 use Rattle.keeping.proofs.variables.variable_fits.Goals as goal
 
 pub returns : goal.returns

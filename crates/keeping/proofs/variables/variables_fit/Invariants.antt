@@ -1,13 +1,8 @@
-use mathlib.Core.Path.{◌≡◌, refl, sym, ◌∙◌}
-use native.Mathlib.Omega.{arith}
-use borrow.Author.Tests.{not-true, not-false}
+use mathlib.Core.Path.{◌≡◌}
 use Prim.Native.Nat.{◌≤◌, ◌-◌}
 use lib.ListN.{drop}
-use mathlib.Core.List.{[]}
-use lib.ListN.{get_or}
 use Rattle.ast.specs.RecordsIn.{records_in}
 use Rattle.definitions.specs.Layout.{variables_fit}
-use Rattle.keeping.proofs.Turns.{variables_turn, variables_done, variable_next}
 use Rattle.keeping.proofs.variables.variables_fit.Given as goal
 
 abbrev pub invariant-loop-i : goal.invariant-loop-i

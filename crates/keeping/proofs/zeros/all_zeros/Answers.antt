@@ -1,9 +1,6 @@
-use mathlib.Core.Path.{◌≡◌, refl, sym, ◌∙◌}
+use mathlib.Core.Path.{refl, sym, ◌∙◌}
 use native.Mathlib.Omega.{arith}
 use borrow.Author.Tests.{eq-eqb, ne_eqb}
-use Prim.Native.Nat.{◌≤◌, ◌-◌}
-use lib.ListN.{length, drop}
-use Rattle.definitions.specs.Layout.{zeros}
 use Rattle.keeping.proofs.Turns.{zeros_turn, zeros_done}
 use Rattle.keeping.proofs.zeros.all_zeros.Goals as goal
 

@@ -1,10 +1,7 @@
-use mathlib.Core.Path.{◌≡◌, refl, sym, ◌∙◌}
-use native.Mathlib.Omega.{arith}
-use borrow.Author.Tests.{eq-eqb, ne_eqb}
+use mathlib.Core.Path.{◌≡◌}
 use Prim.Native.Nat.{◌≤◌, ◌-◌}
 use lib.ListN.{length, drop}
 use Rattle.definitions.specs.Layout.{zeros}
-use Rattle.keeping.proofs.Turns.{zeros_turn, zeros_done}
 use Rattle.keeping.proofs.zeros.all_zeros.Given as goal
 
 abbrev pub invariant-loop-i : goal.invariant-loop-i

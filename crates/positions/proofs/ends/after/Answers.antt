@@ -1,6 +1,5 @@
 use native.Mathlib.Omega.{arith}
 use Rattle.positions.proofs.Growing.{after_newline, after_other}
-use borrow.Author.Rules.{rules}
 use Rattle.positions.proofs.ends.after.Goals as goal
 
 pub returns-then-byte-eq-NEWLINE : goal.returns-then-byte-eq-NEWLINE

@@ -1,9 +1,6 @@
 use mathlib.Core.Path.{◌≡◌}
 use native.Mathlib.Omega.{arith}
-use Prim.Native.Nat.{◌≤◌, ◌-◌}
-use lib.ListN.{take}
 use lib.Seq.{length-take-le}
-use Rattle.positions.specs.Pieces.{Passed}
 use Rattle.positions.proofs.Growing.{passed_none, passed_more}
 use Rattle.positions.proofs.ends.walk.Goals as goal
 

@@ -1,10 +1,6 @@
-use mathlib.Core.Path.{◌≡◌}
-use mathlib.Core.List.{List, ◌++◌}
+use mathlib.Core.List.{◌++◌}
 use native.Mathlib.Omega.{arith}
-use Prim.Native.Nat.{ℕ, ◌≤◌, ◌-◌}
-use lib.ListN.{length}
-use Rattle.positions.specs.Pieces.{end_of, AsLong, Placed}
-use Rattle.positions.proofs.Entries.{Half, half_begin, long_set, half_turn, done_end, old_place}
+use Rattle.positions.proofs.Entries.{half_begin, long_set, half_turn, done_end, old_place}
 use Rattle.positions.proofs.tables.advance.Goals as goal
 
 pub loop-i-init : goal.loop-i-init

@@ -1,10 +1,9 @@
 use mathlib.Core.Path.{◌≡◌}
 use mathlib.Core.List.{List, ◌++◌}
-use native.Mathlib.Omega.{arith}
 use Prim.Native.Nat.{ℕ, ◌≤◌, ◌-◌}
 use lib.ListN.{length}
 use Rattle.positions.specs.Pieces.{end_of, AsLong, Placed}
-use Rattle.positions.proofs.Entries.{Half, half_begin, long_set, half_turn, done_end, old_place}
+use Rattle.positions.proofs.Entries.{Half}
 use Rattle.positions.proofs.tables.advance.Given as goal
 
 abbrev pub invariant-loop-i : goal.invariant-loop-i

@@ -1,9 +1,6 @@
 use mathlib.Core.List.{[]}
 use native.Mathlib.Omega.{arith}
-use Prim.Native.Nat.{◌≤◌, ◌-◌}
-use lib.ListN.{length}
-use Rattle.positions.specs.Pieces.{AsLong}
-use Rattle.positions.proofs.Entries.{Done, long_set, done_turn, done_end}
+use Rattle.positions.proofs.Entries.{long_set, done_turn, done_end}
 use Rattle.positions.proofs.tables.begin.Goals as goal
 
 pub loop-i-init : goal.loop-i-init

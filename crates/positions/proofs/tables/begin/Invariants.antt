@@ -1,9 +1,8 @@
 use mathlib.Core.List.{[]}
-use native.Mathlib.Omega.{arith}
 use Prim.Native.Nat.{◌≤◌, ◌-◌}
 use lib.ListN.{length}
 use Rattle.positions.specs.Pieces.{AsLong}
-use Rattle.positions.proofs.Entries.{Done, long_set, done_turn, done_end}
+use Rattle.positions.proofs.Entries.{Done}
 use Rattle.positions.proofs.tables.begin.Given as goal
 
 abbrev pub invariant-loop-i : goal.invariant-loop-i

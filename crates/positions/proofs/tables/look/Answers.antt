@@ -1,6 +1,5 @@
 use native.Mathlib.Omega.{arith}
 use Rattle.positions.proofs.Growing.{found_before, found_later, found_here}
-use borrow.Author.Rules.{rules}
 use Rattle.positions.proofs.tables.look.Goals as goal
 
 pub returns-then-start-e : goal.returns-then-start-e

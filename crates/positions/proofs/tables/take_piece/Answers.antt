@@ -1,5 +1,4 @@
 use Rattle.positions.proofs.Growing.{passed_all}
-use borrow.Author.Rules.{rules}
 use Rattle.positions.proofs.tables.take_piece.Goals as goal
 
 pub returns : goal.returns

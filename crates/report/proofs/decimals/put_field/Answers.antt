@@ -7,7 +7,6 @@ use Rattle.area.proofs.Puts.{lent_all}
 use Rattle.report.specs.Decimals.{most_digits}
 use Rattle.report.proofs.Digits.{few_digits}
 use Rattle.report.proofs.Fields.{field_end, put_field}
-use borrow.Author.Rules.{rules}
 use Rattle.report.proofs.decimals.put_field.Goals as goal
 
 pub copy-requires : goal.copy-requires

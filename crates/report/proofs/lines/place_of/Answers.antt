@@ -1,5 +1,4 @@
 use Rattle.report.specs.Tabled.{tabled_place}
-use borrow.Author.Rules.{rules}
 use Rattle.report.proofs.lines.place_of.Goals as goal
 
 pub returns : goal.returns

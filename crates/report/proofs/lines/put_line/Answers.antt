@@ -1,6 +1,5 @@
 use native.Mathlib.Omega.{arith}
 use Rattle.report.proofs.Written.{line_end, put_line}
-use borrow.Author.Rules.{rules}
 use Rattle.report.proofs.lines.put_line.Goals as goal
 
 pub returns : goal.returns

@@ -1,13 +1,11 @@
 use mathlib.Core.Path.{◌≡◌, refl, sym}
-use Prim.Native.Nat.{◌-◌, ◌*◌, ◌≤◌, ◌<◌}
+use Prim.Native.Nat.{◌<◌}
 use native.Mathlib.Omega.{arith}
 use lib.ListN.{length, take}
 use lib.Seq.{take_all}
-use Rattle.ast.specs.Bytes.{front}
 use Rattle.ast.specs.RecordsIn.{records_in}
 use Rattle.ast.proofs.Fields.{length_section}
 use Rattle.ast.proofs.Fronts.{front_none}
-use Rattle.report.specs.Lines.{most_line}
 use Rattle.report.specs.Tabled.{tabled_lines}
 use Rattle.report.proofs.Written.{more_end, put_more}
 use Rattle.report.proofs.lines.put_lines.Goals as goal

@@ -1,12 +1,9 @@
-use mathlib.Core.Path.{◌≡◌, refl, ◌∙◌}
-use mathlib.Core.List.{[]}
-use Prim.Native.Nat.{ℕ, ◌-◌, ◌≤◌, ◌<◌}
+use mathlib.Core.Path.{refl, ◌∙◌}
 use native.Mathlib.Omega.{arith}
-use lib.ListN.{length, get_or, length-set}
+use lib.ListN.{length-set}
 use lib.Seq.{get_or-set_other}
 use Rattle.ast.specs.RecordsIn.{records_in}
 use Rattle.ast.proofs.Fields.{length_section}
-use Rattle.report.specs.Lines.{start_of_error}
 use Rattle.report.proofs.Written.{noted_more}
 use Rattle.report.proofs.starts.note_starts.Goals as goal
 

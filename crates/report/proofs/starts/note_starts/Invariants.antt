@@ -1,13 +1,9 @@
-use mathlib.Core.Path.{◌≡◌, refl, ◌∙◌}
+use mathlib.Core.Path.{◌≡◌}
 use mathlib.Core.List.{[]}
 use Prim.Native.Nat.{ℕ, ◌-◌, ◌≤◌, ◌<◌}
-use native.Mathlib.Omega.{arith}
-use lib.ListN.{length, get_or, length-set}
-use lib.Seq.{get_or-set_other}
+use lib.ListN.{length, get_or}
 use Rattle.ast.specs.RecordsIn.{records_in}
-use Rattle.ast.proofs.Fields.{length_section}
 use Rattle.report.specs.Lines.{start_of_error}
-use Rattle.report.proofs.Written.{noted_more}
 use Rattle.report.proofs.starts.note_starts.Given as goal
 
 abbrev pub invariant-loop-i : goal.invariant-loop-i

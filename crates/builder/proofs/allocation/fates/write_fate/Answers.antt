@@ -3,7 +3,6 @@ use mathlib.Core.Path.{sym, ◌∙◌}
 use Prim.Native.Nat.{◌+◌}
 use lib.ListN.{take, drop, get_or}
 use Rattle.builder.proofs.laws.FateCases.{left_held, queue_more, left_over_lem, queue_out, queue_same, is_initial, is_replaced, is_held}
-use borrow.Author.Rules.{rules}
 use Rattle.builder.proofs.allocation.fates.write_fate.Goals as goal
 
 pub returns-then-paired-queued : goal.returns-then-paired-queued

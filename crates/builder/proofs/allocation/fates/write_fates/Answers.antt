@@ -1,9 +1,9 @@
 use Rattle.area.specs.Sections.{stmts_at, vars_at, deps_at}
 use native.Mathlib.Omega.{arith}
-use mathlib.Core.Path.{◌≡◌, refl, sym, ◌∙◌}
-use Prim.Native.Nat.{◌+◌, ◌*◌, ◌-◌, ◌≤◌}
+use mathlib.Core.Path.{refl, sym, ◌∙◌}
+use Prim.Native.Nat.{◌+◌, ◌*◌, ◌≤◌}
 use lib.ListN.{length, take}
-use Rattle.builder.proofs.laws.FateRecords.{rest, rest_all, rest_none, rest_more}
+use Rattle.builder.proofs.laws.FateRecords.{rest_all, rest_none, rest_more}
 use Rattle.builder.proofs.allocation.fates.write_fates.Goals as goal
 
 pub loop-i-init : goal.loop-i-init

@@ -1,9 +1,8 @@
-use Rattle.area.specs.Sections.{stmts_at, vars_at, deps_at}
-use native.Mathlib.Omega.{arith}
-use mathlib.Core.Path.{◌≡◌, refl, sym, ◌∙◌}
-use Prim.Native.Nat.{◌+◌, ◌*◌, ◌-◌, ◌≤◌}
+use Rattle.area.specs.Sections.{stmts_at}
+use mathlib.Core.Path.{◌≡◌}
+use Prim.Native.Nat.{◌-◌, ◌≤◌}
 use lib.ListN.{length, take}
-use Rattle.builder.proofs.laws.FateRecords.{rest, rest_all, rest_none, rest_more}
+use Rattle.builder.proofs.laws.FateRecords.{rest}
 use Rattle.builder.proofs.allocation.fates.write_fates.Given as goal
 
 abbrev pub invariant-loop-i : goal.invariant-loop-i

@@ -3,7 +3,6 @@ use mathlib.Core.Path.{sym, ◌∙◌}
 use native.Mathlib.Omega.{arith}
 use Rattle.area.specs.Sections.{deps_at}
 use Rattle.builder.proofs.laws.HeldSteps.{hold_beyond, hold_other, hold_held, hold_initial, initial_few}
-use borrow.Author.Rules.{rules}
 use Rattle.builder.proofs.allocation.held.hold_stmt.Goals as goal
 
 pub stmt_of-fate-requires : goal.stmt_of-fate-requires

@@ -1,8 +1,6 @@
 use mathlib.Core.Path.{◌≡◌}
-use Prim.Native.Nat.{◌+◌, ◌-◌, ◌≤◌}
+use Prim.Native.Nat.{◌+◌, ◌-◌}
 use native.Mathlib.Omega.{arith}
-use Rattle.builder.specs.VarRecords.{HeldBehind, HeldChanged}
-use Rattle.builder.proofs.laws.FateRecords.{AllBytes}
 use Rattle.builder.proofs.laws.HeldSteps.{held_none, held_same, held_then}
 use Rattle.builder.proofs.laws.HeldRecords.{held_put}
 use Rattle.builder.proofs.allocation.held.write_held.Goals as goal

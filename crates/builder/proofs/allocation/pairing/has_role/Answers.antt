@@ -1,9 +1,5 @@
-use borrow.Author.Rules.{rules}
 use native.Mathlib.Omega.{arith}
-use mathlib.Core.Path.{◌≡◌, refl, sym, ◌∙◌}
-use Prim.Native.Nat.{◌-◌, ◌≤◌}
-use lib.ListN.{take, drop}
-use Rattle.functions.specs.Lists.{member}
+use mathlib.Core.Path.{refl, sym, ◌∙◌}
 use borrow.Author.Tests.{eq-eqb, ne_eqb}
 use Rattle.builder.proofs.laws.RoleLoops.{member_here, member_end}
 use Rattle.builder.proofs.allocation.pairing.has_role.Goals as goal

@@ -1,11 +1,10 @@
 use mathlib.Core.Path.{◌≡◌, ap, ◌∙◌}
-use Prim.Native.Nat.{◌-◌, ◌≤◌, ◌<◌}
+use Prim.Native.Nat.{◌<◌}
 use native.Mathlib.Omega.{arith}
 use lib.ListN.{take}
 use Rattle.builder.specs.Tables.{lacking_in}
 use Rattle.builder.specs.Allocating.{states_in}
-use Rattle.builder.proofs.laws.RoleLoops.{Queued, queued_none, queued_in, queued_out}
-use borrow.Author.Rules.{rules}
+use Rattle.builder.proofs.laws.RoleLoops.{queued_none, queued_in, queued_out}
 use Rattle.builder.proofs.allocation.pairing.lacking.Goals as goal
 use Rattle.builder.proofs.allocation.pairing.lacking.Goals.{then-lacks, else-lacks}
 

@@ -1,12 +1,7 @@
-use mathlib.Core.Path.{◌≡◌, ap, ◌∙◌}
-use mathlib.Core.Logic.{⊎_elim}
-use Prim.Native.Nat.{◌-◌, ◌≤◌, ◌<◌}
-use native.Mathlib.Omega.{arith}
+use Prim.Native.Nat.{◌-◌, ◌≤◌}
 use lib.ListN.{take}
-use Rattle.builder.specs.Tables.{lacking_in}
 use Rattle.builder.specs.Allocating.{states_in}
-use Rattle.builder.proofs.laws.RoleLoops.{Queued, queued_none, queued_in, queued_out}
-use borrow.Author.Rules.{rules}
+use Rattle.builder.proofs.laws.RoleLoops.{Queued}
 use Rattle.builder.proofs.allocation.pairing.lacking.Given as goal
 
 abbrev pub invariant-loop-v : goal.invariant-loop-v

@@ -2,7 +2,6 @@ use mathlib.Core.Path.{◌≡◌, refl}
 use Prim.Native.Nat.{◌+◌, ◌*◌, ◌%◌}
 use native.Mathlib.Omega.{arith}
 use Rattle.builder.specs.Tables.{lacks_in}
-use borrow.Author.Rules.{rules}
 use Rattle.builder.proofs.allocation.pairing.lacks.Goals as goal
 
 pub returns : goal.returns

@@ -1,11 +1,8 @@
-use native.Mathlib.Omega.{arith}
 use mathlib.Core.Path.{◌≡◌}
 use Prim.Native.Nat.{◌+◌, ◌-◌, ◌≤◌}
 use lib.Dec.{eqb}
 use lib.ListN.{take, drop}
 use Rattle.functions.specs.Lists.{times}
-use borrow.Author.Rules.{rules}
-use Rattle.builder.proofs.laws.RoleLoops.{times_here, times_end}
 use Rattle.builder.proofs.allocation.pairing.left_count.Given as goal
 
 abbrev pub invariant-loop-i : goal.invariant-loop-i

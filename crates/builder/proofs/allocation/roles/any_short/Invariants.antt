@@ -1,12 +1,8 @@
-use mathlib.Core.Path.{◌≡◌, refl, sym, ◌∙◌}
-use mathlib.Core.Bool.{Bool, ◌||◌}
-use Prim.Native.Nat.{◌+◌, ◌-◌, ◌≤◌}
-use native.Mathlib.Omega.{arith}
+use mathlib.Core.Path.{◌≡◌}
+use Prim.Native.Nat.{◌-◌, ◌≤◌}
 use lib.ListN.{drop}
 use Rattle.functions.specs.Lists.{any}
-use Rattle.ast.specs.Tree.{Flat}
-use Rattle.builder.specs.Allocating.{flat_in, flats_in, indexes_in, short_by}
-use Rattle.builder.proofs.laws.Flats.{any_here, any_past}
+use Rattle.builder.specs.Allocating.{flats_in, indexes_in, short_by}
 use Rattle.builder.proofs.allocation.roles.any_short.Given as goal
 
 abbrev pub invariant-loop-i : goal.invariant-loop-i

@@ -1,11 +1,6 @@
-use mathlib.Core.Bool.{true}
-use mathlib.Core.Path.{◌≡◌, refl, sym, ◌∙◌}
-use Prim.Native.Nat.{ℕ, ◌≤◌, ◌<◌}
+use mathlib.Core.Path.{refl, sym, ◌∙◌}
 use native.Mathlib.Omega.{arith}
-use Rattle.ast.specs.Nodes.{op_at, args_fit}
 use Rattle.ast.proofs.Fitting.{node_ok, last_arg}
-use Rattle.builder.specs.Allocating.{arg_node}
-use Rattle.area.specs.Sections.{area_nodes}
 use Rattle.builder.proofs.laws.LeftSides.{arg_last, arg_before}
 use Rattle.builder.proofs.allocation.roles.arg_at.Goals as goal
 

@@ -1,8 +1,7 @@
 use mathlib.Core.Path.{refl}
-use Prim.Native.Nat.{◌-◌, ◌≤◌, ◌<◌}
+use Prim.Native.Nat.{◌<◌}
 use native.Mathlib.Omega.{arith}
-use Rattle.builder.specs.Allocating.{flat_in, indexes_in, rates_in, role_by}
-use Rattle.builder.proofs.laws.Filled.{Filled, filled_none, filled_more}
+use Rattle.builder.proofs.laws.Filled.{filled_none, filled_more}
 use Rattle.builder.proofs.laws.Flats.{map_filled}
 use Rattle.builder.proofs.allocation.roles.roles.Goals as goal
 

@@ -1,12 +1,9 @@
 use mathlib.Core.Path.{ap, ◌∙◌}
 use mathlib.Core.List.{List}
-use Prim.Native.Nat.{◌-◌, ◌≤◌}
 use native.Mathlib.Omega.{arith}
-use lib.ListN.{length, take}
-use Rattle.functions.specs.Lists.{each}
+use lib.ListN.{length}
 use Rattle.ast.specs.Tree.{Flat}
 use Rattle.definitions.specs.Variables.{Error}
-use Rattle.area.specs.Listing.{Lists}
 use Rattle.area.proofs.Listings.{length_listed}
 use Rattle.builder.specs.Allocating.{flats_in, indexes_in, rates_in, role_errors_by}
 use Rattle.builder.proofs.laws.ModelErrors.{run_begins}

@@ -1,6 +1,5 @@
 use mathlib.Core.Path.{sym, ap}
 use Rattle.builder.specs.Allocating.{is_short}
-use borrow.Author.Rules.{rules}
 use Rattle.builder.proofs.allocation.roles.short_start.Goals as goal
 
 pub returns-in-Nothing : goal.returns-in-Nothing

@@ -2,7 +2,6 @@ use mathlib.Core.Path.{sym, ◌∙◌}
 use Rattle.area.specs.Listing.{found_as}
 use Rattle.builder.proofs.laws.Flats.{number_fits}
 use Rattle.builder.proofs.laws.RoleErrors.{number_calls, errors_number, errors_short, errors_nothing}
-use borrow.Author.Rules.{rules}
 use Rattle.builder.proofs.allocation.roles.start_error.Goals as goal
 
 pub number_error-requires : goal.number_error-requires

@@ -5,7 +5,6 @@ use native.Mathlib.Omega.{arith}
 use Rattle.ast.specs.Nodes.{kind_at}
 use Rattle.area.specs.Sections.{area_nodes}
 use Rattle.builder.proofs.laws.LeftSides.{entry_below, call_name, call_arg, start_other, start_unknown, start_untimed, start_short, start_number_lem, start_no_number}
-use borrow.Author.Rules.{rules}
 use Rattle.builder.proofs.allocation.roles.start_of.Goals as goal
 
 pub returns-then-node_of-ne-CALL_KIND : goal.returns-then-node_of-ne-CALL_KIND

@@ -3,7 +3,6 @@ use mathlib.Core.Path.{◌≡◌, sym, ◌∙◌}
 use Prim.Native.Nat.{◌+◌, ◌*◌, ◌%◌}
 use native.Mathlib.Omega.{arith}
 use Rattle.builder.proofs.laws.Flats.{number_fits, role_lower, role_wrong, role_short, role_nothing}
-use borrow.Author.Rules.{rules}
 use Rattle.builder.proofs.allocation.roles.start_role.Goals as goal
 
 pub overflow_sub-arg : goal.overflow_sub-arg

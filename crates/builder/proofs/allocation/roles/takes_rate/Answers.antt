@@ -1,6 +1,5 @@
 use mathlib.Core.Path.{sym}
 use Rattle.builder.proofs.laws.Flats.{rate_at}
-use borrow.Author.Rules.{rules}
 use Rattle.builder.proofs.allocation.roles.takes_rate.Goals as goal
 
 pub returns : goal.returns

@@ -3,7 +3,6 @@ use Prim.Native.Nat.{◌≤◌}
 use native.Mathlib.Omega.{arith}
 use lib.ListN.{length}
 use Rattle.builder.proofs.laws.PairedStates.{paired_few, flattened_long, roles_long, left_by, states_by, fated_by_lem}
-use borrow.Author.Rules.{rules}
 use Rattle.builder.proofs.allocation.statements.allocate_stmts.Goals as goal
 
 pub write_fates-requires : goal.write_fates-requires

@@ -1,5 +1,4 @@
 use Rattle.builder.proofs.laws.Open.{models_long}
-use borrow.Author.Rules.{rules}
 use Rattle.builder.proofs.errors.all.models_errors.Goals as goal
 
 pub builder-requires : goal.builder-requires

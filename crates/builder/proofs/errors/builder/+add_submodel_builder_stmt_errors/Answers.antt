@@ -1,22 +1,17 @@
 -- `builder::builder::builder` and the two functions that it calls in turn meet their contracts: statement by statement, a submodel's by the model that it calls. The measure is three times the depth, and one or two more for a statement.
 use mathlib.Core.Path.{refl, sym, ap, ◌∙◌}
 use mathlib.Core.List.{[]}
-use Prim.Native.Nat.{ℕ, ◌+◌, ◌-◌, ◌*◌, ◌≤◌, ◌<◌}
+use Prim.Native.Nat.{◌+◌, ◌-◌}
 use native.Mathlib.Omega.{arith}
-use lib.ListN.{length, take}
-use Rattle.functions.specs.Lists.{each}
+use lib.ListN.{length}
 use Rattle.ast.specs.Opens.{file_in}
 use Rattle.definitions.specs.Flatten.{model_at, stmt_errors, errors_of}
-use Rattle.area.specs.Listing.{Lists}
 use Rattle.builder.specs.Checking.{scope_in, stmt_in}
 use Rattle.area.proofs.Listings.{lists_none, lists_then, room_first, room_then, length_listed}
 use Rattle.builder.proofs.laws.Runs.{stmts_below}
 use Rattle.builder.proofs.laws.Calling.{entry_below}
 use Rattle.builder.proofs.laws.Calls.{call_args}
 use Rattle.builder.proofs.laws.ModelErrors.{run_begins, run_room, run_goes, run_ends, stmt_here, stmt_there, stmts_past, errors_none, errors_more, against, not_three, own_same, call_in, any_scope, submodel_missing_lem, submodel_found}
-use Rattle.builder.proofs.errors.builder.add_submodel.Reads as add-submodel
-use Rattle.builder.proofs.errors.builder.builder.Reads as builder
-use Rattle.builder.proofs.errors.builder.stmt_errors.Reads as stmt_errors_lem
 use Rattle.builder.proofs.errors.builder.+add_submodel_builder_stmt_errors.Goals as goal
 
 pub add_submodel-bounds-callees-q : goal.add_submodel-bounds-callees-q

@@ -3,7 +3,6 @@ use mathlib.Core.Path.{sym, ◌∙◌}
 use native.Mathlib.Omega.{arith}
 use Rattle.area.specs.Listing.{found_as}
 use Rattle.builder.proofs.laws.ModelErrors.{domain_none, domain_range, domain_small, domain_named}
-use borrow.Author.Rules.{rules}
 use Rattle.builder.proofs.errors.builder.domain_error.Goals as goal
 
 pub bounds-classes-name : goal.bounds-classes-name

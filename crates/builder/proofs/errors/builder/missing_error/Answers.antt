@@ -4,7 +4,6 @@ use native.Mathlib.Omega.{arith}
 use Rattle.ast.specs.Words.{span_from}
 use Rattle.area.specs.Listing.{found_as}
 use Rattle.builder.proofs.laws.ModelErrors.{call_in, call_named}
-use borrow.Author.Rules.{rules}
 use Rattle.builder.proofs.errors.builder.missing_error.Goals as goal
 
 pub node-name-requires : goal.node-name-requires

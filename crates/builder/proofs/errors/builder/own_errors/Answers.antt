@@ -5,7 +5,6 @@ use native.Mathlib.Omega.{arith}
 use Rattle.builder.specs.Checking.{scope_in}
 use Rattle.area.proofs.Listings.{lists_then, room_first, room_then}
 use Rattle.builder.proofs.laws.ModelErrors.{right_in, left_in_lem, an_equation, rate_errors_lem, equation_errors, right_first_lem}
-use borrow.Author.Rules.{rules}
 use Rattle.builder.proofs.errors.builder.own_errors.Goals as goal
 
 pub check_expr-own-requires : goal.check_expr-own-requires

@@ -2,7 +2,6 @@
 use native.Mathlib.Omega.{arith}
 use Rattle.area.proofs.Listings.{lists_then, room_then}
 use Rattle.builder.proofs.laws.ModelErrors.{unknown_small, unknown_more}
-use borrow.Author.Rules.{rules}
 use Rattle.builder.proofs.errors.builder.unknown_errors.Goals as goal
 
 pub domain_error-requires : goal.domain_error-requires

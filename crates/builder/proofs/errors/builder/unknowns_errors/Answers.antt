@@ -1,13 +1,11 @@
 -- `builder::builder::unknowns_errors` meets its contract: unknown by unknown.
 use mathlib.Core.Path.{ap, ◌∙◌}
-use Prim.Native.Nat.{◌+◌, ◌-◌, ◌≤◌}
+use Prim.Native.Nat.{◌+◌}
 use native.Mathlib.Omega.{arith}
-use lib.ListN.{length, take}
-use Rattle.functions.specs.Lists.{each}
+use lib.ListN.{length}
 use Rattle.ast.specs.Opens.{file_in}
 use Rattle.definitions.specs.Variables.{unknown_errors}
 use Rattle.definitions.specs.Flatten.{model_at}
-use Rattle.area.specs.Listing.{Lists}
 use Rattle.builder.specs.Checking.{unknown_in}
 use Rattle.area.proofs.Listings.{length_listed}
 use Rattle.builder.proofs.laws.Runs.{unknowns_below}

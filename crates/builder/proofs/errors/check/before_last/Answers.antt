@@ -2,7 +2,6 @@
 use mathlib.Core.Path.{refl}
 use native.Mathlib.Omega.{arith}
 use Rattle.builder.proofs.laws.Checks.{arg_last, arg_within}
-use borrow.Author.Rules.{rules}
 use Rattle.builder.proofs.errors.check.before_last.Goals as goal
 
 pub overflow_sub-run : goal.overflow_sub-run

@@ -2,7 +2,6 @@
 use native.Mathlib.Omega.{arith}
 use Rattle.builder.proofs.laws.Calls.{call_small, call_args, call_built_in, call_other}
 use Rattle.area.proofs.Listings.{lists_then, room_then}
-use borrow.Author.Rules.{rules}
 use Rattle.builder.proofs.errors.check.call_errors.Goals as goal
 
 pub node_word-name-requires : goal.node_word-name-requires

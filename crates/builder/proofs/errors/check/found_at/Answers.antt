@@ -3,7 +3,6 @@ use mathlib.Core.Path.{refl}
 use Rattle.functions.specs.Lists.{unless}
 use Rattle.ast.specs.Words.{span_from}
 use Rattle.area.specs.Listing.{found_as}
-use borrow.Author.Rules.{rules}
 use Rattle.builder.proofs.errors.check.found_at.Goals as goal
 
 pub returns-then-passed : goal.returns-then-passed

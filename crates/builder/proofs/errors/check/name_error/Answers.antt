@@ -1,6 +1,5 @@
 -- `builder::check::name_error` meets its contract: by the entry of the name.
 use Rattle.builder.specs.Checking.{name_absent}
-use borrow.Author.Rules.{rules}
 use Rattle.builder.proofs.errors.check.name_error.Goals as goal
 
 pub returns : goal.returns

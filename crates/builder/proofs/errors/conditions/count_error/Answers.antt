@@ -1,7 +1,6 @@
 use mathlib.Core.Path.{sym, ◌∙◌}
 use Rattle.area.specs.Listing.{found_as}
 use Rattle.builder.proofs.laws.StartingLaws.{count_same, count_under, count_over}
-use borrow.Author.Rules.{rules}
 use Rattle.builder.proofs.errors.conditions.count_error.Goals as goal
 
 pub returns-then-left : goal.returns-then-left

@@ -1,10 +1,7 @@
-use mathlib.Core.Path.{◌≡◌, refl, sym, ◌∙◌}
-use Prim.Native.Nat.{◌-◌, ◌≤◌}
+use mathlib.Core.Path.{refl, sym, ◌∙◌}
 use native.Mathlib.Omega.{arith}
-use lib.ListN.{drop}
-use Rattle.functions.specs.Lists.{place, place_from, plus_one}
-use Rattle.area.specs.Sections.{deps_at, area_stmts}
-use Rattle.builder.specs.Fating.{is_fated}
+use Rattle.functions.specs.Lists.{place}
+use Rattle.area.specs.Sections.{deps_at}
 use Rattle.builder.proofs.laws.StartingLaws.{condition_here, condition_behind, condition_none}
 use Rattle.builder.proofs.errors.conditions.first_condition.Goals as goal
 

@@ -1,11 +1,9 @@
-use mathlib.Core.Path.{◌≡◌, refl, sym, ◌∙◌}
+use mathlib.Core.Path.{◌≡◌}
 use Prim.Native.Nat.{◌-◌, ◌≤◌}
-use native.Mathlib.Omega.{arith}
 use lib.ListN.{drop}
 use Rattle.functions.specs.Lists.{place, place_from, plus_one}
-use Rattle.area.specs.Sections.{deps_at, area_stmts}
+use Rattle.area.specs.Sections.{area_stmts}
 use Rattle.builder.specs.Fating.{is_fated}
-use Rattle.builder.proofs.laws.StartingLaws.{condition_here, condition_behind, condition_none}
 use Rattle.builder.proofs.errors.conditions.first_condition.Given as goal
 
 abbrev pub invariant-loop-i : goal.invariant-loop-i

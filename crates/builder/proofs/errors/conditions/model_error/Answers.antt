@@ -2,7 +2,6 @@ use mathlib.Core.Path.{refl}
 use Rattle.ast.specs.Words.{span_from}
 use Rattle.area.specs.Listing.{found_as}
 use Rattle.builder.proofs.laws.StartingLaws.{model_span}
-use borrow.Author.Rules.{rules}
 use Rattle.builder.proofs.errors.conditions.model_error.Goals as goal
 
 pub returns : goal.returns

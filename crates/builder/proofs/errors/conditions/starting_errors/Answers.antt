@@ -1,12 +1,5 @@
 use mathlib.Core.Path.{◌≡◌}
-use Prim.Native.Nat.{◌-◌, ◌≤◌}
 use native.Mathlib.Omega.{arith}
-use Rattle.ast.specs.Opens.{file_in}
-use Rattle.definitions.specs.Flatten.{model_at}
-use Rattle.area.specs.Sections.{area_nodes, area_stmts}
-use Rattle.area.specs.Listing.{Lists}
-use Rattle.builder.specs.Allocating.{names_in}
-use Rattle.builder.specs.Starting.{starting_in}
 use Rattle.area.proofs.Listings.{lists_none}
 use Rattle.builder.proofs.laws.StartingLaws.{lists_length, starting_none, starting_next, starting_few}
 use Rattle.builder.proofs.errors.conditions.starting_errors.Goals as goal

@@ -11,7 +11,6 @@ use Rattle.area.specs.Listing.{found_as}
 use Rattle.builder.specs.Fating.{is_fated}
 use Rattle.builder.proofs.laws.HeldSteps.{place_few}
 use Rattle.builder.proofs.laws.StartingLaws.{state_bare, state_lacks, state_free, state_algebraic, state_starts}
-use borrow.Author.Rules.{rules}
 use Rattle.builder.proofs.errors.conditions.state_error.Goals as goal
 
 pub returns-then-held-eq0 : goal.returns-then-held-eq0

@@ -1,9 +1,7 @@
 -- `instances` and `stmt_instances` meet their contracts. The loop's invariant: the total is that of the statements passed, at most the most. The measure goes by the depth.
-use mathlib.Core.Path.{◌≡◌, sym, ap, ◌∙◌}
-use Prim.Native.Nat.{ℕ, ◌+◌, ◌-◌, ◌*◌, ◌≤◌, ◌<◌}
+use mathlib.Core.Path.{sym, ap, ◌∙◌}
+use Prim.Native.Nat.{ℕ, ◌+◌, ◌-◌}
 use native.Mathlib.Omega.{arith}
-use lib.ListN.{take}
-use Rattle.functions.specs.Lists.{sum_of}
 use Rattle.ast.specs.Opens.{file_in}
 use Rattle.ast.specs.Rows.{at_most}
 use Rattle.ast.proofs.Capped.{at_most_le, at_most_zero, at_most_none, at_most_one}
@@ -13,8 +11,6 @@ use Rattle.builder.proofs.laws.Amounts.{called_instances, at_most_add, sum_none,
 use Rattle.builder.proofs.laws.Calling.{callee_below}
 use Rattle.builder.proofs.laws.Open.{models_long}
 use Rattle.builder.proofs.laws.OpenRecords.{model_is}
-use Rattle.builder.proofs.extent.counts.instances.Reads as instances
-use Rattle.builder.proofs.extent.counts.stmt_instances.Reads as stmt-instances
 use Rattle.builder.proofs.extent.counts.+instances_stmt_instances.Goals as goal
 
 pub instances-returns-then-k-eq0 : goal.instances-returns-then-k-eq0

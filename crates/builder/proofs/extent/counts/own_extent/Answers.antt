@@ -1,6 +1,5 @@
 use mathlib.Core.List.{[]}
 use native.Mathlib.Omega.{arith}
-use borrow.Author.Rules.{rules}
 use Rattle.ast.proofs.Capped.{at_most_le}
 use Rattle.ast.specs.Rows.{at_most}
 use Rattle.builder.proofs.laws.Extents.{own_extended}

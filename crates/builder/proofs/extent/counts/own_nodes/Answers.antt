@@ -3,7 +3,6 @@ use native.Mathlib.Omega.{arith}
 use Rattle.ast.proofs.Capped.{at_most_le}
 use Rattle.builder.proofs.laws.OpenStmts.{is_equation, equation_sides}
 use Rattle.builder.proofs.laws.Descents.{readable, rate_counted, equation_counted}
-use borrow.Author.Rules.{rules}
 use Rattle.builder.proofs.laws.OpenRecords.{stmt_is}
 use Rattle.builder.proofs.extent.counts.own_nodes.Goals as goal
 

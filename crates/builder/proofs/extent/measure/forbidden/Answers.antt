@@ -3,7 +3,6 @@ use mathlib.Core.Path.{sym, ◌∙◌}
 use Rattle.ast.specs.Opens.{file_in}
 use Rattle.builder.proofs.laws.Reasons.{cyclic_reason, self_listed_reason, overfull_reason}
 use Rattle.builder.proofs.laws.Measures.{forbids_cycle, forbids_self_listed, forbids_beyond, forbids_none}
-use borrow.Author.Rules.{rules}
 use Rattle.builder.proofs.extent.measure.forbidden.Goals as goal
 
 pub returns-then-any_reason : goal.returns-then-any_reason

@@ -1,6 +1,5 @@
 use Rattle.ast.specs.Opens.{file_in}
 use Rattle.builder.proofs.laws.Measures.{measured_forbidden, measured_size}
-use borrow.Author.Rules.{rules}
 use Rattle.builder.proofs.extent.measure.measure.Goals as goal
 
 pub returns-then-number-ne0 : goal.returns-then-number-ne0

@@ -2,7 +2,6 @@ use native.Mathlib.Omega.{arith}
 use Rattle.ast.specs.Opens.{contents_in, file_in}
 use Rattle.builder.proofs.laws.Open.{models_long}
 use Rattle.builder.proofs.laws.Measures.{over_instances, over_flat, sized}
-use borrow.Author.Rules.{rules}
 use Rattle.builder.proofs.laws.FlatsLaid.{rows_root, rows_still}
 use Rattle.builder.proofs.extent.measure.size.Goals as goal
 

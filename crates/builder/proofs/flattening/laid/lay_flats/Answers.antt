@@ -1,7 +1,6 @@
 -- the entry
 use native.Mathlib.Omega.{arith}
 use Rattle.builder.proofs.laws.FlatsLaid.{rows_root, flats_room, flats_laid}
-use borrow.Author.Rules.{rules}
 use Rattle.builder.proofs.flattening.laid.lay_flats.Goals as goal
 
 pub overflow_mul-none : goal.overflow_mul-none

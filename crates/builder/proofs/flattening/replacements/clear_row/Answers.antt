@@ -1,7 +1,7 @@
 use native.Mathlib.Omega.{arith}
 use mathlib.Core.Path.{◌≡◌, refl}
-use Prim.Native.Nat.{◌-◌, ◌≤◌, ◌<◌}
-use lib.ListN.{length, take, drop, replicate, length-set}
+use Prim.Native.Nat.{◌<◌}
+use lib.ListN.{length, length-set}
 use Rattle.area.proofs.HandedOut.{drop_step}
 use Rattle.builder.proofs.laws.Replacing.{zeros_more, zeros_front}
 use Rattle.builder.proofs.flattening.replacements.clear_row.Goals as goal

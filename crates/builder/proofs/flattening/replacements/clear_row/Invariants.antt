@@ -1,9 +1,6 @@
-use native.Mathlib.Omega.{arith}
-use mathlib.Core.Path.{◌≡◌, refl}
-use Prim.Native.Nat.{◌-◌, ◌≤◌, ◌<◌}
-use lib.ListN.{length, take, drop, replicate, length-set}
-use Rattle.area.proofs.HandedOut.{drop_step}
-use Rattle.builder.proofs.laws.Replacing.{zeros_more, zeros_front}
+use mathlib.Core.Path.{◌≡◌}
+use Prim.Native.Nat.{◌-◌, ◌≤◌}
+use lib.ListN.{length, take, drop, replicate}
 use Rattle.builder.proofs.flattening.replacements.clear_row.Given as goal
 
 abbrev pub invariant-loop-i : goal.invariant-loop-i

@@ -1,6 +1,5 @@
-use borrow.Author.Rules.{rules}
 use native.Mathlib.Omega.{arith}
-use Rattle.builder.proofs.laws.Replacing.{Filling, filling_start, filling_last, filling_step, filling_end}
+use Rattle.builder.proofs.laws.Replacing.{filling_start, filling_last, filling_step, filling_end}
 use Rattle.builder.proofs.flattening.replacements.fill_row.Goals as goal
 
 pub loop-left-init : goal.loop-left-init

@@ -1,6 +1,4 @@
-use borrow.Author.Rules.{rules}
-use native.Mathlib.Omega.{arith}
-use Rattle.builder.proofs.laws.Replacing.{Filling, filling_start, filling_last, filling_step, filling_end}
+use Rattle.builder.proofs.laws.Replacing.{Filling}
 use Rattle.builder.proofs.flattening.replacements.fill_row.Given as goal
 
 abbrev pub invariant-loop-left : goal.invariant-loop-left

@@ -1,7 +1,6 @@
 use native.Mathlib.Omega.{arith}
 use Rattle.builder.proofs.laws.OpenStmts.{names_few}
 use Rattle.builder.proofs.laws.Replacing.{cleared}
-use borrow.Author.Rules.{rules}
 use Rattle.builder.proofs.flattening.replacements.new_row.Goals as goal
 
 pub clear_row-requires : goal.clear_row-requires

@@ -4,7 +4,6 @@ use Prim.Native.Nat.{◌-◌, ◌<◌}
 use lib.ListN.{length}
 use Rattle.builder.proofs.laws.OpenStmts.{names_few}
 use Rattle.builder.proofs.laws.Replacing.{argument_keyword, argument_child, noted, noted_none, noted_in, noted_length}
-use borrow.Author.Rules.{rules}
 use Rattle.builder.proofs.flattening.replacements.note_argument.Goals as goal
 
 pub target-name-requires : goal.target-name-requires

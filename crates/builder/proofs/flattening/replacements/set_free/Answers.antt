@@ -3,7 +3,6 @@ use mathlib.Core.Bool.{true, false}
 use lib.Dec.{eqb}
 use lib.ListN.{get_or}
 use borrow.Author.Tests.{eq-eqb, ne_eqb}
-use borrow.Author.Rules.{rules}
 use Rattle.builder.proofs.flattening.replacements.set_free.Goals as goal
 
 pub returns-then-row-j-eq0 : goal.returns-then-row-j-eq0

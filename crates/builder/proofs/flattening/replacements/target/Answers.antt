@@ -1,6 +1,5 @@
 use native.Mathlib.Omega.{arith}
 use Rattle.builder.proofs.laws.Replacing.{target_keyword, target_unknown, target_beyond}
-use borrow.Author.Rules.{rules}
 use Rattle.builder.proofs.laws.OpenRecords.{model_is}
 use Rattle.builder.proofs.flattening.replacements.target.Goals as goal
 

@@ -1,5 +1,4 @@
 use mathlib.Core.Path.{refl, sym, ◌∙◌}
-use borrow.Author.Rules.{rules}
 use native.Mathlib.Omega.{arith}
 use lib.ListN.{get_or}
 use Rattle.ast.specs.Rows.{levels_of}
@@ -7,11 +6,9 @@ use Rattle.ast.specs.Opens.{contents_in, file_in}
 use Rattle.definitions.specs.Flatten.{flatten}
 use Rattle.builder.proofs.laws.OpenStmts.{submodel_call, called_some, called_within}
 use Rattle.builder.proofs.laws.Descents.{either_zero, neither_zero, kept_less, flat_zero, brought_none, calls_model, deeper}
-use Rattle.builder.proofs.laws.Writing.{Writing, writing_start, writing_room, writing_step, writing_end, nothing_put, fits_same, put_same}
-use Prim.Native.Nat.{ℕ, ◌+◌, ◌*◌, ◌-◌, ◌<◌}
+use Rattle.builder.proofs.laws.Writing.{writing_start, writing_room, writing_step, writing_end, nothing_put, fits_same, put_same}
+use Prim.Native.Nat.{◌+◌, ◌*◌}
 use Rattle.builder.proofs.laws.OpenRecords.{model_is}
-use Rattle.builder.proofs.flattening.statements.write_stmt.Reads as write-stmt
-use Rattle.builder.proofs.flattening.statements.write_flats.Reads as write-flats
 use Rattle.builder.proofs.flattening.statements.+write_flats_write_stmt.Goals as goal
 
 pub write_flats-returns-then-k-eq0 : goal.write_flats-returns-then-k-eq0

@@ -1,6 +1,5 @@
 use native.Mathlib.Omega.{arith}
 use Rattle.ast.proofs.Fronts.{lent_put}
-use borrow.Author.Rules.{rules}
 use Rattle.builder.proofs.flattening.statements.record_at.Goals as goal
 
 pub returns : goal.returns

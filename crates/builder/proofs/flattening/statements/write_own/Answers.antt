@@ -13,7 +13,6 @@ use Rattle.builder.proofs.laws.OpenRecords.{stmt_is}
 use Rattle.builder.proofs.laws.Descents.{expr_at_lem}
 use Rattle.builder.proofs.laws.Putting.{tree_long}
 use Rattle.builder.proofs.laws.Writing.{OneFits, rate_room, equation_room, rate_written, equation_written}
-use borrow.Author.Rules.{rules}
 use Rattle.builder.proofs.flattening.statements.write_own.Goals as goal
 
 pub overflow_add-end : goal.overflow_add-end

@@ -3,7 +3,6 @@ use native.Mathlib.Omega.{arith}
 use lib.ListN.{length-take, length-drop}
 use Rattle.builder.proofs.laws.Descents.{readable}
 use Rattle.builder.proofs.laws.Putting.{bearing_size, tree_put}
-use borrow.Author.Rules.{rules}
 use Rattle.builder.proofs.flattening.statements.write_tree.Goals as goal
 
 pub clone_and_subst-requires : goal.clone_and_subst-requires

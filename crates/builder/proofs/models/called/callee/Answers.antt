@@ -8,7 +8,6 @@ use Rattle.ast.specs.Opens.{contents_in, file_in}
 use Rattle.definitions.specs.Flatten.{model_named}
 use Rattle.builder.proofs.laws.Open.{stmt_record}
 use Rattle.builder.proofs.laws.Finding.{named_below, callee_none, callee_some}
-use borrow.Author.Rules.{rules}
 use Rattle.builder.proofs.laws.OpenRecords.{stmt_is}
 use Rattle.builder.proofs.models.called.callee.Goals as goal
 

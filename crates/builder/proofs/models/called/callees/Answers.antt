@@ -1,11 +1,6 @@
 use mathlib.Core.Path.{refl}
-use Prim.Native.Nat.{◌-◌, ◌≤◌}
 use native.Mathlib.Omega.{arith}
-use Rattle.ast.specs.Records.{stmt_of}
-use Rattle.ast.specs.Opens.{contents_in, file_in}
-use Rattle.builder.specs.Tables.{callee_of}
-use Rattle.builder.proofs.laws.Filled.{Filled, filled_none, filled_more}
-use Rattle.builder.proofs.laws.Open.{stmt_record}
+use Rattle.builder.proofs.laws.Filled.{filled_none, filled_more}
 use Rattle.builder.proofs.models.called.callees.Goals as goal
 
 pub loop-q-init : goal.loop-q-init

@@ -1,10 +1,8 @@
-use mathlib.Core.Path.{refl}
 use Prim.Native.Nat.{◌-◌, ◌≤◌}
-use native.Mathlib.Omega.{arith}
 use Rattle.ast.specs.Records.{stmt_of}
 use Rattle.ast.specs.Opens.{contents_in, file_in}
 use Rattle.builder.specs.Tables.{callee_of}
-use Rattle.builder.proofs.laws.Filled.{Filled, filled_none, filled_more}
+use Rattle.builder.proofs.laws.Filled.{Filled}
 use Rattle.builder.proofs.laws.Open.{stmt_record}
 use Rattle.builder.proofs.models.called.callees.Given as goal
 

@@ -1,11 +1,9 @@
-use mathlib.Core.Path.{◌≡◌, refl, sym, ap, ◌∙◌}
-use Prim.Native.Nat.{ℕ, ◌-◌, ◌≤◌}
+use mathlib.Core.Path.{refl, sym, ap, ◌∙◌}
+use Prim.Native.Nat.{ℕ}
 use native.Mathlib.Omega.{arith}
 use borrow.Author.Tests.{eq-eqb, ne_eqb}
 use lib.Dec.{eqb}
-use lib.ListN.{drop}
-use Rattle.functions.specs.Lists.{place, place_from, plus_one}
-use Rattle.ast.specs.Opens.{file_in}
+use Rattle.functions.specs.Lists.{place, plus_one}
 use Rattle.definitions.specs.Flatten.{model_named}
 use Rattle.builder.proofs.laws.Finding.{find_yes, find_no, find_end, is_named, named_test}
 use Rattle.builder.proofs.models.called.find_model.Goals as goal

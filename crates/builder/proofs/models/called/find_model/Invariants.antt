@@ -1,13 +1,10 @@
-use mathlib.Core.Path.{◌≡◌, refl, sym, ap, ◌∙◌}
-use Prim.Native.Nat.{ℕ, ◌-◌, ◌≤◌}
-use native.Mathlib.Omega.{arith}
-use borrow.Author.Tests.{eq-eqb, ne_eqb}
-use lib.Dec.{eqb}
+use mathlib.Core.Path.{◌≡◌}
+use Prim.Native.Nat.{◌-◌, ◌≤◌}
 use lib.ListN.{drop}
-use Rattle.functions.specs.Lists.{place, place_from, plus_one}
+use Rattle.functions.specs.Lists.{place_from}
 use Rattle.ast.specs.Opens.{file_in}
 use Rattle.definitions.specs.Flatten.{model_named}
-use Rattle.builder.proofs.laws.Finding.{find_yes, find_no, find_end, is_named, named_test}
+use Rattle.builder.proofs.laws.Finding.{is_named}
 use Rattle.builder.proofs.models.called.find_model.Given as goal
 
 abbrev pub invariant-loop-m : goal.invariant-loop-m

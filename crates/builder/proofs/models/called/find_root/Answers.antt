@@ -1,9 +1,6 @@
-use mathlib.Core.Path.{◌≡◌, refl, sym, ap, ◌∙◌}
-use Prim.Native.Nat.{◌-◌, ◌≤◌}
+use mathlib.Core.Path.{refl, sym, ap, ◌∙◌}
 use native.Mathlib.Omega.{arith}
-use borrow.Author.Rules.{rules}
-use lib.ListN.{drop}
-use Rattle.functions.specs.Lists.{same_text, place, place_from, plus_one}
+use Rattle.functions.specs.Lists.{same_text, place, plus_one}
 use Rattle.ast.specs.Opens.{file_in}
 use Rattle.definitions.specs.Names.{text_of}
 use Rattle.definitions.specs.Build.{root_of}

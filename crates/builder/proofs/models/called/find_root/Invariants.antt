@@ -1,14 +1,10 @@
-use mathlib.Core.Path.{◌≡◌, refl, sym, ap, ◌∙◌}
+use mathlib.Core.Path.{◌≡◌}
 use Prim.Native.Nat.{◌-◌, ◌≤◌}
-use native.Mathlib.Omega.{arith}
-use borrow.Author.Rules.{rules}
 use lib.ListN.{drop}
-use Rattle.functions.specs.Lists.{same_text, place, place_from, plus_one}
+use Rattle.functions.specs.Lists.{place_from}
 use Rattle.ast.specs.Opens.{file_in}
-use Rattle.definitions.specs.Names.{text_of}
 use Rattle.definitions.specs.Build.{root_of}
-use Rattle.builder.proofs.laws.Finding.{find_yes, find_no, find_end, is_root_name, root_test}
-use Rattle.builder.proofs.laws.OpenRecords.{model_is}
+use Rattle.builder.proofs.laws.Finding.{is_root_name}
 use Rattle.builder.proofs.models.called.find_root.Given as goal
 
 abbrev pub invariant-loop-m : goal.invariant-loop-m

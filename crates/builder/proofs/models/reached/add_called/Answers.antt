@@ -2,7 +2,6 @@
 use native.Mathlib.Omega.{arith}
 use Rattle.builder.proofs.laws.Calling.{entry_below, entry_few}
 use Rattle.builder.proofs.laws.Rounds.{called_none, called_one}
-use borrow.Author.Rules.{rules}
 use Rattle.builder.proofs.models.reached.add_called.Goals as goal
 
 pub overflow_cast-c : goal.overflow_cast-c

@@ -1,10 +1,8 @@
 use mathlib.Core.Path.{◌≡◌, ◌∙◌}
-use Prim.Native.Nat.{◌+◌, ◌-◌, ◌*◌, ◌≤◌}
+use Prim.Native.Nat.{◌+◌, ◌*◌}
 use native.Mathlib.Omega.{arith}
-use borrow.Author.Rules.{rules}
 use lib.Dec.{eqb}
 use lib.ListN.{get_or, length-set}
-use Rattle.builder.specs.Rounds.{Added}
 use Rattle.builder.proofs.laws.Rounds.{added_none, added_more, added_last}
 use Rattle.builder.proofs.models.reached.add_reached.Goals as goal
 

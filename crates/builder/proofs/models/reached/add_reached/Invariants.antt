@@ -1,11 +1,7 @@
-use mathlib.Core.Path.{◌≡◌, ◌∙◌}
 use Prim.Native.Nat.{◌+◌, ◌-◌, ◌*◌, ◌≤◌}
-use native.Mathlib.Omega.{arith}
-use borrow.Author.Rules.{rules}
 use lib.Dec.{eqb}
-use lib.ListN.{get_or, length-set}
+use lib.ListN.{get_or}
 use Rattle.builder.specs.Rounds.{Added}
-use Rattle.builder.proofs.laws.Rounds.{added_none, added_more, added_last}
 use Rattle.builder.proofs.models.reached.add_reached.Given as goal
 
 abbrev pub invariant-loop-b : goal.invariant-loop-b

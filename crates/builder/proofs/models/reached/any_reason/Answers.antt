@@ -1,9 +1,7 @@
-use mathlib.Core.Path.{◌≡◌, sym, ◌∙◌}
-use Prim.Native.Nat.{◌≤◌}
+use mathlib.Core.Path.{sym, ◌∙◌}
 use native.Mathlib.Omega.{arith}
 use Rattle.ast.specs.Opens.{file_in}
-use Rattle.definitions.specs.Flatten as flatten
-use Rattle.builder.specs.Reasons.{is_reason, any_reason}
+use Rattle.builder.specs.Reasons.{is_reason}
 use Rattle.builder.proofs.laws.Reasons.{reason_counted}
 use Rattle.builder.proofs.laws.Refusals.{reached_by, reached_done}
 use Rattle.builder.proofs.models.reached.any_reason.Goals as goal

@@ -1,10 +1,8 @@
-use mathlib.Core.Path.{◌≡◌, sym, ◌∙◌}
-use Prim.Native.Nat.{◌-◌, ◌≤◌, ℕ}
+use mathlib.Core.Path.{sym, ◌∙◌}
+use Prim.Native.Nat.{◌-◌}
 use native.Mathlib.Omega.{arith}
-use mathlib.Core.Bool.{true}
-use Rattle.ast.specs.Nodes.{op_at, size_at, args_fit, args_before}
+use Rattle.ast.specs.Nodes.{size_at}
 use Rattle.ast.specs.Opens.{contents_in}
-use Rattle.definitions.specs.Flatten as flatten
 use Rattle.builder.proofs.laws.OpenRecords.{call_args, arg_here}
 use Rattle.builder.proofs.laws.Refusals.{beyond_yes, beyond_no, beyond_done}
 use Rattle.builder.proofs.models.reached.beyond.Goals as goal

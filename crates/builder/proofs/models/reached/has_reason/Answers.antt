@@ -1,11 +1,11 @@
 use mathlib.Core.Path.{◌≡◌, refl, sym, ap, ◌∙◌}
 use mathlib.Core.List.{[]}
-use Prim.Native.Nat.{ℕ, ◌+◌, ◌-◌, ◌≤◌}
+use Prim.Native.Nat.{ℕ, ◌+◌}
 use native.Mathlib.Omega.{arith}
 use lib.ListN.{get_or}
 use Rattle.ast.specs.Words.{word_of}
-use Rattle.ast.specs.Opens.{contents_in, file_in}
-use Rattle.builder.specs.Reasons.{run_word, has_reason}
+use Rattle.ast.specs.Opens.{contents_in}
+use Rattle.builder.specs.Reasons.{run_word}
 use Rattle.builder.proofs.laws.Reasons.{run_below, records_below, records_turn, records_done}
 use Rattle.builder.proofs.models.reached.has_reason.Goals as goal
 

@@ -1,12 +1,7 @@
-use mathlib.Core.Path.{◌≡◌, refl, sym, ap, ◌∙◌}
-use mathlib.Core.List.{[]}
-use Prim.Native.Nat.{ℕ, ◌+◌, ◌-◌, ◌≤◌}
-use native.Mathlib.Omega.{arith}
-use lib.ListN.{get_or}
-use Rattle.ast.specs.Words.{word_of}
-use Rattle.ast.specs.Opens.{contents_in, file_in}
-use Rattle.builder.specs.Reasons.{run_word, has_reason}
-use Rattle.builder.proofs.laws.Reasons.{run_below, records_below, records_turn, records_done}
+use mathlib.Core.Path.{◌≡◌}
+use Prim.Native.Nat.{◌-◌, ◌≤◌}
+use Rattle.ast.specs.Opens.{file_in}
+use Rattle.builder.specs.Reasons.{has_reason}
 use Rattle.builder.proofs.models.reached.has_reason.Given as goal
 
 abbrev pub invariant-loop-i : goal.invariant-loop-i

@@ -1,5 +1,4 @@
 use Rattle.builder.proofs.laws.Refusals.{reached_flag}
-use borrow.Author.Rules.{rules}
 use Rattle.builder.proofs.models.reached.is_reached.Goals as goal
 
 pub returns : goal.returns

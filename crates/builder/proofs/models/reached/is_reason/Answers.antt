@@ -2,7 +2,6 @@ use mathlib.Core.Path.{sym, ◌∙◌}
 use Rattle.ast.specs.Opens.{file_in}
 use Rattle.builder.proofs.laws.Reasons.{reason_cycle, reason_records}
 use Rattle.builder.proofs.laws.Refusals.{itself_flag}
-use borrow.Author.Rules.{rules}
 use Rattle.builder.proofs.models.reached.is_reason.Goals as goal
 
 pub returns-then-refusal-eq-MODEL_CYCLE : goal.returns-then-refusal-eq-MODEL_CYCLE

@@ -2,7 +2,6 @@
 use native.Mathlib.Omega.{arith}
 use Rattle.builder.proofs.laws.OpenRecords.{unknown_is}
 use Rattle.builder.proofs.laws.Refusals.{lists_itself_is}
-use borrow.Author.Rules.{rules}
 use Rattle.builder.proofs.models.reached.lists_itself.Goals as goal
 
 pub bounds-classes-name : goal.bounds-classes-name

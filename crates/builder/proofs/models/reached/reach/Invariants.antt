@@ -1,11 +1,8 @@
-use mathlib.Core.Path.{◌≡◌, refl, sym}
+use mathlib.Core.Path.{◌≡◌}
 use Prim.Native.Nat.{◌-◌, ◌≤◌}
-use native.Mathlib.Omega.{arith}
 use lib.ListN.{length}
 use Rattle.ast.specs.Opens.{file_in}
 use Rattle.builder.specs.Tables.{Reaching}
-use Rattle.builder.proofs.laws.OpenRecords.{long}
-use Rattle.builder.proofs.laws.Rounds.{reaching_none, stepped_done}
 use Rattle.builder.proofs.models.reached.reach.Given as goal
 
 abbrev pub invariant-loop-k : goal.invariant-loop-k

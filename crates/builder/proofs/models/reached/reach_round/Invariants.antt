@@ -1,9 +1,6 @@
-use mathlib.Core.Path.{◌≡◌, sym}
 use Prim.Native.Nat.{◌-◌, ◌≤◌}
-use native.Mathlib.Omega.{arith}
 use Rattle.ast.specs.Opens.{file_in}
 use Rattle.builder.specs.Rounds.{Stepped}
-use Rattle.builder.proofs.laws.Rounds.{stepped_none}
 use Rattle.builder.proofs.models.reached.reach_round.Given as goal
 
 abbrev pub invariant-loop-a : goal.invariant-loop-a

@@ -1,9 +1,6 @@
-use mathlib.Core.Path.{sym, ◌∙◌}
 use Prim.Native.Nat.{◌-◌, ◌≤◌}
-use native.Mathlib.Omega.{arith}
 use Rattle.ast.specs.Opens.{file_in}
-use Rattle.builder.proofs.laws.Runs.{stmts_below}
-use Rattle.builder.proofs.laws.Rounds.{Rowed, rowed_none, row_more, row_done}
+use Rattle.builder.proofs.laws.Rounds.{Rowed}
 use Rattle.builder.proofs.models.reached.reach_row.Given as goal
 
 abbrev pub invariant-loop-i : goal.invariant-loop-i

@@ -3,7 +3,6 @@ use native.Mathlib.Omega.{arith}
 use Rattle.ast.specs.Opens.{file_in}
 use Rattle.builder.proofs.laws.Calling.{entry_few, entry_below, call_is}
 use Rattle.builder.proofs.laws.Refusals.{entry_beyond, too_none}
-use borrow.Author.Rules.{rules}
 use Rattle.builder.proofs.models.reached.too_many.Goals as goal
 
 pub overflow_cast-c : goal.overflow_cast-c

@@ -6,14 +6,11 @@ use Rattle.builder.proofs.laws.ModelErrors.{unknown_here, unknown_there, unknown
 use Rattle.builder.proofs.laws.ScopeTables.{marks_begin, marks_next, marks_all, name_of}
 use mathlib.Core.Path.{sym, ◌∙◌}
 use mathlib.Core.List.{[], ◌∷◌}
-use Prim.Native.Nat.{◌+◌, ◌-◌, ◌≤◌}
+use Prim.Native.Nat.{◌+◌}
 use native.Mathlib.Omega.{arith}
-use lib.ListN.{take}
 use Rattle.ast.specs.Opens.{file_in}
 use Rattle.definitions.specs.Names.{time_name}
-use Rattle.definitions.specs.Variables.{declare}
 use Rattle.definitions.specs.Flatten.{model_at}
-use Rattle.builder.specs.Tables.{Marks}
 use Rattle.builder.proofs.models.scope.declared.Goals as goal
 
 pub time_declared-requires : goal.time_declared-requires

@@ -1,13 +1,5 @@
-use Rattle.builder.specs.Checking.{unknown_in}
-use Rattle.builder.proofs.laws.Open.{names_long}
-use Rattle.builder.proofs.laws.OpenRecords.{unknown_is}
-use Rattle.builder.proofs.laws.Runs.{unknowns_below}
-use Rattle.builder.proofs.laws.ModelErrors.{unknown_here, unknown_there, unknowns_past}
-use Rattle.builder.proofs.laws.ScopeTables.{marks_begin, marks_next, marks_all, name_of}
-use mathlib.Core.Path.{sym, ◌∙◌}
 use mathlib.Core.List.{[], ◌∷◌}
-use Prim.Native.Nat.{◌+◌, ◌-◌, ◌≤◌}
-use native.Mathlib.Omega.{arith}
+use Prim.Native.Nat.{◌-◌, ◌≤◌}
 use lib.ListN.{take}
 use Rattle.ast.specs.Opens.{file_in}
 use Rattle.definitions.specs.Names.{time_name}

@@ -1,9 +1,8 @@
 -- `builder::scope::is_dep_of` meets its contract. The loop's invariant: what is searched is found among the unknowns from place i on, if at all. Assumes nothing.
-use mathlib.Core.Path.{◌≡◌, refl, sym, ◌∙◌}
-use Prim.Native.Nat.{◌-◌, ◌≤◌, ◌<◌}
+use mathlib.Core.Path.{refl, sym, ◌∙◌}
+use Prim.Native.Nat.{◌<◌}
 use native.Mathlib.Omega.{arith}
-use lib.ListN.{length, drop}
-use Rattle.functions.specs.Lists.{any}
+use lib.ListN.{length}
 use Rattle.ast.specs.Opens.{file_in}
 use Rattle.definitions.specs.Flatten.{model_at}
 use Rattle.builder.proofs.laws.Dependents.{lists_as}

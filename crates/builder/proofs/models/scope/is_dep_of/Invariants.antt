@@ -1,15 +1,11 @@
 -- `builder::scope::is_dep_of` meets its contract. The loop's invariant: what is searched is found among the unknowns from place i on, if at all. Assumes nothing.
-use mathlib.Core.Path.{◌≡◌, refl, sym, ◌∙◌}
-use Prim.Native.Nat.{◌-◌, ◌≤◌, ◌<◌}
-use native.Mathlib.Omega.{arith}
-use lib.ListN.{length, drop}
+use mathlib.Core.Path.{◌≡◌}
+use Prim.Native.Nat.{◌-◌, ◌≤◌}
+use lib.ListN.{drop}
 use Rattle.functions.specs.Lists.{any}
 use Rattle.ast.specs.Opens.{file_in}
 use Rattle.definitions.specs.Flatten.{model_at}
 use Rattle.builder.proofs.laws.Dependents.{lists_as}
-use Rattle.builder.proofs.laws.Unknowns.{any_here, any_next, any_done, lists_at, kept_none, kept_listed}
-use Rattle.builder.proofs.laws.OpenUnknowns.{no_unknown}
-use Rattle.builder.proofs.laws.OpenRecords.{model_is}
 use Rattle.builder.proofs.models.scope.is_dep_of.Given as goal
 
 abbrev pub invariant-loop-i : goal.invariant-loop-i

@@ -1,12 +1,6 @@
-use mathlib.Core.Bool.{not}
-use lib.Dec.{eqb}
-use Rattle.ast.specs.Opens.{contents_in}
-use Rattle.builder.proofs.laws.OpenRecords.{unknown_is, dep_below}
-use Rattle.builder.proofs.laws.ScopeTables.{flag_small, kept_none, kept_next, kept_all}
-use mathlib.Core.Path.{◌≡◌, sym, ap, ◌∙◌}
-use Prim.Native.Nat.{ℕ, ◌+◌, ◌-◌, ◌≤◌}
-use native.Mathlib.Omega.{arith}
-use lib.ListN.{take, get_or}
+use mathlib.Core.Path.{◌≡◌}
+use Prim.Native.Nat.{◌-◌, ◌≤◌}
+use lib.ListN.{take}
 use Rattle.builder.specs.Tables.{kept_in}
 use Rattle.builder.specs.Checking.{unknown_in}
 use Rattle.builder.proofs.models.scope.kept_count.Given as goal

@@ -1,9 +1,7 @@
 use mathlib.Core.Path.{sym, ◌∙◌}
-use Prim.Native.Nat.{◌+◌, ◌-◌, ◌≤◌, ◌<◌}
+use Prim.Native.Nat.{◌+◌, ◌<◌}
 use native.Mathlib.Omega.{arith}
-use lib.ListN.{take}
 use Rattle.ast.specs.Opens.{file_in}
-use Rattle.definitions.specs.Variables.{variable_names}
 use Rattle.definitions.specs.Flatten.{model_at}
 use Rattle.builder.specs.Checking.{unknown_in}
 use Rattle.builder.specs.VariableTables.{unknowns_in, roster_in}
@@ -12,7 +10,7 @@ use Rattle.builder.proofs.laws.OpenRecords.{unknown_is, listed_below}
 use Rattle.builder.proofs.laws.PutWords.{kept_few}
 use Rattle.builder.proofs.laws.Runs.{unknowns_below}
 use Rattle.builder.proofs.laws.ModelErrors.{unknown_here, unknown_there, unknowns_past}
-use Rattle.builder.proofs.laws.ScopeTables.{Counted, counted_begin, counted_more, counted_next, counted_vars, counted_few, name_of}
+use Rattle.builder.proofs.laws.ScopeTables.{counted_begin, counted_more, counted_next, counted_vars, counted_few, name_of}
 use Rattle.builder.proofs.models.scope.model_vars.Goals as goal
 
 pub declared-requires : goal.declared-requires

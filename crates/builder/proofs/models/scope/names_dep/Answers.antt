@@ -1,11 +1,11 @@
 -- `builder::scope::names_dep` meets its contract. The loop's invariant: what is searched is found among the dependents from place i on, if at all. Assumes nothing.
-use mathlib.Core.Path.{◌≡◌, refl, sym, ◌∙◌}
-use Prim.Native.Nat.{◌-◌, ◌≤◌, ◌<◌}
+use mathlib.Core.Path.{refl, sym, ◌∙◌}
+use Prim.Native.Nat.{◌<◌}
 use native.Mathlib.Omega.{arith}
 use lib.Dec.{eqb}
-use lib.ListN.{length, drop}
+use lib.ListN.{length}
 use borrow.Author.Tests.{eq-eqb, ne_eqb}
-use Rattle.functions.specs.Lists.{any, member}
+use Rattle.functions.specs.Lists.{member}
 use Rattle.builder.specs.Checking.{unknown_in}
 use Rattle.builder.proofs.laws.Unknowns.{any_here, any_next, any_done, deps_at_lem}
 use Rattle.builder.proofs.laws.OpenRecords.{unknown_is}

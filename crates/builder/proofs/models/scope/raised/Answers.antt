@@ -1,6 +1,5 @@
 use borrow.Author.Tests.{eq-eqb, ne_eqb}
 use mathlib.Core.Path.{refl}
-use borrow.Author.Rules.{rules}
 use Rattle.builder.proofs.models.scope.raised.Goals as goal
 
 pub returns-then-entry-eq0 : goal.returns-then-entry-eq0

@@ -3,7 +3,6 @@ use native.Mathlib.Omega.{arith}
 use Rattle.ast.specs.Opens.{file_in}
 use Rattle.builder.proofs.laws.Open.{names_long}
 use Rattle.builder.proofs.laws.ScopeTables.{time_below, marks_none, marks_time}
-use borrow.Author.Rules.{rules}
 use Rattle.builder.proofs.models.scope.time_declared.Goals as goal
 
 pub offset_bounds-out-time : goal.offset_bounds-out-time

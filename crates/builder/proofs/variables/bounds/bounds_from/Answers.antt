@@ -1,7 +1,6 @@
 use mathlib.Core.Path.{refl}
 use Rattle.builder.specs.Bounding.{floats, bounds_from}
 use Rattle.definitions.specs.Variables.{from_zero, unbounded, infinity, minus_infinity}
-use borrow.Author.Rules.{rules}
 use Rattle.builder.proofs.variables.bounds.bounds_from.Goals as goal
 
 pub returns-then-floor : goal.returns-then-floor

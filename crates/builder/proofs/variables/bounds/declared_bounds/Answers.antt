@@ -1,6 +1,5 @@
 use Rattle.builder.specs.Bounding.{bounds_from}
 use Rattle.builder.proofs.laws.BoundLaws.{from_floating, declared_none, declared_some}
-use borrow.Author.Rules.{rules}
 use Rattle.builder.proofs.variables.bounds.declared_bounds.Goals as goal
 
 pub returns-then-u-eq0 : goal.returns-then-u-eq0

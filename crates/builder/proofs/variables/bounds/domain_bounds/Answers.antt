@@ -1,7 +1,6 @@
 use mathlib.Core.Path.{sym, ap, ◌∙◌}
 use Rattle.builder.specs.Bounding.{case_bounds}
 use Rattle.builder.proofs.laws.BoundLaws.{below_is}
-use borrow.Author.Rules.{rules}
 use Rattle.builder.proofs.variables.bounds.domain_bounds.Goals as goal
 
 pub bounds-classes-n : goal.bounds-classes-n

@@ -1,4 +1,3 @@
-use native.Mathlib.Omega.{arith}
 use mathlib.Core.Path.{◌≡◌}
 use Prim.Native.Nat.{◌≤◌}
 use lib.ListN.{take}
@@ -7,8 +6,6 @@ use Rattle.ast.specs.Opens.{file_in}
 use Rattle.definitions.specs.Variables.{Bounds, last_bounds}
 use Rattle.definitions.specs.Flatten.{model_at}
 use Rattle.builder.proofs.laws.Open.{model_record}
-use Rattle.builder.proofs.laws.BoundLaws.{decided_all, decided_none, decided_found, decided_next}
-use Rattle.builder.proofs.laws.OpenRecords.{model_is}
 use Rattle.builder.proofs.variables.bounds.last_declared.Given as goal
 
 abbrev pub invariant-loop-i : goal.invariant-loop-i

@@ -3,7 +3,6 @@ use mathlib.Core.Path.{refl, ◌∙◌}
 use mathlib.Core.List.{[], ◌∷◌}
 use Rattle.ast.specs.Words.{low, high}
 use Rattle.area.proofs.Puts.{put_first, put_next}
-use borrow.Author.Rules.{rules}
 use Rattle.builder.proofs.variables.bounds.put_bits.Goals as goal
 
 pub returns : goal.returns

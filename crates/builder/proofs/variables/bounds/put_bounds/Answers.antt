@@ -1,6 +1,5 @@
 use native.Mathlib.Omega.{arith}
 use Rattle.builder.proofs.laws.BoundLaws.{both_put}
-use borrow.Author.Rules.{rules}
 use Rattle.builder.proofs.variables.bounds.put_bounds.Goals as goal
 
 pub returns : goal.returns

@@ -4,7 +4,6 @@ use mathlib.Core.Path.{refl, ◌∙◌}
 use mathlib.Core.Bool.{true}
 use Rattle.builder.specs.Bounding.{bounds_from}
 use Rattle.builder.proofs.laws.BoundLaws.{last_stands, stands_nans, stands_bits}
-use borrow.Author.Rules.{rules}
 use Rattle.builder.proofs.variables.bounds.put_time_bounds.Goals as goal
 
 pub put_bounds-requires : goal.put_bounds-requires

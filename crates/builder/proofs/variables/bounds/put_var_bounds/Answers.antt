@@ -8,7 +8,6 @@ use Rattle.definitions.specs.Flatten.{model_at}
 use Rattle.builder.specs.Bounding.{bounds_from}
 use Rattle.builder.proofs.laws.BoundLaws.{from_floating, declared_stands, stands_nans, stands_bits}
 use Rattle.builder.proofs.laws.VarLaws.{bounds_of_time, bounds_of_other}
-use borrow.Author.Rules.{rules}
 use Rattle.builder.proofs.variables.bounds.put_var_bounds.Goals as goal
 
 pub put_bounds-requires : goal.put_bounds-requires

@@ -1,6 +1,5 @@
 use mathlib.Core.Bool.{true}
 use Rattle.builder.specs.Bounding.{bounds_from}
-use borrow.Author.Rules.{rules}
 use Rattle.builder.proofs.variables.bounds.time_bounds.Goals as goal
 
 pub returns : goal.returns

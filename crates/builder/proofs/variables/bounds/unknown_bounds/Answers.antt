@@ -10,7 +10,6 @@ use Rattle.builder.proofs.laws.Open.{unknown_record, names_long}
 use Rattle.builder.proofs.laws.Classes.{class_time}
 use Rattle.builder.proofs.laws.BoundLaws.{domain_below, unknown_floating}
 use Rattle.builder.proofs.laws.OpenRecords.{unknown_is}
-use borrow.Author.Rules.{rules}
 use Rattle.builder.proofs.variables.bounds.unknown_bounds.Goals as goal
 
 pub bounds-classes-unknown : goal.bounds-classes-unknown

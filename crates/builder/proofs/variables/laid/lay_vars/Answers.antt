@@ -1,7 +1,6 @@
 -- ---- the places: the entry, the variables listed, and written
 use native.Mathlib.Omega.{arith}
 use Rattle.builder.proofs.laws.VarsLaid.{vars_named, marks_needs, vars_laid}
-use borrow.Author.Rules.{rules}
 use Rattle.builder.proofs.variables.laid.lay_vars.Goals as goal
 
 pub roster_of-named-requires : goal.roster_of-named-requires

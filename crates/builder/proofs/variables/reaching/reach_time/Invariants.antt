@@ -1,11 +1,6 @@
-use mathlib.Core.Path.{◌≡◌, subst, ◌∙◌}
-use Prim.Native.Nat.{ℕ, ◌-◌, ◌≤◌}
-use native.Mathlib.Omega.{arith}
-use borrow.Author.Rules.{rules}
-use borrow.Author.Tests.{not-true}
+use Prim.Native.Nat.{◌-◌, ◌≤◌}
 use Rattle.area.specs.Sections.{area_vars, VarsAre}
-use Rattle.builder.specs.Reaching.{DepsIn, timed_by, timed_from}
-use Rattle.builder.proofs.laws.TimeRounds.{deps_stay, reached_none, reached_more, reached_end}
+use Rattle.builder.specs.Reaching.{timed_by, timed_from}
 use Rattle.builder.proofs.variables.reaching.reach_time.Given as goal
 
 abbrev pub invariant-loop-k : goal.invariant-loop-k

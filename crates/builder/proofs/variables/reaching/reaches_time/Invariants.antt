@@ -1,13 +1,8 @@
-use mathlib.Core.Path.{◌≡◌, refl, sym, ◌∙◌}
-use Prim.Native.Nat.{◌+◌, ◌-◌, ◌≤◌, ◌<◌}
-use native.Mathlib.Omega.{arith}
-use mathlib.Core.Bool.{◌||◌}
-use borrow.Author.Tests.{ne_eqb}
-use lib.ListN.{drop, get_or}
+use mathlib.Core.Path.{◌≡◌}
+use Prim.Native.Nat.{◌-◌, ◌≤◌}
+use lib.ListN.{drop}
 use Rattle.functions.specs.Lists.{any}
-use Rattle.area.specs.Sections.{area_vars, column}
 use Rattle.builder.specs.Reaching.{deps_in, marks_in, leads}
-use Rattle.builder.proofs.laws.TimeRounds.{dep_read, dep_below, any_on, any_out}
 use Rattle.builder.proofs.variables.reaching.reaches_time.Given as goal
 
 abbrev pub invariant-loop-i : goal.invariant-loop-i

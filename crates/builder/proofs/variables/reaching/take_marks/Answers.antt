@@ -1,6 +1,5 @@
-use Prim.Native.Nat.{◌-◌, ◌≤◌}
 use native.Mathlib.Omega.{arith}
-use Rattle.builder.proofs.laws.TimeRounds.{TakenOver, over_none, over_more, over_all}
+use Rattle.builder.proofs.laws.TimeRounds.{over_none, over_more, over_all}
 use Rattle.builder.proofs.variables.reaching.take_marks.Goals as goal
 
 pub loop-v-init : goal.loop-v-init

@@ -1,6 +1,5 @@
 use Prim.Native.Nat.{◌-◌, ◌≤◌}
-use native.Mathlib.Omega.{arith}
-use Rattle.builder.proofs.laws.TimeRounds.{TakenOver, over_none, over_more, over_all}
+use Rattle.builder.proofs.laws.TimeRounds.{TakenOver}
 use Rattle.builder.proofs.variables.reaching.take_marks.Given as goal
 
 abbrev pub invariant-loop-v : goal.invariant-loop-v

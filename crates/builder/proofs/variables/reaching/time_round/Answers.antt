@@ -1,11 +1,9 @@
 use mathlib.Core.Path.{refl, ap, ◌∙◌}
 use mathlib.Core.Bool.{Bool, ◌||◌}
-use Prim.Native.Nat.{◌-◌, ◌≤◌}
 use native.Mathlib.Omega.{arith}
 use lib.Dec.{eqb}
-use Rattle.functions.specs.Lists.{any, flag}
-use Rattle.builder.specs.Reaching.{deps_in, marks_in, leads}
-use Rattle.builder.proofs.laws.Filled.{Filled, filled_none, filled_more}
+use Rattle.functions.specs.Lists.{flag}
+use Rattle.builder.proofs.laws.Filled.{filled_none, filled_more}
 use Rattle.builder.proofs.variables.reaching.time_round.Goals as goal
 
 pub loop-v-init : goal.loop-v-init

@@ -1,11 +1,9 @@
-use mathlib.Core.Path.{refl, ap, ◌∙◌}
-use mathlib.Core.Bool.{Bool, ◌||◌}
+use mathlib.Core.Bool.{◌||◌}
 use Prim.Native.Nat.{◌-◌, ◌≤◌}
-use native.Mathlib.Omega.{arith}
 use lib.Dec.{eqb}
 use Rattle.functions.specs.Lists.{any, flag}
 use Rattle.builder.specs.Reaching.{deps_in, marks_in, leads}
-use Rattle.builder.proofs.laws.Filled.{Filled, filled_none, filled_more}
+use Rattle.builder.proofs.laws.Filled.{Filled}
 use Rattle.builder.proofs.variables.reaching.time_round.Given as goal
 
 abbrev pub invariant-loop-v : goal.invariant-loop-v

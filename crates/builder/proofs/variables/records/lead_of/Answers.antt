@@ -2,7 +2,6 @@ use mathlib.Core.Path.{refl}
 use Rattle.area.specs.Sections.{deps_at}
 use Rattle.builder.specs.VarRecords.{is_time}
 use Rattle.builder.proofs.laws.VarLaws.{index_asked, index_word}
-use borrow.Author.Rules.{rules}
 use Rattle.builder.proofs.variables.records.lead_of.Goals as goal
 
 pub time_index-index-requires : goal.time_index-index-requires

@@ -1,5 +1,4 @@
 use native.Mathlib.Omega.{arith}
-use borrow.Author.Rules.{rules}
 use Rattle.ast.proofs.Fronts.{lent_put}
 use Rattle.builder.specs.VarRecords.{lead_words}
 use Rattle.builder.proofs.variables.records.put_lead.Goals as goal

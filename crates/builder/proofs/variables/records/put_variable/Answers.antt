@@ -2,7 +2,6 @@ use mathlib.Core.Path.{refl}
 use native.Mathlib.Omega.{arith}
 use Rattle.builder.specs.VarRecords.{lead_words}
 use Rattle.builder.proofs.laws.VarLaws.{lead_and_bounds}
-use borrow.Author.Rules.{rules}
 use Rattle.builder.proofs.variables.records.put_variable.Goals as goal
 
 pub put_var_bounds-requires : goal.put_var_bounds-requires

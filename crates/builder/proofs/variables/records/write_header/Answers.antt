@@ -4,7 +4,6 @@ use mathlib.Core.List.{[], ◌∷◌}
 use Rattle.area.specs.Sections.{stmts_at, vars_at, deps_at}
 use Rattle.builder.specs.VarRecords.{head_words}
 use Rattle.area.proofs.Puts.{put_more}
-use borrow.Author.Rules.{rules}
 use Rattle.builder.proofs.variables.records.write_header.Goals as goal
 
 pub var_of-name-requires : goal.var_of-name-requires

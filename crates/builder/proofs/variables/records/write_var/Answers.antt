@@ -2,7 +2,6 @@ use mathlib.Core.Path.{◌∙◌}
 use native.Mathlib.Omega.{arith}
 use Rattle.area.specs.Sections.{stmts_at, vars_at}
 use Rattle.builder.proofs.laws.VarsWritten.{next_room, next_end, next_put, lead_asked, record_room, next_written}
-use borrow.Author.Rules.{rules}
 use Rattle.builder.proofs.variables.records.write_var.Goals as goal
 
 pub set_dependents-end-requires : goal.set_dependents-end-requires

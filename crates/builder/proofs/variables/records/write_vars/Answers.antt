@@ -1,5 +1,5 @@
 use mathlib.Core.List.{List}
-use Prim.Native.Nat.{◌-◌, ◌≤◌}
+use Prim.Native.Nat.{◌≤◌}
 use native.Mathlib.Omega.{arith}
 use mathlib.Core.Path.{ap, ◌∙◌}
 use lib.ListN.{length}
@@ -9,7 +9,7 @@ use Rattle.definitions.specs.Variables.{Variable}
 use Rattle.builder.specs.Root.{scope_at}
 use Rattle.builder.proofs.laws.RootTables.{model_written}
 use Rattle.builder.proofs.laws.PutWords.{kept_few}
-use Rattle.builder.proofs.laws.VarsWritten.{Written, written_none, written_long, next_few, next_name, written_more, written_all}
+use Rattle.builder.proofs.laws.VarsWritten.{written_none, written_long, next_few, next_name, written_more, written_all}
 use Rattle.builder.proofs.variables.records.write_vars.Goals as goal
 
 pub loop-v-init : goal.loop-v-init

@@ -1,15 +1,7 @@
-use mathlib.Core.List.{List}
 use Prim.Native.Nat.{◌-◌, ◌≤◌}
-use native.Mathlib.Omega.{arith}
-use mathlib.Core.Path.{ap, ◌∙◌}
-use lib.ListN.{length}
-use Rattle.functions.specs.Lists.{each}
 use Rattle.ast.specs.Opens.{file_in}
-use Rattle.definitions.specs.Variables.{Variable}
 use Rattle.builder.specs.Root.{scope_at}
-use Rattle.builder.proofs.laws.RootTables.{model_written}
-use Rattle.builder.proofs.laws.PutWords.{kept_few}
-use Rattle.builder.proofs.laws.VarsWritten.{Written, written_none, written_long, next_few, next_name, written_more, written_all}
+use Rattle.builder.proofs.laws.VarsWritten.{Written}
 use Rattle.builder.proofs.variables.records.write_vars.Given as goal
 
 abbrev pub invariant-loop-v : goal.invariant-loop-v

@@ -4,7 +4,6 @@ use native.Mathlib.Omega.{arith}
 use Rattle.area.proofs.VarsWritten.{vars_stay}
 use Rattle.builder.specs.Allocating.{names_in}
 use Rattle.builder.proofs.laws.Rosters.{more_room, declare_put, declare_old}
-use borrow.Author.Rules.{rules}
 use Rattle.builder.proofs.variables.roster.declare.Goals as goal
 
 pub returns-then-numbers-name-ne0 : goal.returns-then-numbers-name-ne0

@@ -2,7 +2,6 @@ use mathlib.Core.Path.{refl, sym, ◌∙◌}
 use Prim.Native.Nat.{◌-◌, ◌*◌}
 use native.Mathlib.Omega.{arith}
 use Rattle.builder.proofs.laws.PutWords.{below_none, below_one}
-use borrow.Author.Rules.{rules}
 use Rattle.area.proofs.Puts.{words_none, put_first}
 use Rattle.builder.proofs.variables.roster.put_dep.Goals as goal
 

@@ -7,7 +7,6 @@ use borrow.Author.Tests.{eq-eqb, ne_eqb}
 use Rattle.builder.specs.VariableTables.{unknown_in}
 use Rattle.builder.proofs.laws.OpenUnknowns.{unknown_name_lem}
 use Rattle.area.proofs.Puts.{words_none}
-use borrow.Author.Rules.{rules}
 use Rattle.builder.proofs.variables.roster.put_named_deps.Goals as goal
 
 pub put_unknown_deps-requires : goal.put_unknown_deps-requires

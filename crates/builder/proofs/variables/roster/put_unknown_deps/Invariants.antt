@@ -1,8 +1,6 @@
 use Prim.Native.Nat.{◌-◌, ◌≤◌}
-use native.Mathlib.Omega.{arith}
-use Rattle.builder.specs.VariableTables.{unknown_in, kept_by}
-use Rattle.builder.proofs.laws.OpenUnknowns.{deps_within, deps_count, deps_at_lem}
-use Rattle.builder.proofs.laws.PutWords.{numbered, Runs, runs_first, runs_length, runs_room, runs_next, runs_last}
+use Rattle.builder.specs.VariableTables.{unknown_in}
+use Rattle.builder.proofs.laws.PutWords.{numbered, Runs}
 use Rattle.builder.proofs.variables.roster.put_unknown_deps.Given as goal
 
 abbrev pub invariant-loop-i : goal.invariant-loop-i

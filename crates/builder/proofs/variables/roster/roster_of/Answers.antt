@@ -1,13 +1,11 @@
-use borrow.Author.Tests.{not-true, not-false}
-use mathlib.Core.Path.{◌≡◌, refl, sym, ◌∙◌}
-use Prim.Native.Nat.{◌+◌, ◌-◌, ◌≤◌, ◌<◌}
+use mathlib.Core.Path.{refl, sym, ◌∙◌}
+use Prim.Native.Nat.{◌<◌}
 use native.Mathlib.Omega.{arith}
-use lib.ListN.{length, drop}
+use lib.ListN.{length}
 use Rattle.ast.specs.Opens.{file_in}
-use Rattle.definitions.specs.Variables.{declare}
-use Rattle.area.specs.Sections.{Grown, area_vars, VarsAre}
+use Rattle.area.specs.Sections.{area_vars, VarsAre}
 use Rattle.area.proofs.VarsWritten.{grown_then, vars_stay, vars_grow}
-use Rattle.builder.specs.VariableTables.{Listing, unknowns_in, roster_in}
+use Rattle.builder.specs.VariableTables.{unknowns_in}
 use Rattle.builder.specs.Allocating.{names_in}
 use Rattle.builder.proofs.laws.Open.{names_long}
 use Rattle.builder.proofs.laws.ScopeTables.{time_below}

@@ -1,19 +1,11 @@
-use borrow.Author.Tests.{not-true, not-false}
-use mathlib.Core.Path.{◌≡◌, refl, sym, ◌∙◌}
-use Prim.Native.Nat.{◌+◌, ◌-◌, ◌≤◌, ◌<◌}
-use native.Mathlib.Omega.{arith}
-use mathlib.Core.Logic.{⊎_elim}
-use lib.ListN.{length, drop}
+use mathlib.Core.Path.{◌≡◌}
+use Prim.Native.Nat.{◌+◌, ◌-◌, ◌≤◌}
+use lib.ListN.{drop}
 use Rattle.ast.specs.Opens.{file_in}
 use Rattle.definitions.specs.Variables.{declare}
 use Rattle.area.specs.Sections.{Grown, area_vars, VarsAre}
-use Rattle.area.proofs.VarsWritten.{grown_then, vars_stay, vars_grow}
 use Rattle.builder.specs.VariableTables.{Listing, unknowns_in, roster_in}
 use Rattle.builder.specs.Allocating.{names_in}
-use Rattle.builder.proofs.laws.Open.{names_long}
-use Rattle.builder.proofs.laws.ScopeTables.{time_below}
-use Rattle.builder.proofs.laws.OpenUnknowns.{run_within, run_count, run_name}
-use Rattle.builder.proofs.laws.Rosters.{room_first, room_kept, reserved_in, roster_first, roster_next, roster_pass, roster_last}
 use Rattle.builder.proofs.variables.roster.roster_of.Given as goal
 
 abbrev pub invariant-loop-i : goal.invariant-loop-i

@@ -1,11 +1,11 @@
 use mathlib.Core.Path.{sym}
-use Prim.Native.Nat.{◌+◌, ◌-◌, ◌≤◌, ◌<◌}
+use Prim.Native.Nat.{◌+◌, ◌<◌}
 use native.Mathlib.Omega.{arith}
 use lib.ListN.{length}
 use Rattle.definitions.specs.Variables.{kept_deps}
 use Rattle.builder.specs.VariableTables.{unknowns_in, unknown_in, roster_in}
 use Rattle.builder.proofs.laws.OpenUnknowns.{no_unknown, unknown_deps_below, run_within, run_count, run_unknown}
-use Rattle.builder.proofs.laws.PutWords.{of_named, named_kept, Runs, runs_first, runs_length, runs_room, runs_next, runs_last}
+use Rattle.builder.proofs.laws.PutWords.{of_named, named_kept, runs_first, runs_length, runs_room, runs_next, runs_last}
 use Rattle.builder.proofs.variables.roster.set_dependents.Goals as goal
 
 pub model-first-requires : goal.model-first-requires

@@ -1,7 +1,6 @@
 -- ---- the places: the entry, and where t's name is put
 use native.Mathlib.Omega.{arith}
 use Rattle.builder.proofs.laws.Rosters.{vars_room, time_put, none_put}
-use borrow.Author.Rules.{rules}
 use Rattle.builder.proofs.variables.roster.time_alone.Goals as goal
 
 pub put_var-requires : goal.put_var-requires

@@ -1,10 +1,7 @@
 use mathlib.Core.Path.{◌≡◌, sym, ap, ◌∙◌}
-use Prim.Native.Nat.{◌-◌, ◌≤◌}
+use Prim.Native.Nat.{◌-◌}
 use native.Mathlib.Omega.{arith}
-use mathlib.Core.Option.{none}
-use lib.ListN.{take}
 use Rattle.functions.specs.Lists.{plus_one}
-use Rattle.definitions.specs.Variables.{last_time}
 use Rattle.builder.specs.VariableTables.{words_from}
 use Rattle.builder.proofs.laws.Timing.{time_all, time_found, time_passed, time_none}
 use Rattle.builder.proofs.variables.roster.time_index.Goals as goal
