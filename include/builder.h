@@ -1,6 +1,6 @@
 /* The verified model builder: `build` turns a tree file and a root name into an answer area.
  *
- * Link target/staticlib/libbuilder.a, which `rt staticlib builder` writes once everything in it is proved.
+ * Link target/staticlib/libbuilder.a, which `./prove builder` writes once everything in it is proved.
  *
  * Words are 32 bits, unsigned, little-endian; a float is two words, low first. Names, nodes, statements, variables and
  * dependents are numbered from 0; a name's number is its place in the tree file, in the area too. A field "plus 1" is 0

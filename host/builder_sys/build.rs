@@ -1,4 +1,4 @@
-//! Links the static library that `rt staticlib builder` writes.
+//! Links the static library that `./prove builder` writes.
 
 use std::env;
 use std::path::PathBuf;
@@ -12,7 +12,7 @@ fn main() {
     if !library.is_file() {
         println!(
             "cargo::error=target/staticlib/libbuilder.a is not there: \
-             run `rt staticlib builder` in the repository's root first"
+             run `./prove builder` in the repository's root first"
         );
         return;
     }

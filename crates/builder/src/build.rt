@@ -162,8 +162,7 @@ fn build_opened(file: &[u8], s: Sections, root: &[u8], area: &mut [u8]) -> u64
 }
 
 // The number in the low 32 bits, 0 or a refusal's, and the bytes used in the high ones.
-#[unsafe(no_mangle)]
-pub extern "C" fn build(file: &[u8], root: &[u8], area: &mut [u8]) -> u64
+pub fn build(file: &[u8], root: &[u8], area: &mut [u8]) -> u64
     ensures { (result ≡ told (definition.build file.now root.now (length area.old)))
         × (area.new ≡ result_area (length area.old)
         (definition.build file.now root.now (length area.old))) }

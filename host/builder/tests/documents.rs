@@ -29,14 +29,12 @@ fn listed() -> BTreeMap<String, usize> {
     rows.collect()
 }
 
-/// The file of `Rattle·CRATE.specs.MODULE` or `Rattle·CRATE·specs.specs.MODULE`, if a `use` line names one that is written
-/// by hand.
+/// The file of `Rattle.CRATE.specs.MODULE`, if a `use` line names one that is written by hand.
 fn used(line: &str) -> Option<String> {
     let name = line
         .trim_start_matches("pub ")
-        .strip_prefix("use Rattle·")?;
+        .strip_prefix("use Rattle.")?;
     let (library, module) = name.split_once(".specs.")?;
-    let library = library.trim_end_matches("·specs");
     let module = module.split(['.', ' ']).next()?;
     let path = format!("crates/{library}/specs/{module}.antt");
     Path::new(&place(&path)).exists().then_some(path)

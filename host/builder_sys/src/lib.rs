@@ -1,4 +1,4 @@
-//! The proved builder, linked from the static library that `rt staticlib builder` writes.
+//! The proved builder, linked from the static library that `./prove builder` writes.
 
 mod raw {
     extern "C" {

@@ -7,11 +7,12 @@ use std::path::{Path, PathBuf};
 use std::process::{Command, Output, Stdio};
 use std::{fs, thread};
 
-/// The path of a program that `rt check` has proved and linked.
+/// The path of a program that `rt ci` or `./prove NAME` has proved and linked.
 pub fn program(name: &str) -> PathBuf {
-    let path = PathBuf::from(concat!(env!("CARGO_MANIFEST_DIR"), "/../../target/bin")).join(name);
+    let crates = concat!(env!("CARGO_MANIFEST_DIR"), "/../../crates");
+    let path = Path::new(crates).join(name).join("out").join(name);
     let there = path.exists();
-    assert!(there, "no program {name}: run `rt check {name}` first");
+    assert!(there, "no program {name}: run `./prove {name}` first");
     path
 }
 

@@ -34,9 +34,8 @@ fn one_version() {
 #[test]
 fn the_prototype_is_that_of_the_source() {
     let flat = |text: String| text.split_whitespace().collect::<Vec<_>>().join(" ");
-    let source = flat(text("crates/builder/src/build.rt"));
-    let exported =
-        "#[no_mangle] pub extern \"C\" fn build(file: &[u8], root: &[u8], area: &mut [u8]) -> u64";
+    let source = flat(text("crates/builder_c/src/lib.rt"));
+    let exported = "#[unsafe(no_mangle)] pub extern \"C\" fn build(file: &[u8], root: &[u8], area: &mut [u8]) -> u64";
     assert!(source.contains(exported));
     let prototype = "uint64_t build(const uint8_t *file, size_t file_length, const uint8_t *root, size_t root_length, \
                      uint8_t *area, size_t area_length);";

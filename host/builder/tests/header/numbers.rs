@@ -27,9 +27,9 @@ fn in_capitals(name: &str) -> String {
     capitals
 }
 
-/// `NoSuchThing` as `noSuchThing`.
+/// `NoSuchThing` as `no_such_thing`.
 fn as_definition(name: &str) -> String {
-    name[..1].to_lowercase() + &name[1..]
+    in_capitals(name).to_lowercase()
 }
 
 pub fn refusals_and_errors(header: &Header, defined: &Definitions) {
@@ -39,8 +39,8 @@ pub fn refusals_and_errors(header: &Header, defined: &Definitions) {
         let name = format!("{refusal:?}");
         // what is over its most has a name of its own: counts of the file, and sizes of the flattened model
         let definition = match refusal {
-            Refusal::OverMost => "countOverMost".to_string(),
-            Refusal::TooBig => "overMost".to_string(),
+            Refusal::OverMost => "count_over_most".to_string(),
+            Refusal::TooBig => "over_most".to_string(),
             _ => as_definition(&name),
         };
         let number = u64::from(refusal.number());
@@ -69,15 +69,15 @@ pub fn refusals_and_errors(header: &Header, defined: &Definitions) {
 /// The tree file, as the format's other description in Rust has it.
 pub fn tree_file(header: &Header, defined: &Definitions) {
     let sections = [
-        ("TEXT", "mostText", ""),
-        ("NAMES", "mostNames", "nameLength"),
-        ("NODES", "mostNodes", "nodeLength"),
-        ("DEPENDENTS", "mostDeps", "depLength"),
-        ("UNKNOWNS", "mostUnknowns", "unknownLength"),
-        ("STATEMENTS", "mostStmts", "fileStmtLength"),
-        ("MODELS", "mostModels", "modelLength"),
+        ("TEXT", "most_text", ""),
+        ("NAMES", "most_names", "name_length"),
+        ("NODES", "most_nodes", "node_length"),
+        ("DEPENDENTS", "most_deps", "dep_length"),
+        ("UNKNOWNS", "most_unknowns", "unknown_length"),
+        ("STATEMENTS", "most_stmts", "file_stmt_length"),
+        ("MODELS", "most_models", "model_length"),
     ];
-    let mut longest = 4 * defined.number("trailerLength");
+    let mut longest = 4 * defined.number("trailer_length");
     for (i, (section, most, length)) in sections.into_iter().enumerate() {
         let name = format!("FILE_MOST_{section}");
         check(header, defined, &[(&name, u64::from(MOSTS[i]), most)]);
@@ -91,12 +91,12 @@ pub fn tree_file(header: &Header, defined: &Definitions) {
     assert_eq!(header.number("FILE_MOST_BYTES"), longest);
     let trailer = TRAILER as u64 / 4;
     let ties = [
-        ("MISSING", u64::from(MISSING), "missingWord"),
-        ("FILE_FORM", u64::from(FORM), "fileForm"),
-        ("FILE_TRAILER_WORDS", trailer, "trailerLength"),
-        ("DOMAIN_NONE", u64::from(domain::NONE), "noDomain"),
-        ("DOMAIN_RANGE", u64::from(domain::RANGE), "rangeDomain"),
-        ("DOMAIN_NAMED", u64::from(domain::NAMED), "namedDomain"),
+        ("MISSING", u64::from(MISSING), "missing_word"),
+        ("FILE_FORM", u64::from(FORM), "file_form"),
+        ("FILE_TRAILER_WORDS", trailer, "trailer_length"),
+        ("DOMAIN_NONE", u64::from(domain::NONE), "no_domain"),
+        ("DOMAIN_RANGE", u64::from(domain::RANGE), "range_domain"),
+        ("DOMAIN_NAMED", u64::from(domain::NAMED), "named_domain"),
     ];
     check(header, defined, &ties);
 }
@@ -105,21 +105,21 @@ pub fn tree_file(header: &Header, defined: &Definitions) {
 pub fn area(header: &Header, defined: &Definitions) {
     use layout::*;
     let ties = [
-        ("HEADER_WORDS", HEADER_WORDS, "headerLength"),
-        ("NODE_WORDS", NODE_WORDS, "nodeLength"),
-        ("STATEMENT_WORDS", STATEMENT_WORDS, "stmtLength"),
-        ("VARIABLE_WORDS", VARIABLE_WORDS, "variableLength"),
-        ("DEPENDENT_WORDS", DEPENDENT_WORDS, "depLength"),
-        ("ERROR_WORDS", ERROR_WORDS, "errorLength"),
-        ("MOST_NODES", MOST_NODES, "mostNodes"),
-        ("MOST_STATEMENTS", MOST_STATEMENTS, "mostStmts"),
-        ("MOST_VARIABLES", MOST_VARIABLES, "mostVariables"),
-        ("MOST_DEPENDENTS", MOST_DEPENDENTS, "mostDeps"),
-        ("MOST_LISTED_ERRORS", MOST_LISTED_ERRORS, "mostListed"),
-        ("MOST_INSTANCES", MOST_INSTANCES, "mostInstances"),
-        ("MOST_BYTES", MOST_BYTES, "mostBytes"),
-        ("FILE_MOST_NAMES", MOST_NAMES, "mostNames"),
-        ("MISSING", layout::MISSING as usize, "missingWord"),
+        ("HEADER_WORDS", HEADER_WORDS, "header_length"),
+        ("NODE_WORDS", NODE_WORDS, "node_length"),
+        ("STATEMENT_WORDS", STATEMENT_WORDS, "stmt_length"),
+        ("VARIABLE_WORDS", VARIABLE_WORDS, "variable_length"),
+        ("DEPENDENT_WORDS", DEPENDENT_WORDS, "dep_length"),
+        ("ERROR_WORDS", ERROR_WORDS, "error_length"),
+        ("MOST_NODES", MOST_NODES, "most_nodes"),
+        ("MOST_STATEMENTS", MOST_STATEMENTS, "most_stmts"),
+        ("MOST_VARIABLES", MOST_VARIABLES, "most_variables"),
+        ("MOST_DEPENDENTS", MOST_DEPENDENTS, "most_deps"),
+        ("MOST_LISTED_ERRORS", MOST_LISTED_ERRORS, "most_listed"),
+        ("MOST_INSTANCES", MOST_INSTANCES, "most_instances"),
+        ("MOST_BYTES", MOST_BYTES, "most_bytes"),
+        ("FILE_MOST_NAMES", MOST_NAMES, "most_names"),
+        ("MISSING", layout::MISSING as usize, "missing_word"),
     ];
     let in_words = |(name, number, definition)| (name, number as u64, definition);
     check(header, defined, &ties.map(in_words));
@@ -151,14 +151,14 @@ fn judge(header: &Header) {
 /// The longest answer has all of its mosts.
 pub fn longest_answer(header: &Header, defined: &Definitions) {
     let sections = [
-        ("nodeLength", "mostNodes"),
-        ("stmtLength", "mostStmts"),
-        ("variableLength", "mostVariables"),
-        ("depLength", "mostDeps"),
-        ("errorLength", "mostListed"),
+        ("node_length", "most_nodes"),
+        ("stmt_length", "most_stmts"),
+        ("variable_length", "most_variables"),
+        ("dep_length", "most_deps"),
+        ("error_length", "most_listed"),
     ];
     let words = sections.map(|(length, most)| defined.number(length) * defined.number(most));
-    let words = defined.number("headerLength") + words.iter().sum::<u64>();
+    let words = defined.number("header_length") + words.iter().sum::<u64>();
     assert_eq!(header.number("MOST_BYTES"), 4 * words);
 }
 
@@ -166,19 +166,19 @@ pub fn kinds_and_fates(header: &Header, defined: &Definitions) {
     let of = |fate: Fate| u64::from(fate.number());
     let initial = of(Fate::InitialCondition(1));
     let ties = [
-        ("EQUATION", u64::from(stmt::EQUATION), "equationKind"),
-        ("RATE_EQUATION", u64::from(stmt::RATE), "rateKind"),
-        ("SUBMODEL", u64::from(stmt::SUBMODEL), "submodelKind"),
-        ("NAME", u64::from(node::NAME), "nameKind"),
-        ("NUMBER_NODE", u64::from(node::NUMBER), "numberKind"),
-        ("BINARY", u64::from(node::BINARY), "binaryKind"),
-        ("UNARY", u64::from(node::UNARY), "unaryKind"),
-        ("CALL", u64::from(node::CALL), "callKind"),
-        ("ARGUMENT", u64::from(node::ARGUMENT), "argumentKind"),
-        ("FATE_INITIAL_CONDITION", initial, "initialFate"),
-        ("FATE_HELD", of(Fate::Held(1)), "heldFate"),
-        ("FATE_REPLACED", of(Fate::Replaced(1)), "replacedFate"),
-        ("FATE_LEFT_OVER", of(Fate::LeftOver), "leftOverFate"),
+        ("EQUATION", u64::from(stmt::EQUATION), "equation_kind"),
+        ("RATE_EQUATION", u64::from(stmt::RATE), "rate_kind"),
+        ("SUBMODEL", u64::from(stmt::SUBMODEL), "submodel_kind"),
+        ("NAME", u64::from(node::NAME), "name_kind"),
+        ("NUMBER_NODE", u64::from(node::NUMBER), "number_kind"),
+        ("BINARY", u64::from(node::BINARY), "binary_kind"),
+        ("UNARY", u64::from(node::UNARY), "unary_kind"),
+        ("CALL", u64::from(node::CALL), "call_kind"),
+        ("ARGUMENT", u64::from(node::ARGUMENT), "argument_kind"),
+        ("FATE_INITIAL_CONDITION", initial, "initial_fate"),
+        ("FATE_HELD", of(Fate::Held(1)), "held_fate"),
+        ("FATE_REPLACED", of(Fate::Replaced(1)), "replaced_fate"),
+        ("FATE_LEFT_OVER", of(Fate::LeftOver), "left_over_fate"),
     ];
     check(header, defined, &ties);
 }
