@@ -1,12 +1,15 @@
 // Judges recorded areas, one behind the other on standard input, and prints one line: how many there are, how many keep
 // their layout, how many break it, and how many of these verdicts are not the recorded ones. A case is two words, the
 // area's length and 1 where it is to keep its layout, else 0, and the area.
+#![tactic(auto)]
+
 use area::layout::MOST_KIND;
 use ast::words::read_word;
 use keeping::kept::keeps_layout;
-use libc::{STDIN_FILENO, STDOUT_FILENO};
+use std::io;
+use std::io::Read;
 
-#[derive(Drop)]
+#[derive(Clone, Copy)]
 struct Tally {
     cases: u64,
     kept: u64,
@@ -14,7 +17,7 @@ struct Tally {
     wrong: u64,
 }
 
-#[derive(Drop)]
+#[derive(Clone, Copy)]
 struct Turn {
     more: bool,
     tally: Tally,
@@ -50,33 +53,38 @@ fn not_judged(t: Tally) -> Tally {
 }
 
 // Reads an area as long as the part and counts the verdict on it.
-fn judge(t: Tally, part: &mut [u8], recorded: u32) -> Tally {
-    if io::read_full(STDIN_FILENO, part) < part.len() {
+fn judge(input: &mut impl Read, t: Tally, part: &mut [u8], recorded: u32) -> Tally {
+    if input.read_exact(part).is_err() {
         return not_judged(t);
     }
     counted(t, keeps_layout(part, MOST_KIND), recorded)
 }
 
 // The same of an area of a length, for which the buffer may be too short.
-fn judge_within(t: Tally, buffer: &mut [u8], length: usize, recorded: u32) -> Tally {
+fn judge_within(
+    input: &mut impl Read,
+    t: Tally,
+    buffer: &mut [u8],
+    length: usize,
+    recorded: u32,
+) -> Tally {
     if buffer.len() < length {
         return not_judged(t);
     }
-    judge(t, &mut buffer[..length], recorded)
+    judge(input, t, &mut buffer[..length], recorded)
 }
 
-fn one_case(t: Tally) -> Turn {
+fn one_case(input: &mut impl Read, t: Tally) -> Turn {
     let mut head = [0u8; 8];
-    let got = io::read_full(STDIN_FILENO, &mut head);
-    if got < 8 {
+    if input.read_exact(&mut head).is_err() {
         return Turn {
             more: false,
             tally: t,
         };
     }
     let length = read_word(&head, 0) as usize;
-    let mut buffer = io::large_buffer();
-    let next = judge_within(t, &mut buffer, length, read_word(&head, 4));
+    let mut buffer = [0u8; 65536];
+    let next = judge_within(input, t, &mut buffer, length, read_word(&head, 4));
     Turn {
         more: true,
         tally: next,
@@ -84,11 +92,11 @@ fn one_case(t: Tally) -> Turn {
 }
 
 // All cases that there are, up to a number that no list has.
-fn all_cases(start: Tally) -> Tally {
+fn all_cases(input: &mut impl Read, start: Tally) -> Tally {
     let mut t = start;
     let mut left: u64 = 1000000000;
     while 0 < left {
-        let next = one_case(t);
+        let next = one_case(input, t);
         if !next.more {
             return t;
         }
@@ -98,22 +106,21 @@ fn all_cases(start: Tally) -> Tally {
     t
 }
 
-fn label(text: &[u8], n: u64) {
-    io::write_all(STDOUT_FILENO, text);
-    io::print_decimal(STDOUT_FILENO, n);
+fn label(rt: &impl Print, text: &str, n: u64) -> io::Result<()> {
+    print!(rt; "{text}{n}")
 }
 
-fn main() {
+fn main(rt: HostRuntime) -> io::Result<()> {
     let none = Tally {
         cases: 0,
         kept: 0,
         broken: 0,
         wrong: 0,
     };
-    let t = all_cases(none);
-    label(b"areas ", t.cases);
-    label(b" kept ", t.kept);
-    label(b" broken ", t.broken);
-    label(b" wrong ", t.wrong);
-    io::write_all(STDOUT_FILENO, b"\n");
+    let t = all_cases(&mut rt.stdin(), none);
+    label(&rt, "areas ", t.cases)?;
+    label(&rt, " kept ", t.kept)?;
+    label(&rt, " broken ", t.broken)?;
+    label(&rt, " wrong ", t.wrong)?;
+    println!(rt)
 }

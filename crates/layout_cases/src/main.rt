@@ -1,11 +1,14 @@
 // Opens the recorded layout cases, one behind the other on standard input, and prints one line: how many there are, how
 // many were refused by 2, 3 and 4, how many were opened, and how many of these verdicts are not the recorded ones. A
 // case is four words (the file's length, the root name's length, the verdict, bytes used), the file, and the root name.
+#![tactic(auto)]
+
 use ast::open::{BROKEN, NO_FORM, OVER_MOST, Opened};
 use ast::words::read_word;
-use libc::{STDIN_FILENO, STDOUT_FILENO};
+use std::io;
+use std::io::Read;
 
-#[derive(Drop)]
+#[derive(Clone, Copy)]
 struct Tally {
     cases: u64,
     no_form: u64,
@@ -15,7 +18,7 @@ struct Tally {
     wrong: u64,
 }
 
-#[derive(Drop)]
+#[derive(Clone, Copy)]
 struct Turn {
     more: bool,
     tally: Tally,
@@ -51,50 +54,54 @@ fn counted(t: Tally, found: u32, recorded: u32) -> Tally {
 }
 
 // Reads a file as long as the part and counts the verdict on it. One that is not all there counts as wrong.
-fn judge(t: Tally, part: &mut [u8], recorded: u32) -> Tally {
-    if io::read_full(STDIN_FILENO, part) < part.len() {
+fn judge(input: &mut impl Read, t: Tally, part: &mut [u8], recorded: u32) -> Tally {
+    if input.read_exact(part).is_err() {
         return counted(t, 1, recorded);
     }
     counted(t, verdict(part), recorded)
 }
 
 // The same of a file of a length, for which the buffer may be too short.
-fn judge_within(t: Tally, buffer: &mut [u8], length: usize, recorded: u32) -> Tally {
+fn judge_within(
+    input: &mut impl Read,
+    t: Tally,
+    buffer: &mut [u8],
+    length: usize,
+    recorded: u32,
+) -> Tally {
     if buffer.len() < length {
         return counted(t, 1, recorded);
     }
-    judge(t, &mut buffer[..length], recorded)
+    judge(input, t, &mut buffer[..length], recorded)
 }
 
-fn one_case(t: Tally) -> Turn {
+fn one_case(input: &mut impl Read, t: Tally) -> Turn {
     let mut head = [0u8; 16];
-    let got = io::read_full(STDIN_FILENO, &mut head);
-    if got < 16 {
+    if input.read_exact(&mut head).is_err() {
         return Turn {
             more: false,
             tally: t,
         };
     }
     let length = read_word(&head, 0) as usize;
-    let mut buffer = io::large_buffer();
-    let next = judge_within(t, &mut buffer, length, read_word(&head, 8));
+    let mut buffer = [0u8; 65536];
+    let next = judge_within(input, t, &mut buffer, length, read_word(&head, 8));
     Turn {
         more: true,
         tally: next,
     }
 }
 
-fn label(text: &[u8], n: u64) {
-    io::write_all(STDOUT_FILENO, text);
-    io::print_decimal(STDOUT_FILENO, n);
+fn label(rt: &impl Print, text: &str, n: u64) -> io::Result<()> {
+    print!(rt; "{text}{n}")
 }
 
 // All cases that there are, up to a number that no list has.
-fn all_cases(start: Tally) -> Tally {
+fn all_cases(input: &mut impl Read, start: Tally) -> Tally {
     let mut t = start;
     let mut left: u64 = 100000;
     while 0 < left {
-        let next = one_case(t);
+        let next = one_case(input, t);
         if !next.more {
             return t;
         }
@@ -104,7 +111,7 @@ fn all_cases(start: Tally) -> Tally {
     t
 }
 
-fn main() {
+fn main(rt: HostRuntime) -> io::Result<()> {
     let none = Tally {
         cases: 0,
         no_form: 0,
@@ -113,12 +120,12 @@ fn main() {
         opened: 0,
         wrong: 0,
     };
-    let t = all_cases(none);
-    label(b"cases ", t.cases);
-    label(b" refused-2 ", t.no_form);
-    label(b" refused-3 ", t.over_most);
-    label(b" refused-4 ", t.broken);
-    label(b" opened ", t.opened);
-    label(b" wrong ", t.wrong);
-    io::write_all(STDOUT_FILENO, b"\n");
+    let t = all_cases(&mut rt.stdin(), none);
+    label(&rt, "cases ", t.cases)?;
+    label(&rt, " refused-2 ", t.no_form)?;
+    label(&rt, " refused-3 ", t.over_most)?;
+    label(&rt, " refused-4 ", t.broken)?;
+    label(&rt, " opened ", t.opened)?;
+    label(&rt, " wrong ", t.wrong)?;
+    println!(rt)
 }

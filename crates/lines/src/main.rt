@@ -1,28 +1,35 @@
 // lines AREA TEXT: prints one line for each listed error of an answer area: line, column, kind, as decimals parted by
 // one space. A file that is missing or cannot be read counts as empty. An area that breaks its layout prints nothing.
+#![tactic(auto)]
+
+mod files;
 mod judge;
 mod print;
 mod text;
 
+use std::io::Read;
+use std::rt::{Env, Files};
+use std::{fs, io};
+
 // Judges an open area, whose front is as long as the buffer or all that there is.
-fn with_open(fd: i32) {
-    let mut front = io::large_buffer();
-    let n = io::read_full(fd, &mut front);
-    print::judged(fd, &front[..n]);
+fn with_open<R: Env + Files + Print + Eprint + Alloc>(
+    rt: &R,
+    file: &mut impl Read,
+) -> io::Result<()> {
+    let mut front = [0u8; 65536];
+    let n = files::read_full(file, &mut front);
+    print::judged(rt, file, &front[..n])
 }
 
-fn with_area(path: &[u8]) {
-    let fd = os::open_read(path);
-    if fd < 0 {
-        return;
+fn with_area<R: Env + Files + Print + Eprint + Alloc>(rt: &R, path: &str) -> io::Result<()> {
+    match fs::open(rt, path) {
+        Ok(mut file) => with_open(rt, &mut file),
+        Err(_) => Ok(()),
     }
-    with_open(fd);
-    libc::close(fd);
 }
 
-// An argument that is missing or too long for a path is empty, and no file has that name.
-fn main() {
-    let mut name = io::buffer();
-    let n = os::arg(1, &mut name);
-    with_area(&name[..n]);
+// An argument that is missing, too long for a path or not UTF-8 text is empty, and no file has that name.
+fn main(rt: HostRuntime) -> io::Result<()> {
+    let mut name = [0u8; 4096];
+    with_area(&rt, files::name(&rt, 1, &mut name))
 }

@@ -5,23 +5,30 @@ ghost use Rattle.positions.specs.Pieces.{AsLong, Placed, OfText};
 
 use positions::ends::beginning;
 use positions::tables::{begin, take_piece};
+use std::fs;
+use std::io::Read;
+use std::rt::Files;
 
 // Every start is a word, so what stands behind so many bytes is not asked for.
 const WORD: u64 = 4294967296;
 
 // Takes in a file to its end, by way of a buffer, and tells whether every read was done.
-fn follow(fd: i32, piece: &mut [u8], starts: &[u64], lines: &mut [u64], columns: &mut [u64]) -> bool
+fn follow(
+    file: &mut impl Read,
+    piece: &mut [u8],
+    starts: &[u64],
+    lines: &mut [u64],
+    columns: &mut [u64],
+) -> bool
     requires { (length piece.old ≤ 2 ^ 16)
         × Placed [] starts.now lines.old columns.old }
     ensures { OfText starts.now lines.new columns.new }
 {
     let mut e = beginning();
     while e.size < WORD {
-        let got = libc::read(fd, piece);
-        if got < 0 {
+        let Ok(n) = file.read(piece) else {
             return false;
-        }
-        let n = io::count(got, piece);
+        };
         if n == 0 {
             return true;
         }
@@ -31,26 +38,24 @@ fn follow(fd: i32, piece: &mut [u8], starts: &[u64], lines: &mut [u64], columns:
     true
 }
 
-fn with_buffer(fd: i32, starts: &[u64], lines: &mut [u64], columns: &mut [u64]) -> bool
+fn with_buffer(file: &mut impl Read, starts: &[u64], lines: &mut [u64], columns: &mut [u64]) -> bool
     requires { Placed [] starts.now lines.old columns.old }
     ensures { OfText starts.now lines.new columns.new }
 {
-    let mut piece = io::large_buffer();
-    follow(fd, &mut piece, starts, lines, columns)
+    let mut piece = [0u8; 65536];
+    follow(file, &mut piece, starts, lines, columns)
 }
 
 // The tables of the text in a file. One that cannot be read to its end counts as empty.
-pub fn places(path: &[u8], starts: &[u64], lines: &mut [u64], columns: &mut [u64])
+pub fn places(rt: &impl Files, path: &str, starts: &[u64], lines: &mut [u64], columns: &mut [u64])
     requires { AsLong starts.now lines.old columns.old }
     ensures { OfText starts.now lines.new columns.new }
 {
     begin(starts, lines, columns);
-    let fd = os::open_read(path);
-    if fd < 0 {
+    let Ok(mut file) = fs::open(rt, path) else {
         return;
-    }
-    let whole = with_buffer(fd, starts, lines, columns);
-    libc::close(fd);
+    };
+    let whole = with_buffer(&mut file, starts, lines, columns);
     if !whole {
         begin(starts, lines, columns);
     }

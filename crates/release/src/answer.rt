@@ -8,7 +8,8 @@ use area::layout::{
 };
 use ast::layout::NODE_BYTES;
 use ast::words::read_word;
-use libc::STDERR_FILENO;
+use std::io;
+use std::rt::Files;
 
 // The word at a byte, 0 where the area is too short.
 fn word(area: &[u8], at: usize) -> u32 {
@@ -43,29 +44,42 @@ fn all_fates(area: &[u8]) -> Fates {
 }
 
 // Writes an answer to a new file, and prints the line where that is done.
-fn write_answer(answer: &[u8], to: &[u8]) {
-    if files::write_new(to, answer) {
+fn write_answer<R: Files + Print + Eprint + Alloc>(
+    rt: &R,
+    answer: &[u8],
+    to: &str,
+) -> io::Result<()> {
+    if files::write_new(rt, to, answer)? {
         let errors = word(answer, ERRORS_AT) as u64;
         let stmts = word(answer, STMTS_AT) as u64;
-        line::accepted(answer.len() as u64, errors, stmts, all_fates(answer));
+        line::accepted(rt, answer.len() as u64, errors, stmts, all_fates(answer))?;
     }
+    Ok(())
 }
 
 // The first `used` bytes are the answer; a build tells no more bytes than the area has.
-fn write_used(area: &[u8], used: usize, to: &[u8]) {
+fn write_used<R: Files + Print + Eprint + Alloc>(
+    rt: &R,
+    area: &[u8],
+    used: usize,
+    to: &str,
+) -> io::Result<()> {
     if area.len() < used {
-        io::write_all(STDERR_FILENO, b"release: more bytes used than there are\n");
-        return;
+        return eprintln!(rt; "release: more bytes used than there are");
     }
-    write_answer(&area[..used], to);
+    write_answer(rt, &area[..used], to)
 }
 
 // The low 32 bits are 0 or the refusal's number, the high ones the bytes used.
-pub fn hand_over(told: u64, area: &[u8], to: &[u8]) {
+pub fn hand_over<R: Files + Print + Eprint + Alloc>(
+    rt: &R,
+    told: u64,
+    area: &[u8],
+    to: &str,
+) -> io::Result<()> {
     let number = told % HIGH;
     if number != 0 {
-        line::refused(number);
-        return;
+        return line::refused(rt, number);
     }
-    write_used(area, (told / HIGH) as usize, to);
+    write_used(rt, area, (told / HIGH) as usize, to)
 }

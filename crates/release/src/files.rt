@@ -1,48 +1,87 @@
-// The end of the tree file, and the area file.
-use libc::STDERR_FILENO;
+// Reading the tree file, its end, the area file, and what is said of a file that failed.
+ghost use Rattle.std.specs.Prelude.{◌≤◌, length};
+
+use std::fs::{OpenFile, OpenOptions};
+use std::io::{Read, Write};
+use std::rt::Files;
+use std::{fs, io};
+
+// Reads until the buffer is full, the file ends or a read fails, and gives how many bytes it put at the buffer's start.
+pub fn read_full(file: &mut impl Read, buffer: &mut [u8]) -> usize
+    ensures { result ≤ length buffer.new }
+{
+    let mut done = 0;
+    while done < buffer.len() {
+        match file.read(&mut buffer[done..]) {
+            Ok(0) | Err(_) => break,
+            Ok(n) => done += n,
+        }
+    }
+    done
+}
 
 // Whether a file has ended. A read that fails, as one of a folder does, says neither.
 #[derive(Drop)]
 pub enum End {
     Ended,
-    Failed,
+    Failed(io::Error),
     More,
 }
 
-pub fn at_end(fd: i32) -> End {
+pub fn at_end(file: &mut impl Read) -> End {
     let mut one = [0u8; 1];
-    let got = libc::read(fd, &mut one);
-    if got < 0 {
-        return End::Failed;
+    match file.read(&mut one) {
+        Ok(0) => End::Ended,
+        Ok(_) => End::More,
+        Err(error) => End::Failed(error),
     }
-    if got == 0 {
-        return End::Ended;
-    }
-    End::More
 }
 
 // Says that a file is longer than any tree file.
-pub fn too_long(path: &[u8]) {
-    io::write_all(STDERR_FILENO, path);
-    io::write_all(STDERR_FILENO, b": longer than any tree file\n");
+pub fn too_long(rt: &impl Eprint, path: &str) -> io::Result<()> {
+    eprintln!(rt; "{path}: longer than any tree file")
+}
+
+// An error's text without the number that std has behind it.
+fn words_of(said: &str) -> &str {
+    match said.split_once(" (os error ") {
+        Some((words, _)) => words,
+        None => said,
+    }
+}
+
+// Says what failed, and why.
+pub fn fail<R: Eprint + Alloc>(rt: &R, what: &str, error: io::Error) -> io::Result<()> {
+    let said = format!(in rt.alloc(); "{error}")?;
+    let words = words_of(said.as_str());
+    eprintln!(rt; "{what}: {words}")
+}
+
+// Writes the bytes and closes the file. What the system could not keep shows before the file is closed.
+fn write_whole<F: Write + OpenFile + Drop>(mut file: F, bytes: &[u8]) -> io::Result<()> {
+    file.write_all(bytes)?;
+    file.sync_all()
 }
 
 // Whether the bytes are all in a new file of this name. A file that has the name already is left as it is, and one that
 // could not be written whole is removed.
-pub fn write_new(path: &[u8], bytes: &[u8]) -> bool {
-    let fd = os::create(path);
-    if fd < 0 {
-        os::fail(path);
-        return false;
-    }
-    let written = io::write_all(fd, bytes);
-    let closed = libc::close(fd);
-    if written {
-        if closed == 0 {
-            return true;
+pub fn write_new<R: Files + Eprint + Alloc>(rt: &R, path: &str, bytes: &[u8]) -> io::Result<bool> {
+    let opened = OpenOptions::new()
+        .write(true)
+        .create_new(true)
+        .open(rt, path);
+    match opened {
+        Ok(file) => match write_whole(file, bytes) {
+            Ok(()) => Ok(true),
+            Err(error) => {
+                let _ = fs::remove_file(rt, path);
+                fail(rt, path, error)?;
+                Ok(false)
+            }
+        },
+        Err(error) => {
+            fail(rt, path, error)?;
+            Ok(false)
         }
     }
-    os::fail(path);
-    os::unlink(path);
-    false
 }

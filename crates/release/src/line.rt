@@ -2,7 +2,7 @@
 use area::layout::{HELD_FATE, INITIAL_FATE, LEFT_OVER_FATE, REPLACED_FATE, SHORT_AREA};
 use ast::open::BROKEN;
 use builder::numbers::NO_ROOT;
-use libc::STDOUT_FILENO;
+use std::io;
 
 // How many statements have each fate.
 #[derive(Drop)]
@@ -42,43 +42,40 @@ pub fn counted(f: Fates, fate: u32) -> Fates {
     }
 }
 
-fn put(text: &[u8]) {
-    io::write_all(STDOUT_FILENO, text);
+fn put(rt: &impl Print, text: &str) -> io::Result<()> {
+    rt.print(text)
 }
 
-fn say(text: &[u8], n: u64) {
-    put(text);
-    io::print_decimal(STDOUT_FILENO, n);
+fn say(rt: &impl Print, text: &str, n: u64) -> io::Result<()> {
+    print!(rt; "{text}{n}")
 }
 
 // Who can mend what was refused by this number: an area too short or a root that is not there, a file that is none, or
 // the model.
-fn put_mender(number: u64) {
+fn put_mender(rt: &impl Print, number: u64) -> io::Result<()> {
     if (number == SHORT_AREA as u64) | (number == NO_ROOT as u64) {
-        put(b"the caller");
-        return;
+        return put(rt, "the caller");
     }
     if number <= BROKEN as u64 {
-        put(b"the maker of the file");
-        return;
+        return put(rt, "the maker of the file");
     }
-    put(b"the model's author");
+    put(rt, "the model's author")
 }
 
-pub fn refused(number: u64) {
-    say(b"number ", number);
-    put(b" bytes 0: refused, to be mended by ");
-    put_mender(number);
-    put(b"\n");
+pub fn refused(rt: &impl Print, number: u64) -> io::Result<()> {
+    say(rt, "number ", number)?;
+    put(rt, " bytes 0: refused, to be mended by ")?;
+    put_mender(rt, number)?;
+    put(rt, "\n")
 }
 
-pub fn accepted(used: u64, errors: u64, stmts: u64, f: Fates) {
-    say(b"number 0 bytes ", used);
-    say(b" errors ", errors);
-    say(b" statements ", stmts);
-    say(b": initial conditions ", f.initial);
-    say(b", held ", f.held);
-    say(b", replaced ", f.replaced);
-    say(b", left over ", f.left);
-    put(b"\n");
+pub fn accepted(rt: &impl Print, used: u64, errors: u64, stmts: u64, f: Fates) -> io::Result<()> {
+    say(rt, "number 0 bytes ", used)?;
+    say(rt, " errors ", errors)?;
+    say(rt, " statements ", stmts)?;
+    say(rt, ": initial conditions ", f.initial)?;
+    say(rt, ", held ", f.held)?;
+    say(rt, ", replaced ", f.replaced)?;
+    say(rt, ", left over ", f.left)?;
+    put(rt, "\n")
 }

@@ -1,71 +1,87 @@
 // release TREEFILE ROOT AREAFILE: builds the model named ROOT of a tree file, writes the answer's bytes to a new file
 // and prints one line: the number (0, or the refusal's) and the bytes used, the errors counted, the statements and how
-// many of each fate. Where the build is refused, or something cannot be read or written, no new file is left.
+// many of each fate. Where the build is refused, or something cannot be read or written, no new file is left. The names of
+// the files are UTF-8 text.
+#![tactic(auto)]
+
 mod answer;
+mod arguments;
 mod files;
 mod line;
 
 use files::End;
-use libc::STDERR_FILENO;
+use std::io::Read;
+use std::rt::{Env, Files};
+use std::{fs, io};
 
 // Builds the file's bytes, and hands the answer over.
-fn release(file: &[u8], root: &[u8], to: &[u8]) {
-    let mut area = io::large_buffer();
+fn release<R: Files + Print + Eprint + Alloc>(
+    rt: &R,
+    file: &[u8],
+    root: &[u8],
+    to: &str,
+) -> io::Result<()> {
+    let mut area = [0u8; 65536];
     let told = builder::build::build(file, root, &mut area);
-    answer::hand_over(told, &area, to);
+    answer::hand_over(rt, told, &area, to)
 }
 
 // Reads an open tree file to its end. No tree file has over 55,200 bytes, so the buffer holds it.
-fn with_open(fd: i32, from: &[u8], root: &[u8], to: &[u8]) {
-    let mut buffer = io::large_buffer();
-    let n = io::read_full(fd, &mut buffer);
-    match files::at_end(fd) {
-        End::Ended => release(&buffer[..n], root, to),
-        End::Failed => os::fail(from),
-        End::More => files::too_long(from),
+fn with_open<R: Files + Print + Eprint + Alloc>(
+    rt: &R,
+    file: &mut impl Read,
+    from: &str,
+    root: &[u8],
+    to: &str,
+) -> io::Result<()> {
+    let mut buffer = [0u8; 65536];
+    let n = files::read_full(file, &mut buffer);
+    match files::at_end(file) {
+        End::Ended => release(rt, &buffer[..n], root, to),
+        End::Failed(error) => files::fail(rt, from, error),
+        End::More => files::too_long(rt, from),
     }
 }
 
-fn with_names(from: &[u8], root: &[u8], to: &[u8]) {
-    let fd = os::open_read(from);
-    if fd < 0 {
-        os::fail(from);
-        return;
+fn with_names<R: Files + Print + Eprint + Alloc>(
+    rt: &R,
+    from: &str,
+    root: &[u8],
+    to: &str,
+) -> io::Result<()> {
+    match fs::open(rt, from) {
+        Ok(mut file) => with_open(rt, &mut file, from, root, to),
+        Err(error) => files::fail(rt, from, error),
     }
-    with_open(fd, from, root, to);
-    libc::close(fd);
 }
 
-fn with_root(from: &[u8], root: &[u8]) {
-    let mut name = io::buffer();
-    let n = os::arg(3, &mut name);
-    if os::errno() != 0 {
-        os::fail(b"release: AREAFILE");
-        return;
+fn with_root<R: Env + Files + Print + Eprint + Alloc>(
+    rt: &R,
+    from: &str,
+    root: &[u8],
+) -> io::Result<()> {
+    let mut name = [0u8; 4096];
+    match arguments::path(rt, 3, &mut name) {
+        Ok(to) => with_names(rt, from, root, to),
+        Err(error) => files::fail(rt, "release: AREAFILE", error),
     }
-    with_names(from, root, &name[..n]);
 }
 
-fn with_file(from: &[u8]) {
-    let mut name = io::buffer();
-    let n = os::arg(2, &mut name);
-    if os::errno() != 0 {
-        os::fail(b"release: ROOT");
-        return;
+fn with_file<R: Env + Files + Print + Eprint + Alloc>(rt: &R, from: &str) -> io::Result<()> {
+    let mut name = [0u8; 4096];
+    match arguments::bytes(rt, 2, &mut name) {
+        Ok(root) => with_root(rt, from, root),
+        Err(error) => files::fail(rt, "release: ROOT", error),
     }
-    with_root(from, &name[..n]);
 }
 
-fn main() {
-    if os::arg_count() != 4 {
-        io::write_all(STDERR_FILENO, b"usage: release TREEFILE ROOT AREAFILE\n");
-        return;
+fn main(rt: HostRuntime) -> io::Result<()> {
+    if !arguments::are_three(&rt) {
+        return eprintln!(rt; "usage: release TREEFILE ROOT AREAFILE");
     }
-    let mut name = io::buffer();
-    let n = os::arg(1, &mut name);
-    if os::errno() != 0 {
-        os::fail(b"release: TREEFILE");
-        return;
+    let mut name = [0u8; 4096];
+    match arguments::path(&rt, 1, &mut name) {
+        Ok(from) => with_file(&rt, from),
+        Err(error) => files::fail(&rt, "release: TREEFILE", error),
     }
-    with_file(&name[..n]);
 }

@@ -3,19 +3,22 @@
 // with an empty one, each filled with a byte other than 0, the build returns the number and the bytes used that are
 // due, the area begins with the stored answer, and every byte behind it is 0. A case is four words (the file's length,
 // the root name's length, the number, the bytes used), the file, the root name, and the used part of the area.
+#![tactic(auto)]
+
 ghost use Rattle.std.specs.Prelude.{◌≡◌, length};
 
 use ast::words::read_word;
 use builder::build::build;
-use libc::{STDIN_FILENO, STDOUT_FILENO};
+use std::io;
+use std::io::Read;
 
-#[derive(Drop)]
+#[derive(Clone, Copy)]
 struct Tally {
     cases: u64,
     wrong: u64,
 }
 
-#[derive(Drop)]
+#[derive(Clone, Copy)]
 struct Turn {
     more: bool,
     tally: Tally,
@@ -154,30 +157,36 @@ fn right_in(
 }
 
 // Reads as many bytes as the part has. False where they are not all there.
-fn read_part(part: &mut [u8]) -> bool {
-    io::read_full(STDIN_FILENO, part) == part.len()
+fn read_part(input: &mut impl Read, part: &mut [u8]) -> bool {
+    input.read_exact(part).is_ok()
 }
 
 // Reads so many bytes. False where they are not all there, or too many for the buffer.
-fn read_into(buffer: &mut [u8], size: usize) -> bool {
+fn read_into(input: &mut impl Read, buffer: &mut [u8], size: usize) -> bool {
     if buffer.len() < size {
         return false;
     }
-    read_part(&mut buffer[..size])
+    read_part(input, &mut buffer[..size])
 }
 
 // Reads the rest of a case, and whether it is right. One that is not all there or too long is not.
-fn rest_is_right(files: usize, roots: usize, number: u32, used: u32) -> bool {
-    let mut file = io::large_buffer();
-    let mut root = io::buffer();
-    let mut answer = io::large_buffer();
-    if !read_into(&mut file, files) {
+fn rest_is_right(
+    input: &mut impl Read,
+    files: usize,
+    roots: usize,
+    number: u32,
+    used: u32,
+) -> bool {
+    let mut file = [0u8; 65536];
+    let mut root = [0u8; 4096];
+    let mut answer = [0u8; 65536];
+    if !read_into(input, &mut file, files) {
         return false;
     }
-    if !read_into(&mut root, roots) {
+    if !read_into(input, &mut root, roots) {
         return false;
     }
-    if !read_into(&mut answer, used as usize) {
+    if !read_into(input, &mut answer, used as usize) {
         return false;
     }
     right_in(&file, &root, &answer, files, roots, number, used)
@@ -193,10 +202,9 @@ fn plus(count: u64, test: bool) -> u64 {
     count
 }
 
-fn one_case(t: Tally) -> Turn {
+fn one_case(input: &mut impl Read, t: Tally) -> Turn {
     let mut head = [0u8; 16];
-    let got = io::read_full(STDIN_FILENO, &mut head);
-    if got < 16 {
+    if input.read_exact(&mut head).is_err() {
         return Turn {
             more: false,
             tally: t,
@@ -206,7 +214,7 @@ fn one_case(t: Tally) -> Turn {
     let roots = read_word(&head, 4) as usize;
     let number = read_word(&head, 8);
     let used = read_word(&head, 12);
-    let right = rest_is_right(files, roots, number, used);
+    let right = rest_is_right(input, files, roots, number, used);
     let next = Tally {
         cases: plus(t.cases, true),
         wrong: plus(t.wrong, !right),
@@ -218,11 +226,11 @@ fn one_case(t: Tally) -> Turn {
 }
 
 // All cases that there are, up to a number that no list has.
-fn all_cases(start: Tally) -> Tally {
+fn all_cases(input: &mut impl Read, start: Tally) -> Tally {
     let mut t = start;
     let mut left: u64 = 100000;
     while 0 < left {
-        let next = one_case(t);
+        let next = one_case(input, t);
         if !next.more {
             return t;
         }
@@ -232,11 +240,8 @@ fn all_cases(start: Tally) -> Tally {
     t
 }
 
-fn main() {
+fn main(rt: HostRuntime) -> io::Result<()> {
     let none = Tally { cases: 0, wrong: 0 };
-    let t = all_cases(none);
-    io::print_decimal(STDOUT_FILENO, t.cases);
-    io::write_all(STDOUT_FILENO, b" cases, ");
-    io::print_decimal(STDOUT_FILENO, t.wrong);
-    io::write_all(STDOUT_FILENO, b" wrong\n");
+    let t = all_cases(&mut rt.stdin(), none);
+    println!(rt; "{} cases, {} wrong", t.cases, t.wrong)
 }

@@ -1,0 +1,39 @@
+// The program's arguments, each in a buffer as long as the longest path.
+use std::env::FillError;
+use std::io;
+use std::io::ErrorKind;
+use std::rt::Env;
+
+fn is_there(rt: &impl Env, i: usize) -> bool {
+    let mut one = [0u8; 1];
+    !matches!(&rt.arg(i, &mut one), Err(FillError::NotPresent))
+}
+
+// Whether the program has three arguments behind its own name.
+pub fn are_three(rt: &impl Env) -> bool {
+    is_there(rt, 3) & !is_there(rt, 4)
+}
+
+// Why an argument cannot be had, in the system's words.
+fn not_had(error: FillError) -> io::Error {
+    match error {
+        FillError::NotPresent => io::Error::new(ErrorKind::InvalidInput, "Invalid argument"),
+        FillError::TooLong => io::Error::new(ErrorKind::InvalidFilename, "File name too long"),
+    }
+}
+
+// An argument's bytes.
+pub fn bytes<'a>(rt: &impl Env, i: usize, buffer: &'a mut [u8]) -> io::Result<&'a [u8]> {
+    match rt.arg(i, buffer) {
+        Ok(n) => Ok(&buffer[..n]),
+        Err(error) => Err(not_had(error)),
+    }
+}
+
+// An argument that names a file, and so is text.
+pub fn path<'a>(rt: &impl Env, i: usize, buffer: &'a mut [u8]) -> io::Result<&'a str> {
+    match str::from_utf8(bytes(rt, i, buffer)?) {
+        Ok(text) => Ok(text),
+        Err(_) => Err(io::Error::new(ErrorKind::InvalidFilename, "not UTF-8 text")),
+    }
+}
