@@ -5,7 +5,8 @@ usage: python3 tools/respell.py        at the top, once, on a tree as port.py le
 
 It turns every name that a file of specs/ or proofs/ declares: `placeFrom` to `place_from`, `all-step` to `all_step`. Types, modules,
 Rust's names, strings and names that a file imports from a library stay. Where two names would fall together, the law's gets `_lem`, or
-what OVERRIDE says. A must-fail edit is turned as the text that it edits.
+what OVERRIDE says. The examples' own `◌==◌`, an equation of a model, is `◌≐◌`, since a reader takes `==` for the library's. A must-fail edit is
+turned as the text that it edits.
 """
 import collections
 import glob
@@ -84,8 +85,12 @@ def turn(text, rows):
             return w if m.start() and whole[m.start() - 1] == "." else w + "_lem"
         return rows.get(w, w)
 
+    # the equation sign of the examples: a text that has it has no other ◌==◌
+    equation = "infixl 20 ◌==◌" in text or any(is_own(m[1]) and "◌==◌" in m[2] for m in USE.finditer(text))
+
     def code(piece):
-        return TOKEN.sub(lambda m: word(m, piece), piece)
+        piece = TOKEN.sub(lambda m: word(m, piece), piece)
+        return piece.replace("==", "≐") if equation else piece
 
     def comment(piece):
         piece = re.sub(r"`[^`\n]*`", lambda m: code(m[0][1:-1]).join("``"), piece)

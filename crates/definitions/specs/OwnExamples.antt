@@ -6,7 +6,7 @@ use Rattle.ast.specs.Computes.{ast·computes}
 use Rattle.ast.specs.Tree.{name, number, unary, call, empty, range, named}
 use Rattle.definitions.specs.Computes.{definitions·computes}
 use Rattle.definitions.specs.Variables.{infinity}
-use Rattle.definitions.specs.Models.{z, span, t, x, y, s, u, R, M, N, sin, non_negative, one, minus_one, nan, num, var, ◌+pos◌, keyed, app, ◌==◌, dot, into_model, into, unknown, over, plain, model, root, xt, decay, start, refuses, answers, says, Row, row, meets}
+use Rattle.definitions.specs.Models.{z, span, t, x, y, s, u, R, M, N, sin, non_negative, one, minus_one, nan, num, var, ◌+pos◌, keyed, app, ◌≐◌, dot, into_model, into, unknown, over, plain, model, root, xt, decay, start, refuses, answers, says, Row, row, meets}
 
 -- ---- variables: t first, then x and y as they are declared
 
@@ -40,7 +40,7 @@ declared_twice = row (root (unknown x (t ∷ []) (range minus_one one) ∷ unkno
 
 -- x(t, y, t), y; x(1, 1, 0)=1; dot(x)=1: time index 2, the last t's (word 112 has it plus 1), so fates 1 2 and no error
 abbrev last_times : Row
-last_times = row (root (over x (t ∷ y ∷ t ∷ []) ∷ plain y ∷ []) ((call x (empty +pos num one +pos num one +pos num 0) z == num one) ∷ dot x (num one) ∷ []) ∷ []) 1000
+last_times = row (root (over x (t ∷ y ∷ t ∷ []) ∷ plain y ∷ []) ((call x (empty +pos num one +pos num one +pos num 0) z ≐ num one) ∷ dot x (num one) ∷ []) ∷ []) 1000
     (says ((4, 0) ∷ (88, 1) ∷ (96, 2) ∷ (112, 3) ∷ []))
 
 -- x(s, t); x(0)=1; dot(x)=1: s is no variable and passed over, so time's place is the first
@@ -49,7 +49,7 @@ passed_over = row (root (over x (s ∷ t ∷ []) ∷ []) (start (num 0) ∷ dot 
 
 -- x(y), y(t); dot(x)=1; y=1: x is time-dependent through y, so no error 13; with no t of its own it has no time index, hence 16
 abbrev through_other : Row
-through_other = row (root (over x (y ∷ []) ∷ over y (t ∷ []) ∷ []) (dot x (num one) ∷ (var y == num one) ∷ []) ∷ []) 1000 (answers (16 ∷ []) (2 ∷ 2 ∷ []) 3 1 368)
+through_other = row (root (over x (y ∷ []) ∷ over y (t ∷ []) ∷ []) (dot x (num one) ∷ (var y ≐ num one) ∷ []) ∷ []) 1000 (answers (16 ∷ []) (2 ∷ 2 ∷ []) 3 1 368)
 
 -- ---- submodels
 
@@ -60,7 +60,7 @@ keyword_counted = row (model M (plain y ∷ plain s ∷ xt ∷ []) (start (var s
 
 -- M(s): s=1; root x(t): M(y): clean, since a submodel's statements aren't rechecked against the root
 abbrev not_rechecked : Row
-not_rechecked = row (model M (plain s ∷ []) ((var s == num one) ∷ []) ∷ root (xt ∷ []) (into (empty +pos var y) ∷ []) ∷ []) 1000 (answers [] (2 ∷ []) 2 2 236)
+not_rechecked = row (model M (plain s ∷ []) ((var s ≐ num one) ∷ []) ∷ root (xt ∷ []) (into (empty +pos var y) ∷ []) ∷ []) 1000 (answers [] (2 ∷ []) 2 2 236)
 
 -- M(t, u, s, x(t)): x(s)=1; root x(t): M(1, 1, 0); dot(x)=-x: error 2 of u, and 0 replaces s, as t and u are counted
 abbrev declared_counted : Row
@@ -79,7 +79,7 @@ unknown_keyword = row (model M (xt ∷ []) (start (var s) ∷ []) ∷ root (xt �
 
 -- M(s, y): s=y; root x(t): M(y, x): y=x comes out, both replaced at once
 abbrev at_once : Row
-at_once = row (model M (plain s ∷ plain y ∷ []) ((var s == var y) ∷ []) ∷ root (xt ∷ []) (into (empty +pos var y +pos var x) ∷ []) ∷ []) 1000
+at_once = row (model M (plain s ∷ plain y ∷ []) ((var s ≐ var y) ∷ []) ∷ root (xt ∷ []) (into (empty +pos var y +pos var x) ∷ []) ∷ []) 1000
     (says ((10, 1) ∷ (11, 2) ∷ (18, 1) ∷ (19, 1) ∷ []))
 
 -- M(x(t)): dot(x)=x; x(0)=1; root x(t): M(y): dot(x)=y; x(0)=1 comes out: neither the rate equation's name nor the call's is replaced
@@ -89,14 +89,14 @@ names_stay = row (model M (xt ∷ []) (dot x (var x) ∷ start (num 0) ∷ []) �
 
 -- M(s): s=1; root x(t): M(-x): -x=1 comes out, with the span of s on the minus and its own on the x below
 abbrev top_span : Row
-top_span = row (model M (plain s ∷ []) ((name s (span 1 2) == num one) ∷ []) ∷ root (xt ∷ []) (into (empty +pos unary 45 (name x (span 4 5)) (span 3 5)) ∷ []) ∷ []) 1000
+top_span = row (model M (plain s ∷ []) ((name s (span 1 2) ≐ num one) ∷ []) ∷ root (xt ∷ []) (into (empty +pos unary 45 (name x (span 4 5)) (span 3 5)) ∷ []) ∷ []) 1000
     (says ((10, 1) ∷ (11, 1) ∷ (14, 4) ∷ (15, 5) ∷ (18, 4) ∷ (20, 45) ∷ (22, 1) ∷ (23, 2) ∷ []))
 
 -- N(y): y=1; M(s): N(s); root x(t): M(x): x=1 comes out of the third model, with the span of y; 3 instances, held, no error
 abbrev three_deep : Row
 three_deep =
     row
-    (model N (plain y ∷ []) ((name y (span 5 6) == num one) ∷ []) ∷ model M (plain s ∷ []) (into_model N (empty +pos name s (span 3 4)) ∷ [])
+    (model N (plain y ∷ []) ((name y (span 5 6) ≐ num one) ∷ []) ∷ model M (plain s ∷ []) (into_model N (empty +pos name s (span 3 4)) ∷ [])
     ∷ root (xt ∷ []) (into (empty +pos name x (span 1 2)) ∷ []) ∷ []) 1000
     (says ((1, 1) ∷ (4, 0) ∷ (5, 3) ∷ (10, 1) ∷ (11, 1) ∷ (14, 5) ∷ (15, 6) ∷ (18, 2) ∷ (25, 0x3ff0_0000) ∷ (32, 2) ∷ []))
 
@@ -117,26 +117,26 @@ first_meant = row (model M [] [] ∷ model M (over x (x ∷ []) ∷ []) [] ∷ r
 
 -- x(t); y(x)=s: of the right side error 5, then of the left 11
 abbrev right_first : Row
-right_first = row (root (xt ∷ []) ((app y (var x) == var s) ∷ []) ∷ []) 1000 (answers (5 ∷ 11 ∷ []) (2 ∷ []) 4 1 332)
+right_first = row (root (xt ∷ []) ((app y (var x) ≐ var s) ∷ []) ∷ []) 1000 (answers (5 ∷ 11 ∷ []) (2 ∷ []) 4 1 332)
 
 -- x(t); x=sin(x=s, s): errors 6 and 7 of the call, then 5 of each argument
 abbrev built_in_call : Row
-built_in_call = row (root (xt ∷ []) ((var x == call sin (keyed empty x (var s) +pos var s) z) ∷ []) ∷ []) 1000 (answers (6 ∷ 7 ∷ 5 ∷ 5 ∷ []) (2 ∷ []) 6 1 428)
+built_in_call = row (root (xt ∷ []) ((var x ≐ call sin (keyed empty x (var s) +pos var s) z) ∷ []) ∷ []) 1000 (answers (6 ∷ 7 ∷ 5 ∷ 5 ∷ []) (2 ∷ []) 6 1 428)
 
 -- x(t); x=x(y=1, 0): errors 8, 9 and 10
 abbrev variable_call : Row
-variable_call = row (root (xt ∷ []) ((var x == call x (keyed empty y (num one) +pos num 0) z) ∷ []) ∷ []) 1000 (answers (8 ∷ 9 ∷ 10 ∷ []) (2 ∷ []) 6 1 412)
+variable_call = row (root (xt ∷ []) ((var x ≐ call x (keyed empty y (num one) +pos num 0) z) ∷ []) ∷ []) 1000 (answers (8 ∷ 9 ∷ 10 ∷ []) (2 ∷ []) 6 1 412)
 
 -- ---- who holds which
 
 -- x(t, y), y; x(y=0, t=1)=1; dot(x)=1: an initial condition by the place of time, whatever keyword stands there
 abbrev by_place : Row
-by_place = row (root (over x (t ∷ y ∷ []) ∷ plain y ∷ []) ((call x (keyed (keyed empty y (num 0)) t (num one)) z == num one) ∷ dot x (num one) ∷ []) ∷ []) 1000
+by_place = row (root (over x (t ∷ y ∷ []) ∷ plain y ∷ []) ((call x (keyed (keyed empty y (num 0)) t (num one)) z ≐ num one) ∷ dot x (num one) ∷ []) ∷ []) 1000
     (answers [] (1 ∷ 2 ∷ []) 7 1 480)
 
 -- sin(t); dot(sin)=1; sin(0)=1: as for any other name
 abbrev built_in_start : Row
-built_in_start = row (root (over sin (t ∷ []) ∷ []) (dot sin (num one) ∷ (app sin (num 0) == num one) ∷ []) ∷ []) 1000 (answers [] (2 ∷ 1 ∷ []) 5 1 364)
+built_in_start = row (root (over sin (t ∷ []) ∷ []) (dot sin (num one) ∷ (app sin (num 0) ≐ num one) ∷ []) ∷ []) 1000 (answers [] (2 ∷ 1 ∷ []) 5 1 364)
 
 -- P1 with t from NaN and x(NaN)=1: a NaN equals nothing, so errors 12 15 16
 abbrev not_a_number : Row
@@ -144,7 +144,7 @@ not_a_number = row (root (unknown t [] (range nan infinity) ∷ xt ∷ []) (deca
 
 -- x(t), y(t); x=1; dot(s)=1; x(0)=1: dot(s) is error 5 and stays among those left, paired with y; 17 on x, 16 on y
 abbrev paired_rate : Row
-paired_rate = row (root (xt ∷ over y (t ∷ []) ∷ []) ((var x == num one) ∷ dot s (num one) ∷ start (num 0) ∷ []) ∷ []) 1000 (answers (5 ∷ 17 ∷ 16 ∷ []) (2 ∷ 2 ∷ 1 ∷ []) 7 1 560)
+paired_rate = row (root (xt ∷ over y (t ∷ []) ∷ []) ((var x ≐ num one) ∷ dot s (num one) ∷ start (num 0) ∷ []) ∷ []) 1000 (answers (5 ∷ 17 ∷ 16 ∷ []) (2 ∷ 2 ∷ 1 ∷ []) 7 1 560)
 
 -- x(y), y; dot(x)=1: error 13, yet paired with x, which is not time-dependent; 16 on it
 abbrev paired_invalid : Row
@@ -152,7 +152,7 @@ paired_invalid = row (root (over x (y ∷ []) ∷ plain y ∷ []) (dot x (num on
 
 -- x(t); x=1; x(0)=1; x(0)=1: error 17 of x, at the first condition's right side
 abbrev first_condition : Row
-first_condition = row (root (xt ∷ []) ((var x == num one) ∷ (app x (num 0) == number one (span 1 2)) ∷ (app x (num 0) == number one (span 3 4)) ∷ []) ∷ []) 1000
+first_condition = row (root (xt ∷ []) ((var x ≐ num one) ∷ (app x (num 0) ≐ number one (span 1 2)) ∷ (app x (num 0) ≐ number one (span 3 4)) ∷ []) ∷ []) 1000
     (says ((4, 1) ∷ (139, 17) ∷ (140, 1) ∷ (141, 2) ∷ (142, 2) ∷ []))
 
 -- ---- refusals
@@ -175,7 +175,7 @@ not_reached = row (model M (over x (x ∷ []) ∷ []) [] ∷ root [] [] ∷ []) 
 
 -- M(s); root x(t): M(s=1, 0); x()=1: 8, as the keyword is counted; also where x() is 10
 abbrev beyond : Row
-beyond = row (model M (plain s ∷ []) [] ∷ root (xt ∷ []) (into (keyed empty s (num one) +pos num 0) ∷ (call x empty z == num one) ∷ []) ∷ []) 0 (refuses 8)
+beyond = row (model M (plain s ∷ []) [] ∷ root (xt ∷ []) (into (keyed empty s (num one) +pos num 0) ∷ (call x empty z ≐ num one) ∷ []) ∷ []) 0 (refuses 8)
 
 -- M(s); root: M(0, s=1): accepted, as a keyword's own number is no matter
 abbrev not_beyond : Row
