@@ -6,16 +6,17 @@ use std::io::Read;
 use std::rt::Env;
 
 // An argument's bytes, none where it is missing or too long for a path.
-fn bytes<'a>(rt: &impl Env, i: usize, buffer: &'a mut [u8]) -> &'a [u8] {
+pub fn bytes<'a>(rt: &impl Env, i: usize, buffer: &'a mut [u8]) -> &'a [u8] {
     match rt.arg(i, buffer) {
         Ok(n) => &buffer[..n],
         Err(_) => &[],
     }
 }
 
-// An argument that names a file, and so is text. Any other is empty, and no file has that name.
-pub fn name<'a>(rt: &impl Env, i: usize, buffer: &'a mut [u8]) -> &'a str {
-    match str::from_utf8(bytes(rt, i, buffer)) {
+// The text of a file's name, since std opens no other. That of a name which is not UTF-8 text is empty, and no file has
+// that name.
+pub fn text_of(name: &[u8]) -> &str {
+    match str::from_utf8(name) {
         Ok(text) => text,
         Err(_) => "",
     }

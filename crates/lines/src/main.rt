@@ -21,15 +21,15 @@ fn with_open<R: Env + Files + Print + Eprint + Alloc>(
     print::judged(rt, file, &front[..n])
 }
 
-fn with_area<R: Env + Files + Print + Eprint + Alloc>(rt: &R, path: &str) -> io::Result<()> {
-    match fs::open(rt, path) {
+fn with_area<R: Env + Files + Print + Eprint + Alloc>(rt: &R, path: &[u8]) -> io::Result<()> {
+    match fs::open(rt, files::text_of(path)) {
         Ok(mut file) => with_open(rt, &mut file),
         Err(_) => Ok(()),
     }
 }
 
-// An argument that is missing, too long for a path or not UTF-8 text is empty, and no file has that name.
+// An argument that is missing or too long for a path is empty, and no file has that name.
 fn main(rt: HostRuntime) -> io::Result<()> {
     let mut name = [0u8; 4096];
-    with_area(&rt, files::name(&rt, 1, &mut name))
+    with_area(&rt, files::bytes(&rt, 1, &mut name))
 }

@@ -30,7 +30,7 @@ fn table() -> [u64; MOST_LISTED]
 fn lines_of(
     rt: &impl Files,
     area: &[u8],
-    path: &str,
+    path: &[u8],
     starts: &mut [u64],
     lines: &mut [u64],
     columns: &mut [u64],
@@ -49,7 +49,7 @@ fn lines_of(
     put_lines(area, s.errors, lines, columns, out)
 }
 
-fn with_path<R: Files + Print + Eprint + Alloc>(rt: &R, area: &[u8], path: &str) -> io::Result<()>
+fn with_path<R: Files + Print + Eprint + Alloc>(rt: &R, area: &[u8], path: &[u8]) -> io::Result<()>
     requires { keeps_layout plain most_kind area.now ≡ true }
 {
     let mut starts = table();
@@ -76,7 +76,7 @@ fn with_text<R: Env + Files + Print + Eprint + Alloc>(rt: &R, area: &[u8]) -> io
     requires { keeps_layout plain most_kind area.now ≡ true }
 {
     let mut name = [0u8; 4096];
-    with_path(rt, area, files::name(rt, 2, &mut name))
+    with_path(rt, area, files::bytes(rt, 2, &mut name))
 }
 
 // Nothing is printed before the whole area is judged: what is left of its file has to be zeros.

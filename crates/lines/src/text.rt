@@ -3,6 +3,7 @@
 ghost use Rattle.std.specs.Prelude.{[], ◌^◌, ◌≤◌, length};
 ghost use Rattle.positions.specs.Pieces.{AsLong, Placed, OfText};
 
+use super::files::text_of;
 use positions::ends::beginning;
 use positions::tables::{begin, take_piece};
 use std::fs;
@@ -47,12 +48,12 @@ fn with_buffer(file: &mut impl Read, starts: &[u64], lines: &mut [u64], columns:
 }
 
 // The tables of the text in a file. One that cannot be read to its end counts as empty.
-pub fn places(rt: &impl Files, path: &str, starts: &[u64], lines: &mut [u64], columns: &mut [u64])
+pub fn places(rt: &impl Files, path: &[u8], starts: &[u64], lines: &mut [u64], columns: &mut [u64])
     requires { AsLong starts.now lines.old columns.old }
     ensures { OfText starts.now lines.new columns.new }
 {
     begin(starts, lines, columns);
-    let Ok(mut file) = fs::open(rt, path) else {
+    let Ok(mut file) = fs::open(rt, text_of(path)) else {
         return;
     };
     let whole = with_buffer(&mut file, starts, lines, columns);

@@ -47,7 +47,7 @@ fn all_fates(area: &[u8]) -> Fates {
 fn write_answer<R: Files + Print + Eprint + Alloc>(
     rt: &R,
     answer: &[u8],
-    to: &str,
+    to: &[u8],
 ) -> io::Result<()> {
     if files::write_new(rt, to, answer)? {
         let errors = word(answer, ERRORS_AT) as u64;
@@ -62,7 +62,7 @@ fn write_used<R: Files + Print + Eprint + Alloc>(
     rt: &R,
     area: &[u8],
     used: usize,
-    to: &str,
+    to: &[u8],
 ) -> io::Result<()> {
     if area.len() < used {
         return eprintln!(rt; "release: more bytes used than there are");
@@ -75,7 +75,7 @@ pub fn hand_over<R: Files + Print + Eprint + Alloc>(
     rt: &R,
     told: u64,
     area: &[u8],
-    to: &str,
+    to: &[u8],
 ) -> io::Result<()> {
     let number = told % HIGH;
     if number != 0 {

@@ -29,11 +29,3 @@ pub fn bytes<'a>(rt: &impl Env, i: usize, buffer: &'a mut [u8]) -> io::Result<&'
         Err(error) => Err(not_had(error)),
     }
 }
-
-// An argument that names a file, and so is text.
-pub fn path<'a>(rt: &impl Env, i: usize, buffer: &'a mut [u8]) -> io::Result<&'a str> {
-    match str::from_utf8(bytes(rt, i, buffer)?) {
-        Ok(text) => Ok(text),
-        Err(_) => Err(io::Error::new(ErrorKind::InvalidFilename, "not UTF-8 text")),
-    }
-}

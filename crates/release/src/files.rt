@@ -2,7 +2,7 @@
 ghost use Rattle.std.specs.Prelude.{◌≤◌, length};
 
 use std::fs::{OpenFile, OpenOptions};
-use std::io::{Read, Write};
+use std::io::{ErrorKind, Read, Write};
 use std::rt::Files;
 use std::{fs, io};
 
@@ -37,8 +37,17 @@ pub fn at_end(file: &mut impl Read) -> End {
     }
 }
 
+// A file's name as it is said: std opens no other than UTF-8 text.
+pub fn shown(path: &[u8]) -> &str {
+    match str::from_utf8(path) {
+        Ok(text) => text,
+        Err(_) => "a file's name",
+    }
+}
+
 // Says that a file is longer than any tree file.
-pub fn too_long(rt: &impl Eprint, path: &str) -> io::Result<()> {
+pub fn too_long(rt: &impl Eprint, path: &[u8]) -> io::Result<()> {
+    let path = shown(path);
     eprintln!(rt; "{path}: longer than any tree file")
 }
 
@@ -63,9 +72,33 @@ fn write_whole<F: Write + OpenFile + Drop>(mut file: F, bytes: &[u8]) -> io::Res
     file.sync_all()
 }
 
+// Why a file cannot be had under a name that is no text.
+fn not_text() -> io::Error {
+    io::Error::new(ErrorKind::InvalidFilename, "not UTF-8 text")
+}
+
+// Opens a file to read.
+pub fn open_read<R: Files>(rt: &R, path: &[u8]) -> io::Result<R::File> {
+    match str::from_utf8(path) {
+        Ok(name) => fs::open(rt, name),
+        Err(_) => Err(not_text()),
+    }
+}
+
 // Whether the bytes are all in a new file of this name. A file that has the name already is left as it is, and one that
 // could not be written whole is removed.
-pub fn write_new<R: Files + Eprint + Alloc>(rt: &R, path: &str, bytes: &[u8]) -> io::Result<bool> {
+pub fn write_new<R: Files + Eprint + Alloc>(rt: &R, path: &[u8], bytes: &[u8]) -> io::Result<bool> {
+    match str::from_utf8(path) {
+        Ok(name) => write_named(rt, name, bytes),
+        Err(_) => {
+            fail(rt, shown(path), not_text())?;
+            Ok(false)
+        }
+    }
+}
+
+// The same under a name that is text.
+fn write_named<R: Files + Eprint + Alloc>(rt: &R, path: &str, bytes: &[u8]) -> io::Result<bool> {
     let opened = OpenOptions::new()
         .write(true)
         .create_new(true)

@@ -10,16 +10,16 @@ mod files;
 mod line;
 
 use files::End;
+use std::io;
 use std::io::Read;
 use std::rt::{Env, Files};
-use std::{fs, io};
 
 // Builds the file's bytes, and hands the answer over.
 fn release<R: Files + Print + Eprint + Alloc>(
     rt: &R,
     file: &[u8],
     root: &[u8],
-    to: &str,
+    to: &[u8],
 ) -> io::Result<()> {
     let mut area = [0u8; 65536];
     let told = builder::build::build(file, root, &mut area);
@@ -30,44 +30,44 @@ fn release<R: Files + Print + Eprint + Alloc>(
 fn with_open<R: Files + Print + Eprint + Alloc>(
     rt: &R,
     file: &mut impl Read,
-    from: &str,
+    from: &[u8],
     root: &[u8],
-    to: &str,
+    to: &[u8],
 ) -> io::Result<()> {
     let mut buffer = [0u8; 65536];
     let n = files::read_full(file, &mut buffer);
     match files::at_end(file) {
         End::Ended => release(rt, &buffer[..n], root, to),
-        End::Failed(error) => files::fail(rt, from, error),
+        End::Failed(error) => files::fail(rt, files::shown(from), error),
         End::More => files::too_long(rt, from),
     }
 }
 
 fn with_names<R: Files + Print + Eprint + Alloc>(
     rt: &R,
-    from: &str,
+    from: &[u8],
     root: &[u8],
-    to: &str,
+    to: &[u8],
 ) -> io::Result<()> {
-    match fs::open(rt, from) {
+    match files::open_read(rt, from) {
         Ok(mut file) => with_open(rt, &mut file, from, root, to),
-        Err(error) => files::fail(rt, from, error),
+        Err(error) => files::fail(rt, files::shown(from), error),
     }
 }
 
 fn with_root<R: Env + Files + Print + Eprint + Alloc>(
     rt: &R,
-    from: &str,
+    from: &[u8],
     root: &[u8],
 ) -> io::Result<()> {
     let mut name = [0u8; 4096];
-    match arguments::path(rt, 3, &mut name) {
+    match arguments::bytes(rt, 3, &mut name) {
         Ok(to) => with_names(rt, from, root, to),
         Err(error) => files::fail(rt, "release: AREAFILE", error),
     }
 }
 
-fn with_file<R: Env + Files + Print + Eprint + Alloc>(rt: &R, from: &str) -> io::Result<()> {
+fn with_file<R: Env + Files + Print + Eprint + Alloc>(rt: &R, from: &[u8]) -> io::Result<()> {
     let mut name = [0u8; 4096];
     match arguments::bytes(rt, 2, &mut name) {
         Ok(root) => with_root(rt, from, root),
@@ -80,7 +80,7 @@ fn main(rt: HostRuntime) -> io::Result<()> {
         return eprintln!(rt; "usage: release TREEFILE ROOT AREAFILE");
     }
     let mut name = [0u8; 4096];
-    match arguments::path(&rt, 1, &mut name) {
+    match arguments::bytes(&rt, 1, &mut name) {
         Ok(from) => with_file(&rt, from),
         Err(error) => files::fail(&rt, "release: TREEFILE", error),
     }
