@@ -16,6 +16,8 @@ import sys
 
 OWN = "functions ast definitions area keeping positions report builder lines replay release area_cases layout_cases".split()
 OVERRIDE = {"is-nan": "is_nan_lem", "isRoot": "is_root_name", "time-dependent": "depends_on_time", "getD-held": "get_or_held", "getD-run": "get_or_run"}
+# Names of parameters and of modules as a file imports them.
+LOCAL = {"rateTable": "rate_table", "declaredDomain": "declared_domain"}
 # Laws that port.py spelled as the definition is spelled now: turned where they are declared or imported from a file of laws.
 LAWS = "args_fit held_in left_in left_over minus_one no_bits read_name row_fits same_float too_short".split()
 TOKEN = re.compile(r'[^\s(){}.;,@"«»]+')
@@ -61,7 +63,7 @@ def table():
     for new, olds in met.items():
         for old in olds:
             rows[old] = new + "_lem" if len(olds) > 1 and "-" in old and old not in OVERRIDE else new
-    return {old: new for old, new in rows.items() if old != new}
+    return {old: new for old, new in rows.items() if old != new} | LOCAL
 
 
 def lent(text):
