@@ -1,4 +1,3 @@
--- ---- the places: the entry, and where both names are read
 use native.Mathlib.Omega.{arith}
 use mathlib.Core.Path.{ap₂, ◌∙◌}
 use mathlib.Core.List.{[]}

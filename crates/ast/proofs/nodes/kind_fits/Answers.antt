@@ -1,4 +1,3 @@
--- ---- the place where the kind was read
 use mathlib.Core.Path.{sym, ◌∙◌}
 use borrow.Author.Tests.{ne_eqb}
 use Rattle.ast.specs.Nodes.{kind_fits}

@@ -1,4 +1,3 @@
--- ---- the place: the entry
 use native.Mathlib.Omega.{arith}
 use borrow.Author.Tests.{le-leb, lt-leb}
 use Prim.Native.Nat.{◌≤◌}

@@ -1,4 +1,3 @@
--- ---- the place: the entry
 use native.Mathlib.Omega.{arith}
 use mathlib.Core.Path.{sym, ◌∙◌}
 use Rattle.ast.specs.File.{contents_of, all_fit}

@@ -1,4 +1,3 @@
--- ---- the entry
 use mathlib.Core.Path.{sym, ◌∙◌}
 use Rattle.ast.specs.NodesIn.{nodes_in}
 use Rattle.ast.specs.Rows.{spanning, read}

@@ -1,4 +1,3 @@
--- ---- the places: the entry, and where the last word is read
 use native.Mathlib.Omega.{arith}
 use Rattle.ast.proofs.Copies.{copied_put}
 use Rattle.ast.proofs.subst.copy_node.Goals as goal

@@ -1,4 +1,3 @@
--- ---- the place: the entry
 use native.Mathlib.Omega.{arith}
 use Rattle.ast.proofs.Viewed.{name_asks, node_asks, dep_asks, unknown_asks, stmt_asks, model_asks, name_says, node_says, dep_says, unknown_says, stmt_says, model_says}
 use Rattle.ast.proofs.view.section_word.Goals as goal

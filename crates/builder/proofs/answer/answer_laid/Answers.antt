@@ -1,4 +1,3 @@
--- ---- the places: the entry, and where it is known that no left side is too short
 use Rattle.builder.proofs.laws.RootFinish.{allocate_needs}
 use Rattle.builder.proofs.laws.ShortAnswers.{short_given, used_given}
 use Rattle.builder.proofs.answer.answer_laid.Goals as goal

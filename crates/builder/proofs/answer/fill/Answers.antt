@@ -1,4 +1,3 @@
--- ---- the places: the entry, the flattened statements laid, the variables laid
 use native.Mathlib.Omega.{arith}
 use Rattle.builder.proofs.laws.RootLaid.{flats_needs, vars_needs, model_known, all_laid, model_rooted}
 use Rattle.builder.proofs.laws.ShortAnswers.{some_variable, timed}

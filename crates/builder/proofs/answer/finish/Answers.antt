@@ -1,4 +1,3 @@
--- ---- the places: the entry, the errors listed, the errors copied, the header written
 use native.Mathlib.Omega.{arith}
 use Rattle.builder.proofs.laws.RootFinish.{errors_needs, copy_needs, header_needs, finished}
 use Rattle.builder.proofs.laws.RootWritten.{room}

@@ -1,4 +1,3 @@
--- ---- the places: the entry, the fates written, what the variables hold written
 use Rattle.builder.proofs.laws.RootFinish.{allocate_needs, left_is, states_are, fates_are, held_needs, held_is}
 use Rattle.builder.proofs.answer.write_answer.Goals as goal
 

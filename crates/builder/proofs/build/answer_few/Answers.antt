@@ -1,4 +1,3 @@
--- ---- the place: the entry
 use native.Mathlib.Omega.{arith}
 use Rattle.builder.proofs.laws.Replacing.{zeros_in}
 use Rattle.builder.proofs.build.answer_few.Goals as goal

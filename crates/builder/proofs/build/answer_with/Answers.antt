@@ -1,4 +1,3 @@
--- ---- the places: the entry, and where the build was measured
 use native.Mathlib.Omega.{arith}
 use mathlib.Core.Path.{sym, ap, ◌∙◌}
 use Rattle.builder.specs.Root.{bytes_in}

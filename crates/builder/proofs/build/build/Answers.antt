@@ -1,4 +1,3 @@
--- ---- the place: the entry
 use mathlib.Core.Path.{sym, ap, ◌∙◌}
 use lib.ListN.{length}
 use Rattle.definitions.specs.Build.{told, result_area}

@@ -1,4 +1,3 @@
--- ---- the entry, from where few models or many are answered
 use mathlib.Core.Path.{sym, ◌∙◌}
 use lib.Seq.{length-take-le}
 use Rattle.builder.proofs.laws.Answers.{given_within}

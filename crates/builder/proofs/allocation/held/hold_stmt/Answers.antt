@@ -1,4 +1,3 @@
--- ---- the places: the entry, and the statement's fate and variable, read
 use mathlib.Core.Path.{sym, ◌∙◌}
 use native.Mathlib.Omega.{arith}
 use Rattle.area.specs.Sections.{deps_at}

@@ -1,4 +1,3 @@
--- ---- the entry, and that the statement is an equation where its left side is read
 use mathlib.Core.Path.{◌≡◌, sym, ap, ◌∙◌}
 use Rattle.ast.specs.Words.{word_of}
 use Rattle.area.specs.Sections.{area_stmt, stmts_at, vars_at}

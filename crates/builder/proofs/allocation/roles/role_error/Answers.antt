@@ -1,4 +1,3 @@
--- ---- the entry; where the left side is read, the statement is an equation and has one
 use mathlib.Core.Path.{◌≡◌, sym, ◌∙◌}
 use Prim.Native.Nat.{◌<◌}
 use native.Mathlib.Omega.{arith}

@@ -1,4 +1,3 @@
--- ---- the places: the entry, and where the name, the time index, the count of arguments and the argument are read
 use mathlib.Core.Path.{◌≡◌, sym, ◌∙◌}
 use Prim.Native.Nat.{◌≤◌, ◌<◌}
 use native.Mathlib.Omega.{arith}

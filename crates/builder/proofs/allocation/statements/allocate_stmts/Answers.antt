@@ -1,4 +1,3 @@
--- ---- the places: the entry, and where the roles, the statements left and the states that lack an equation are known
 use Prim.Native.Nat.{◌≤◌}
 use native.Mathlib.Omega.{arith}
 use lib.ListN.{length}

@@ -1,4 +1,3 @@
--- ---- the places: the entry, and where the model is built, roles are stated, statements and states are counted
 use native.Mathlib.Omega.{arith}
 use Rattle.builder.proofs.laws.ErrorParts.{roles_room, count_room, starting_room, all_listed}
 use Rattle.builder.proofs.errors.all.all_errors.Goals as goal

@@ -1,4 +1,3 @@
--- `builder::builder::unknowns_errors` meets its contract: unknown by unknown.
 use mathlib.Core.Path.{ap, ◌∙◌}
 use Prim.Native.Nat.{◌+◌}
 use native.Mathlib.Omega.{arith}

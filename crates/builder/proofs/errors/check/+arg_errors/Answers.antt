@@ -1,4 +1,3 @@
--- `builder::check::arg_errors` meets its contract: the earlier arguments' errors, then the last one's: positional or named. The measure is the count of the arguments.
 use native.Mathlib.Omega.{arith}
 use Rattle.definitions.specs.Check.{dependent_errors}
 use Rattle.builder.proofs.laws.Checks.{args_end, arg_last, arg_within, arg_keyword, args_rest, args_fewer, dependents_more, positional_more, named_more}

@@ -1,4 +1,3 @@
--- `builder::check::check_args` and `builder::check::check_expr` meet their contracts: by the kind of the node, and argument by argument. The measure is twice the size, and one more for arguments.
 use mathlib.Core.Path.{refl, sym, ◌∙◌}
 use native.Mathlib.Omega.{arith}
 use Rattle.definitions.specs.Check.{args_errors}

@@ -1,4 +1,3 @@
--- `builder::check::has_keyword` meets its contract: the last argument bears one, or one before it does. The measure is the count of the arguments.
 use mathlib.Core.Path.{sym, ap, ◌∙◌}
 use native.Mathlib.Omega.{arith}
 use Rattle.definitions.specs.Check.{has_keyword}

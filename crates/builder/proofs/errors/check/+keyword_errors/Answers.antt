@@ -1,4 +1,3 @@
--- `builder::check::keyword_errors` meets its contract: the earlier arguments' errors, then the last one's. The measure is the count of the arguments.
 use mathlib.Core.Path.{refl}
 use native.Mathlib.Omega.{arith}
 use Rattle.definitions.specs.Check.{keyword_errors}

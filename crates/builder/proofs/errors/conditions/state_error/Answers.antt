@@ -1,4 +1,3 @@
--- ---- the places: the entry, the word that tells the held statement, and the statement's kind
 use mathlib.Core.Path.{sym, ◌∙◌}
 use Prim.Native.Nat.{◌≤◌}
 use native.Mathlib.Omega.{arith}

@@ -1,4 +1,3 @@
--- `flat_extent` and `stmt_extent` meet their contracts. The loop's invariant: the statements not passed yet, added to the extent so far, make up the whole. The measure goes by the depth.
 use mathlib.Core.Path.{refl, sym, ◌∙◌}
 use Prim.Native.Nat.{◌+◌, ◌*◌}
 use native.Mathlib.Omega.{arith}

@@ -1,4 +1,3 @@
--- `instances` and `stmt_instances` meet their contracts. The loop's invariant: the total is that of the statements passed, at most the most. The measure goes by the depth.
 use mathlib.Core.Path.{sym, ap, ◌∙◌}
 use Prim.Native.Nat.{ℕ, ◌+◌, ◌-◌}
 use native.Mathlib.Omega.{arith}

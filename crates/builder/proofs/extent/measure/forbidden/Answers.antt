@@ -1,4 +1,3 @@
--- ---- the place: the entry
 use mathlib.Core.Path.{sym, ◌∙◌}
 use Rattle.ast.specs.Opens.{file_in}
 use Rattle.builder.proofs.laws.Reasons.{cyclic_reason, self_listed_reason, overfull_reason}

@@ -1,4 +1,3 @@
--- the entry
 use native.Mathlib.Omega.{arith}
 use Rattle.builder.proofs.laws.FlatsLaid.{rows_root, flats_room, flats_laid}
 use Rattle.builder.proofs.flattening.laid.lay_flats.Goals as goal

@@ -1,4 +1,3 @@
--- ---- the places: the entry, where the statement's words are read, and where each tree is written
 use mathlib.Core.Path.{◌≡◌, refl, sym, ◌∙◌}
 use mathlib.Core.List.{[]}
 use Prim.Native.Nat.{ℕ, ◌+◌}

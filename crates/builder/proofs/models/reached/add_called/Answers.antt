@@ -1,4 +1,3 @@
--- the entry, where a model is called
 use native.Mathlib.Omega.{arith}
 use Rattle.builder.proofs.laws.Calling.{entry_below, entry_few}
 use Rattle.builder.proofs.laws.Rounds.{called_none, called_one}

@@ -1,4 +1,3 @@
--- ---- the place: the entry
 use native.Mathlib.Omega.{arith}
 use Rattle.builder.proofs.laws.OpenRecords.{unknown_is}
 use Rattle.builder.proofs.laws.Refusals.{lists_itself_is}

@@ -1,4 +1,3 @@
--- `builder::scope::is_dep_of` meets its contract. The loop's invariant: what is searched is found among the unknowns from place i on, if at all. Assumes nothing.
 use mathlib.Core.Path.{refl, sym, ◌∙◌}
 use Prim.Native.Nat.{◌<◌}
 use native.Mathlib.Omega.{arith}

@@ -1,4 +1,3 @@
--- `builder::scope::names_dep` meets its contract. The loop's invariant: what is searched is found among the dependents from place i on, if at all. Assumes nothing.
 use mathlib.Core.Path.{refl, sym, ◌∙◌}
 use Prim.Native.Nat.{◌<◌}
 use native.Mathlib.Omega.{arith}

@@ -1,4 +1,3 @@
--- the entry, where the variable is not t
 use native.Mathlib.Omega.{arith}
 use mathlib.Core.Path.{refl, ◌∙◌}
 use mathlib.Core.Logic.{inl}

@@ -1,4 +1,3 @@
--- ---- the places: the entry, the variables listed, and written
 use native.Mathlib.Omega.{arith}
 use Rattle.builder.proofs.laws.VarsLaid.{vars_named, marks_needs, vars_laid}
 use Rattle.builder.proofs.variables.laid.lay_vars.Goals as goal

@@ -1,4 +1,3 @@
--- ---- the places: the entry, and where the name is put
 use mathlib.Core.Path.{refl}
 use native.Mathlib.Omega.{arith}
 use Rattle.area.proofs.VarsWritten.{vars_stay}

@@ -1,4 +1,3 @@
--- ---- the places: the entry, and where t's name is put
 use native.Mathlib.Omega.{arith}
 use Rattle.builder.proofs.laws.Rosters.{vars_room, time_put, none_put}
 use Rattle.builder.proofs.variables.roster.time_alone.Goals as goal
