@@ -116,7 +116,6 @@ def main():
     rows = table()
     for path in antt("specs") + antt("proofs"):
         text = open(path, encoding="utf-8").read()
-        # a proof of a function has no declared laws of its own name: LAWS are turned where imported
         new = turn(text, rows)
         if new != text:
             open(path, "w", encoding="utf-8").write(new)
@@ -135,9 +134,7 @@ def main():
         new = "\n".join(lines)
         if new != text:
             open(path, "w", encoding="utf-8").write(new)
-    with open("/tmp/respelled.tsv", "w", encoding="utf-8") as f:
-        f.writelines(f"{o}\t{n}\n" for o, n in sorted(rows.items()))
-    print(f"respell: {len(rows)} names; the table is /tmp/respelled.tsv")
+    print(f"respell: {len(rows)} names")
 
 
 if __name__ == "__main__":

@@ -1,5 +1,6 @@
 // lines AREA TEXT: prints one line for each listed error of an answer area: line, column, kind, as decimals parted by
-// one space. A file that is missing, cannot be read or has a name that is not UTF-8 text counts as empty. An area that breaks its layout prints nothing.
+// one space. A file that is missing, cannot be read or has a name that is not UTF-8 text counts as empty. An area that
+// breaks its layout prints nothing.
 #![tactic(auto)]
 
 mod files;

@@ -1,7 +1,7 @@
 // release TREEFILE ROOT AREAFILE: builds the model named ROOT of a tree file, writes the answer's bytes to a new file
 // and prints one line: the number (0, or the refusal's) and the bytes used, the errors counted, the statements and how
-// many of each fate. Where the build is refused, or something cannot be read or the area file not be written, no new file is
-// left. The names of the files are UTF-8 text.
+// many of each fate. Where the build is refused, or something cannot be read or the area file not be written, no new
+// file is left. The names of the files are UTF-8 text.
 #![tactic(auto)]
 
 mod answer;
