@@ -5,14 +5,14 @@ use Prim.Native.Nat.{ℕ, zero, suc, ◌+◌, ◌-◌, ◌*◌, ◌≤◌}
 use native.Mathlib.Omega.{arith}
 use native.Mathlib.Nat.{suc-mul}
 use lib.ListN.{length, take, drop, length-drop}
-use lib.Seq.{take-take, take-nil}
+use lib.Seq.{take-take}
+use Rattle.std.proofs.lemmas.List.{drop-take}
 use Rattle.ast.specs.Words.{words, records, section}
 
 pub drop_take : {A : Type 0} (a k : ℕ) (l : List A) → a ≤ k → drop a (take k l) ≡ take (k - a) (drop a l)
-drop_take zero k l h = let e : k - 0 ≡ k = omega arith in rw e refl
-drop_take (suc a) zero l h = absurd (omega arith)
-drop_take (suc a) (suc k) [] h = sym (take-nil (suc k - suc a))
-drop_take (suc a) (suc k) (x ∷ l) h = let e : suc k - suc a ≡ k - a = omega arith in rw e (drop_take a k l (omega arith))
+drop_take a k l h =
+    let e : k ≡ a + (k - a) = omega arith in
+    ap (λ (n : ℕ). drop a (take n l)) e ∙ drop-take a (k - a) l
 
 -- m bytes from a place on, of a list cut behind them
 pub part_take : {A : Type 0} (at m k : ℕ) (d : List A) → at + m ≤ k → take m (drop at d) ≡ take m (drop at (take k d))

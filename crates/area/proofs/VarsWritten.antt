@@ -6,6 +6,7 @@ use native.Mathlib.Omega.{arith}
 use native.Mathlib.Nat.{suc-mul}
 use lib.ListN.{length, take, drop, get_or, set, length-drop, length-map, length-set}
 use lib.Seq.{take_all, take-suc-set, take-set-le, take-set-lt, drop-drop, drop-set-lt, drop-set-add, get_or-set_same, get_or-set_other, map-set_same}
+use Rattle.std.proofs.lemmas.List.{map-set}
 use Rattle.ast.specs.Words.{words, records, section, word_of}
 use Rattle.ast.specs.Bytes.{put_word}
 use Rattle.ast.proofs.Fields.{length_section}
@@ -123,15 +124,10 @@ vars_grow z r b b₁ b₂ rs₁ rs₂ g p q =
 
 -- ---- columns of records with another word
 
-map_set : (f : List ℕ → ℕ) (rs : List (List ℕ)) (i : ℕ) (y : List ℕ) → map f (set rs i y) ≡ set (map f rs) i (f y)
-map_set f [] i y = refl
-map_set f (r ∷ rs) zero y = refl
-map_set f (r ∷ rs) (suc i) y = ap (λ (l : List ℕ). f r ∷ l) (map_set f rs i y)
-
 -- the word's own
 pub column_set : (rs : List (List ℕ)) (v k x : ℕ) → k < length (get_or rs v []) → column k (with_word rs v k x) ≡ set (column k rs) v x
 unfolding column with_word word_of
-column_set rs v k x h = map_set (λ r. get_or r k 0) rs v (set (get_or rs v []) k x) ∙ ap (set (map (λ r. get_or r k 0) rs) v) (get_or-set_same (get_or rs v []) k x 0 h)
+column_set rs v k x h = map-set (λ r. get_or r k 0) rs v (set (get_or rs v []) k x) ∙ ap (set (map (λ r. get_or r k 0) rs) v) (get_or-set_same (get_or rs v []) k x 0 h)
 
 -- every other
 pub column_kept : (rs : List (List ℕ)) (v k j x : ℕ) → (j ≡ k → ⊥) → column j (with_word rs v k x) ≡ column j rs

@@ -1,15 +1,16 @@
 -- Errors listed in an area: all are counted, the first 256 are listed, four words each.
-use Rattle.std.specs.Prelude.{◌≡◌, cond, List, [], ◌∷◌, ℕ, ◌+◌, ◌*◌, ◌^◌, ◌≤◌, ◌<◌, ltb, length}
+use Rattle.std.specs.Prelude.{◌≡◌, Option, None, Some, cond, List, [], ◌∷◌, ℕ, ◌+◌, ◌*◌, ◌^◌, ◌≤◌, ◌<◌, ltb, length}
 use Rattle.ast.specs.Tree.{Span}
 use Rattle.ast.specs.Words.{bytes_of}
 use Rattle.ast.specs.Bytes.{put}
 use Rattle.definitions.specs.Numbers.{most_listed, error_length}
+use Rattle.definitions.specs.Numbers.{unknown_domain, reserved_name, submodel_missing, positional_after_keyword, name_not_found, count_against_table, keyword_in_built_in, count_against_variable, no_such_dependent, positional_after_named, call_not_found, wrong_start, rate_invalid, underdetermined, overdetermined, no_initial_condition, algebraic_initial_condition}
 use Rattle.definitions.specs.Variables as definitions
 use Rattle.definitions.specs.Variables.{error}
 use Rattle.definitions.specs.Answer.{error_words}
-use Rattle.area.specs.declared.errors.Found as found
-use Rattle.area.specs.declared.errors.Found.TheVariants.{Nothing}
-use Rattle.area.specs.declared.errors.Found.TheVariants as is
+use Rattle.area.specs.declared.errors.ErrorKind.{ErrorKind}
+use Rattle.area.specs.declared.errors.ErrorKind.TheVariants.{UnknownDomain, ReservedName, SubmodelMissing, PositionalAfterKeyword, NameNotFound, CountAgainstTable, KeywordInBuiltIn, CountAgainstVariable, NoSuchDependent, PositionalAfterNamed, CallNotFound, WrongStart, RateInvalid, Underdetermined, Overdetermined, NoInitialCondition, AlgebraicInitialCondition}
+use Rattle.area.specs.declared.errors.Found.{Found}
 
 abbrev pub spanned : ℕ → ℕ → Span
 spanned a b = record { from = a; to = b }
@@ -36,7 +37,27 @@ pub record Room (d : List ℕ) (n : ℕ) (es : List definitions.Error) : Type 0 
   pub long : list_length ≤ length d
   pub few : n + length es < 2 ^ 40
 
--- Each case of what a test finds: no error, or one.
-unfoldable pub found_as : found.Found → List definitions.Error
-found_as Nothing = []
-found_as (is.Error k a b n) = error k (spanned a b) n ∷ []
+-- a kind's number
+abbrev pub kind_number : ErrorKind → ℕ
+kind_number UnknownDomain = unknown_domain
+kind_number ReservedName = reserved_name
+kind_number SubmodelMissing = submodel_missing
+kind_number PositionalAfterKeyword = positional_after_keyword
+kind_number NameNotFound = name_not_found
+kind_number CountAgainstTable = count_against_table
+kind_number KeywordInBuiltIn = keyword_in_built_in
+kind_number CountAgainstVariable = count_against_variable
+kind_number NoSuchDependent = no_such_dependent
+kind_number PositionalAfterNamed = positional_after_named
+kind_number CallNotFound = call_not_found
+kind_number WrongStart = wrong_start
+kind_number RateInvalid = rate_invalid
+kind_number Underdetermined = underdetermined
+kind_number Overdetermined = overdetermined
+kind_number NoInitialCondition = no_initial_condition
+kind_number AlgebraicInitialCondition = algebraic_initial_condition
+
+-- what a test finds: no error, or one
+unfoldable pub found_as : Option Found → List definitions.Error
+found_as None = []
+found_as (Some e) = error (kind_number e.kind) (spanned e.from e.to) e.name ∷ []

@@ -1,22 +1,50 @@
 // The list of errors, apart from the area until it is whole: all are counted, the first 256 are listed, four words
 // each: kind, span, name plus 1 or 0.
-ghost use Rattle.std.specs.Prelude.{◌≡◌, [], ◌∷◌, ◌+◌, ◌*◌, ◌^◌, min, ◌≤◌, ◌<◌, length};
-ghost use Rattle.ast.specs.Words.{bytes_of};
-ghost use Rattle.ast.specs.Bytes.{put};
+ghost use Rattle.std.specs.Prelude.{◌≡◌, [], ◌∷◌, ◌*◌, ◌^◌, min, ◌≤◌, ◌<◌, length};
 ghost use Rattle.definitions.specs.Numbers.{most_listed, error_length};
 ghost use Rattle.definitions.specs.Variables.{error};
-ghost use Rattle.area.specs.Listing.{spanned, list_length, Lists, found_as};
+ghost use Rattle.area.specs.Listing.{spanned, list_length, Lists, kind_number, found_as};
 
-use super::layout::{
-    ERROR_BYTES, ERROR_FROM_AT, ERROR_NAME_AT, ERROR_TO_AT, ERRORS_BYTES, MOST_LISTED,
-};
-use ast::words::put_word;
+use super::layout::{ERROR_BYTES, ERRORS_BYTES, MOST_LISTED};
+use super::words::put_words;
 
-// What a test finds: nothing, or an error's kind, its span, and a name plus 1 or 0.
-#[derive(Clone, Copy)]
-pub enum Found {
-    Nothing,
-    Error(u32, u32, u32, u32),
+// The kinds of errors. `Numbers` of definitions has their numbers; `as u32` is the word of one.
+#[derive(Clone, Copy, Debug, PartialEq, Eq)]
+pub enum ErrorKind {
+    // A domain by a name that is no domain's.
+    UnknownDomain = 1,
+    ReservedName = 2,
+    SubmodelMissing = 3,
+    // In a submodel statement.
+    PositionalAfterKeyword = 4,
+    NameNotFound = 5,
+    // In a call of a built-in function.
+    CountAgainstTable = 6,
+    KeywordInBuiltIn = 7,
+    // In a call of a variable.
+    CountAgainstVariable = 8,
+    NoSuchDependent = 9,
+    // In a call of a variable.
+    PositionalAfterNamed = 10,
+    CallNotFound = 11,
+    // A number in time's place that is not time's lower bound.
+    WrongStart = 12,
+    RateInvalid = 13,
+    // Fewer statements are left than states lack an equation.
+    Underdetermined = 14,
+    // More statements are left than states lack an equation.
+    Overdetermined = 15,
+    NoInitialCondition = 16,
+    AlgebraicInitialCondition = 17,
+}
+
+// An error that a test finds: its kind, its span, and a name plus 1 or 0.
+#[derive(Clone, Copy, Debug, PartialEq, Eq)]
+pub struct Found {
+    pub kind: ErrorKind,
+    pub from: u32,
+    pub to: u32,
+    pub name: u32,
 }
 
 // A list without errors.
@@ -26,39 +54,32 @@ pub fn no_errors() -> [u8; ERRORS_BYTES]
     [0u8; ERRORS_BYTES]
 }
 
-// Puts four words at a place.
-fn put_words(out: &mut [u8], at: usize, kind: u32, from: u32, to: u32, name: u32)
-    requires { at + 4 * error_length ≤ length out.old }
-    ensures { out.new ≡ put out.old at (bytes_of (kind ∷ from ∷ to ∷ name ∷ [])) }
-{
-    put_word(out, at, kind);
-    put_word(out, at + ERROR_FROM_AT, from);
-    put_word(out, at + ERROR_TO_AT, to);
-    put_word(out, at + ERROR_NAME_AT, name);
-}
-
 // Lists an error behind `count` of them and gives their new number.
-pub fn put_error(out: &mut [u8], count: usize, kind: u32, from: u32, to: u32, name: u32) -> usize
+pub fn put_error(out: &mut [u8], count: usize, e: Found) -> usize
     requires { (list_length ≤ length out.old)
         × (count < 2 ^ 40) }
-    ensures { Lists out.old count (error kind (spanned from to) name ∷ []) result out.new }
+    ensures { Lists out.old count (error (kind_number e.kind) (spanned e.from e.to) e.name ∷ []) result
+        out.new }
 {
-    if MOST_LISTED <= count {
-        return count + 1;
+    if count < MOST_LISTED {
+        put_words(
+            out,
+            ERROR_BYTES * count,
+            &[e.kind as u32, e.from, e.to, e.name],
+        );
     }
-    put_words(out, ERROR_BYTES * count, kind, from, to, name);
     count + 1
 }
 
 // Lists what is found behind `count` errors and gives their new number.
-pub fn list(out: &mut [u8], count: usize, found: Found) -> usize
+pub fn list(out: &mut [u8], count: usize, found: Option<Found>) -> usize
     requires { (list_length ≤ length out.old)
         × (count < 2 ^ 40) }
     ensures { Lists out.old count (found_as found) result out.new }
 {
     match found {
-        Found::Nothing => count,
-        Found::Error(kind, from, to, name) => put_error(out, count, kind, from, to, name),
+        None => count,
+        Some(e) => put_error(out, count, e),
     }
 }
 
@@ -67,8 +88,5 @@ pub fn errors_length(count: usize) -> usize
     ensures { (result ≡ 4 * error_length * min count most_listed)
         × (result ≤ list_length) }
 {
-    if count < MOST_LISTED {
-        return ERROR_BYTES * count;
-    }
-    ERRORS_BYTES
+    ERROR_BYTES * count.min(MOST_LISTED)
 }

@@ -5,9 +5,9 @@ ghost use Rattle.ast.specs.Bytes.{put};
 ghost use Rattle.area.specs.Fields.{counts_length};
 ghost use Rattle.area.specs.Sections.{Small};
 
-use super::layout::{DEPS_AT, ERRORS_AT, INSTANCES_AT, NODES_AT, STMTS_AT, VARS_AT};
+use super::layout::NODES_AT;
 use super::sections::Sizes;
-use ast::words::put_word;
+use super::words::put_words;
 
 // Writes the counts: nodes, statements, variables, dependents, errors, instances.
 pub fn put_counts(area: &mut [u8], z: Sizes, errors: usize, instances: usize)
@@ -18,10 +18,16 @@ pub fn put_counts(area: &mut [u8], z: Sizes, errors: usize, instances: usize)
     ensures { area.new ≡ put area.old 0
         (bytes_of (z.nodes ∷ z.stmts ∷ z.vars ∷ z.deps ∷ errors ∷ instances ∷ [])) }
 {
-    put_word(area, NODES_AT, z.nodes as u32);
-    put_word(area, STMTS_AT, z.stmts as u32);
-    put_word(area, VARS_AT, z.vars as u32);
-    put_word(area, DEPS_AT, z.deps as u32);
-    put_word(area, ERRORS_AT, errors as u32);
-    put_word(area, INSTANCES_AT, instances as u32);
+    put_words(
+        area,
+        NODES_AT,
+        &[
+            z.nodes as u32,
+            z.stmts as u32,
+            z.vars as u32,
+            z.deps as u32,
+            errors as u32,
+            instances as u32,
+        ],
+    );
 }

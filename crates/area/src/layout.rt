@@ -78,14 +78,18 @@ pub const ERROR_TO: usize = 2;
 
 pub const ERROR_NAME: usize = 3;
 
-// The fates of statements.
-pub const INITIAL_FATE: u32 = 1;
-
-pub const HELD_FATE: u32 = 2;
-
-pub const REPLACED_FATE: u32 = 3;
-
-pub const LEFT_OVER_FATE: u32 = 4;
+// The fates of statements. `Numbers` of definitions has their numbers; `as u32` is the word of one.
+#[derive(Clone, Copy, Debug, PartialEq, Eq)]
+pub enum Fate {
+    // An initial condition of its variable.
+    Initial = 1,
+    // Its variable holds it.
+    Held = 2,
+    // A later rate equation of its variable is held.
+    Replaced = 3,
+    // Of no variable.
+    LeftOver = 4,
+}
 
 // Words and their bytes: a bound is a float of two words.
 pub const WORD: usize = 4294967296;
@@ -94,34 +98,21 @@ pub const WORD_BYTES: usize = 4;
 
 pub const FLOAT_BYTES: usize = 8;
 
-// Bytes within the header: the counts, and time's bounds.
+// Bytes within the header: the counts of nodes, statements and errors, and time's bounds.
 pub const NODES_AT: usize = 0;
 
 pub const STMTS_AT: usize = 4;
 
-pub const VARS_AT: usize = 8;
-
-pub const DEPS_AT: usize = 12;
-
 pub const ERRORS_AT: usize = 16;
-
-pub const INSTANCES_AT: usize = 20;
 
 pub const TIME_AT: usize = 24;
 
-// Bytes within a record: the fate and its variable in a statement's, the bounds in a variable's, the span and the name
-// in an error's.
+// Bytes within a record: the fate and its variable in a statement's, the bounds in a variable's.
 pub const FATE_AT: usize = 24;
 
 pub const VARIABLE_AT: usize = 28;
 
 pub const BOUNDS_AT: usize = 32;
-
-pub const ERROR_FROM_AT: usize = 4;
-
-pub const ERROR_TO_AT: usize = 8;
-
-pub const ERROR_NAME_AT: usize = 12;
 
 // The refusal of an area that is shorter than the answer.
 pub const SHORT_AREA: u32 = 1;

@@ -15,10 +15,8 @@ pub fn clear(area: &mut [u8], from: usize)
     ensures { area.new ≡ take from area.old ++ replicate
         (length area.old - from) 0 }
 {
-    let mut i = from;
-    while i < area.len() {
-        area[i] = 0;
-        i += 1;
+    if from < area.len() {
+        area[from..].fill(0);
     }
 }
 
@@ -28,11 +26,7 @@ pub fn copy(own: &[u8], n: usize, area: &mut [u8])
         × (n ≤ length area.old) }
     ensures { area.new ≡ front area.old (take n own.now) }
 {
-    let mut i = 0;
-    while i < n {
-        area[i] = own[i];
-        i += 1;
-    }
+    area[..n].copy_from_slice(&own[..n]);
 }
 
 // Copies the errors that are listed, of `count` in all, to their section.

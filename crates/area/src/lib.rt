@@ -8,3 +8,4 @@ pub mod layout;
 pub mod lent;
 pub mod records;
 pub mod sections;
+pub mod words;

@@ -1,4 +1,6 @@
 // The records of an answer area by number.
+#![tactic(auto, unfolding(crate::specs::Sections::stmts_at, crate::specs::Sections::vars_at, crate::specs::Sections::deps_at))]
+
 ghost use Rattle.std.specs.Prelude.{◌≡◌, ◌^◌, ◌≤◌, ◌<◌, length, get_or};
 ghost use Rattle.ast.specs.Words.{word_of};
 ghost use Rattle.ast.specs.Nodes.{node_at};

@@ -1,5 +1,7 @@
 // The sections of an answer area: how many records each has, and the byte at which each begins behind the header and
 // the nodes.
+#![tactic(auto, unfolding(crate::specs::Sections::stmts_at, crate::specs::Sections::vars_at, crate::specs::Sections::deps_at, crate::specs::Sections::errors_at))]
+
 ghost use Rattle.std.specs.Prelude.{◌≡◌, ◌≤◌};
 ghost use Rattle.definitions.specs.Numbers.{most_nodes};
 ghost use Rattle.area.specs.Sections.{Small, nodes_end, stmts_at, vars_at, deps_at, errors_at};

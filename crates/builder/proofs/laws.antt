@@ -2,7 +2,9 @@ pub mod Flattening
 pub mod Classes
 pub mod Open
 pub mod Filled
+pub mod Flags
 pub mod Finding
+pub mod Ranges
 pub mod Amounts
 pub mod RoleLoops
 pub mod OpenRecords
@@ -10,7 +12,6 @@ pub mod Runs
 pub mod Calling
 pub mod Rounds
 pub mod Refusals
-pub mod Reasons
 pub mod Checks
 pub mod Calls
 pub mod Exprs

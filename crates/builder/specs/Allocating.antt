@@ -10,12 +10,16 @@ use Rattle.ast.specs.Nodes.{kind_at, name_at, op_at, size_at, span_at, bits_at, 
 use Rattle.definitions.specs.Numbers.{most_names, stmt_length, call_kind, equation_kind, rate_kind, name_not_found, wrong_start, rate_invalid}
 use Rattle.definitions.specs.Variables.{Error, error, Bounds, at, time_index}
 use Rattle.definitions.specs.Check.{Scope, lookup}
-use Rattle.definitions.specs.Roles.{Start, arg_at, number_in, takes_rate}
+use Rattle.definitions.specs.Roles.{Start, arg_at, number_in, Role, starts, rates, free, takes_rate}
 use Rattle.area.specs.Fields.{stmt_kind, stmt_name, stmt_left, stmt_right, stmt_span, var_name, var_state, var_time_index, var_timed}
 use Rattle.area.specs.Sections.{Small, nodes_end, stmts_at, deps_at, area_nodes, area_stmts, area_stmt, area_vars, column}
 use Rattle.area.specs.declared.sections.Sizes.{Sizes}
+use Rattle.std.specs.declared.option.Option as answer
+use Rattle.std.specs.declared.option.Option.TheVariants.{None, Some}
+use Rattle.builder.specs.declared.allocation.roles.Role as code
+use Rattle.builder.specs.declared.allocation.roles.Role.TheVariants.{Neither, Initial, Rate}
 use Rattle.builder.specs.declared.allocation.roles.Start as found
-use Rattle.builder.specs.declared.allocation.roles.Start.TheVariants.{Nothing, Short, Number}
+use Rattle.builder.specs.declared.allocation.roles.Start.TheVariants.{Short, Number}
 
 -- ---- the statements of an area: kind (1 for an equation, 2 for a rate equation), name, left top, right top, span, fate, variable
 
@@ -111,31 +115,36 @@ module _ (numbers indexes : List ℕ) where
   short_by (equation l r s) = short_left_by l
   short_by (rate n r s) = false
 
--- Roles as numbers: 0 for neither, 2 v + 1 for an initial condition of v, 2 v + 2 for a rate equation that goes to v.
-unfoldable pub start_number : Float → Option Start → ℕ
-start_number lower none = 0
-start_number lower (some x) = cond (eq (number_of x.bits) lower) (2 * x.variable + 1) 0
+-- Each of the code's roles.
+unfoldable pub role_as : code.Role → Role
+role_as Neither = free
+role_as (Initial v) = starts v
+role_as (Rate v) = rates v
+
+unfoldable pub start_role_by : Float → Option Start → Role
+start_role_by lower none = free
+start_role_by lower (some x) = cond (eq (number_of x.bits) lower) (starts x.variable) free
 
 unfoldable pub start_errors_by : Float → Option Start → List Error
 start_errors_by lower none = []
 start_errors_by lower (some x) = unless (eq (number_of x.bits) lower) (error wrong_start x.span (suc x.caller))
 
-unfoldable pub rate_number : List ℕ → Option ℕ → ℕ
-rate_number rates none = 0
-rate_number rates (some v) = cond (eqb (get_or rates v 0) 1) (2 * v + 2) 0
+unfoldable pub rate_role_by : List ℕ → Option ℕ → Role
+rate_role_by table none = free
+rate_role_by table (some v) = cond (eqb (get_or table v 0) 1) (rates v) free
 
 unfoldable pub rate_errors_by : List ℕ → ℕ → Span → Option ℕ → List Error
-rate_errors_by rates n s none = error name_not_found s (suc n) ∷ []
-rate_errors_by rates n s (some v) = unless (eqb (get_or rates v 0) 1) (error rate_invalid s (suc n))
+rate_errors_by table n s none = error name_not_found s (suc n) ∷ []
+rate_errors_by table n s (some v) = unless (eqb (get_or table v 0) 1) (error rate_invalid s (suc n))
 
-module _ (numbers indexes rates : List ℕ) (lower : Float) where
-  unfoldable pub role_by : Flat → ℕ
-  role_by (equation l r s) = start_number lower (start_by numbers indexes l)
-  role_by (rate n r s) = rate_number rates (entry_by numbers n)
+module _ (numbers indexes table : List ℕ) (lower : Float) where
+  unfoldable pub role_by : Flat → Role
+  role_by (equation l r s) = start_role_by lower (start_by numbers indexes l)
+  role_by (rate n r s) = rate_role_by table (entry_by numbers n)
 
   unfoldable pub role_errors_by : Flat → List Error
   role_errors_by (equation l r s) = start_errors_by lower (start_by numbers indexes l)
-  role_errors_by (rate n r s) = rate_errors_by rates n s (entry_by numbers n)
+  role_errors_by (rate n r s) = rate_errors_by table n s (entry_by numbers n)
 
 -- The tables are those of a scope and of time's bounds.
 pub record Agree (c : Scope) (time : Bounds) (numbers indexes rates : List ℕ) (lower : Float) : Type 0 where
@@ -153,46 +162,46 @@ module _ (ns : List (List ℕ)) where
   arg_node k end (suc c) = cond (eqb k c) (end - 1) (arg_node k (end - size_at ns (end - 1)) c)
 
   -- what each answer is of a call by name f: none, one too short, or a variable and the node of the argument whose expression is the number
-  unfoldable pub found_start : ℕ → found.Start → Option Start
-  found_start f Nothing = none
-  found_start f Short = none
-  found_start f (Number v a) = some (record { variable = v; caller = f; bits = bits_at ns (a - 1); span = span_at ns a })
+  unfoldable pub found_start : ℕ → answer.Option found.Start → Option Start
+  found_start f None = none
+  found_start f (Some Short) = none
+  found_start f (Some (Number v a)) = some (record { variable = v; caller = f; bits = bits_at ns (a - 1); span = span_at ns a })
 
   -- the answer for argument node a of a call by variable v
-  unfoldable pub at_arg : ℕ → ℕ → found.Start
-  at_arg v a = cond (eqb (kind_at ns (a - 1)) 2) (Number v a) Nothing
+  unfoldable pub at_arg : ℕ → ℕ → answer.Option found.Start
+  at_arg v a = cond (eqb (kind_at ns (a - 1)) 2) (Some (Number v a)) None
 
   -- the answer for the call at node i by variable v, by v's time index
-  unfoldable pub at_index : ℕ → ℕ → Option ℕ → found.Start
-  at_index i v none = Nothing
-  at_index i v (some k) = cond (leb (op_at ns i) k) Short (at_arg v (arg_node k i (op_at ns i)))
+  unfoldable pub at_index : ℕ → ℕ → Option ℕ → answer.Option found.Start
+  at_index i v none = None
+  at_index i v (some k) = cond (leb (op_at ns i) k) (Some Short) (at_arg v (arg_node k i (op_at ns i)))
 
   module _ (numbers indexes : List ℕ) where
     -- by its variable
-    unfoldable pub at_variable : ℕ → Option ℕ → found.Start
-    at_variable i none = Nothing
+    unfoldable pub at_variable : ℕ → Option ℕ → answer.Option found.Start
+    at_variable i none = None
     at_variable i (some v) = at_index i v (entry_by indexes v)
 
     -- the answer for node i
-    unfoldable pub start_at : ℕ → found.Start
-    start_at i = cond (eqb (kind_at ns i) call_kind) (at_variable i (entry_by numbers (name_at ns i))) Nothing
+    unfoldable pub start_at : ℕ → answer.Option found.Start
+    start_at i = cond (eqb (kind_at ns i) call_kind) (at_variable i (entry_by numbers (name_at ns i))) None
 
-unfoldable pub is_short : found.Start → Bool
-is_short Nothing = false
-is_short Short = true
-is_short (Number v a) = false
+unfoldable pub is_short : answer.Option found.Start → Bool
+is_short None = false
+is_short (Some Short) = true
+is_short (Some (Number v a)) = false
 
 -- an answer whose variable and nodes are there
-unfoldable pub StartFits : Sizes → found.Start → Type 0
-StartFits z Nothing = Unit {0}
-StartFits z Short = Unit {0}
-StartFits z (Number v a) = (v < z.vars) × (1 ≤ a) × (a < z.nodes)
+unfoldable pub StartFits : Sizes → answer.Option found.Start → Type 0
+StartFits z None = Unit {0}
+StartFits z (Some Short) = Unit {0}
+StartFits z (Some (Number v a)) = (v < z.vars) × (1 ≤ a) × (a < z.nodes)
 
 -- an answer with a number is of a call, whose name there is
-unfoldable pub CallFits : List (List ℕ) → ℕ → found.Start → Type 0
-CallFits ns i Nothing = Unit {0}
-CallFits ns i Short = Unit {0}
-CallFits ns i (Number v a) = name_at ns i < most_names
+unfoldable pub CallFits : List (List ℕ) → ℕ → answer.Option found.Start → Type 0
+CallFits ns i None = Unit {0}
+CallFits ns i (Some Short) = Unit {0}
+CallFits ns i (Some (Number v a)) = name_at ns i < most_names
 
 module _ (b : List ℕ) (z : Sizes) where
   -- A call at a node of a flattened model's area, which has an argument number i.
@@ -212,7 +221,7 @@ module _ (b : List ℕ) (z : Sizes) where
     pub named : name_at (area_nodes b z) call < most_names
 
   -- The node of a left side, and an answer for it that fits.
-  pub record StartIn (call : ℕ) (start : found.Start) : Type 0 where
+  pub record StartIn (call : ℕ) (start : answer.Option found.Start) : Type 0 where
     pub small : Small z
     pub long : stmts_at z ≤ length b
     pub within : call < z.nodes

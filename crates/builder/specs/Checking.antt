@@ -15,7 +15,6 @@ use Rattle.definitions.specs.Variables.{Error, error}
 use Rattle.definitions.specs.Check.{Scope, lookup, dep_names, dependent_errors, variable_errors, call_errors}
 use Rattle.definitions.specs.Flatten.{model_at, scope_of, stmt_errors, errors_of}
 use Rattle.builder.specs.Tables.{Classes, RuleNumbers, Callees, VarsOf}
-use Rattle.builder.specs.declared.errors.check.Checked.{Checked}
 use Rattle.builder.specs.declared.errors.check.Run.{Run}
 
 -- ---- arguments
@@ -102,17 +101,6 @@ pub record Against (f : List ℕ) (s : Sections) (m : ℕ) (cs rs vs : List ℕ)
   pub scoped : Scoped f s m vs
   pub classes : Classes (scope_in f s m).names cs
   pub rules : RuleNumbers (scope_in f s m).names rs
-
-module _ (f : List ℕ) (at : Checked) where
-  -- The same for what is checked: the scope, its variables by name, and what an expression is checked against.
-  abbrev pub scope_for : Scope
-  scope_for = scope_in f at.sections at.model
-
-  abbrev pub ScopedFor : List ℕ → Type 0
-  ScopedFor vs = Scoped f at.sections at.model vs
-
-  abbrev pub AgainstFor : List ℕ → List ℕ → List ℕ → Type 0
-  AgainstFor cs rs vs = Against f at.sections at.model cs rs vs
 
 -- The classes of the names, and the models that the statements call.
 pub record Called (f : List ℕ) (s : Sections) (cs ts : List ℕ) : Type 0 where

@@ -8,10 +8,6 @@ use Rattle.definitions.specs.Numbers.{most_nodes, most_stmts}
 use Rattle.builder.specs.Descent.{Linked, RowsAt}
 use Rattle.builder.specs.Root.{flats_of}
 
--- so few models that a short table of rows does
-abbrev pub few_models : ℕ
-few_models = 2
-
 -- Model m of the open file, with a row for each model; its flattened statements and their nodes are few enough for an area.
 pub record Laying (f : List ℕ) (s : Sections) (callees rows : List ℕ) (m : ℕ) : Type 0 where
   pub linked : Linked f s callees

@@ -1,9 +1,7 @@
 pub mod Tables
-pub mod Stored
 pub mod VariableTables
 pub mod Rounds
 pub mod Checking
-pub mod Reasons
 pub mod Descent
 pub mod Extents
 pub mod Overlay
@@ -14,5 +12,6 @@ pub mod Fating
 pub mod VarRecords
 pub mod Reaching
 pub mod Starting
+pub mod Refusals
 pub mod Root
 pub mod Laying

@@ -1,6 +1,6 @@
 -- What a build works out of a root model, step by step: the sizes, the tables of its variables, and the parts of the area that are written.
 use Rattle.std.specs.Prelude.{ℕ, ◌+◌, ◌*◌, ◌^◌, ◌≤◌, ◌<◌, ◌≡◌, false, cond, List, [], ◌++◌, map, eqb, length, take, get_or, Float}
-use Rattle.functions.specs.Lists.{each, sum_of, times}
+use Rattle.functions.specs.Lists.{each, sum_of}
 use Rattle.ast.specs.Tree.{File, Flat, flat_size}
 use Rattle.ast.specs.Words.{bytes_of}
 use Rattle.ast.specs.Bytes.{put}
@@ -15,7 +15,7 @@ use Rattle.definitions.specs.Variables.{Error, Bounds, at, time_bounds}
 use Rattle.definitions.specs.Check.{Scope}
 use Rattle.definitions.specs.Flatten.{model_at, scope_of, flatten, errors_of, instances, cyclic, self_listed, overfull}
 use Rattle.definitions.specs.Roles.{Role, role_of}
-use Rattle.definitions.specs.Allocate.{Fate, fates_of, paired_states, count_errors}
+use Rattle.definitions.specs.Allocate.{Fate, fates_of, left_count, paired_states, count_errors}
 use Rattle.definitions.specs.Answer.{Answer, answer_bytes, flat_records, variable_records}
 use Rattle.definitions.specs.Build.{Result, refusal, accepted, answer_from, too_big, fitted}
 use Rattle.builder.specs.Tables.{Classes, lacking_in}
@@ -29,10 +29,11 @@ use Rattle.builder.specs.Starting.{starting_in, Righted}
 use Rattle.builder.specs.Checking as checking
 use Rattle.builder.specs.Descent.{RowsIn}
 use Rattle.area.specs.declared.sections.Sizes.{Sizes}
-use Rattle.builder.specs.declared.extent.measure.Measured as measured
-use Rattle.builder.specs.declared.extent.measure.Measured.TheVariants.{Refused, Sized}
-use Rattle.builder.specs.declared.answer.Answered as answered
-use Rattle.builder.specs.declared.answer.Answered.TheVariants as is
+use Rattle.std.specs.Prelude as std
+use Rattle.std.specs.Prelude.{Ok, Err}
+use Rattle.builder.specs.declared.refusal.Refusal.{Refusal}
+use Rattle.builder.specs.Refusals.{number_of}
+use Rattle.builder.specs.declared.extent.measure.Extent.{Extent}
 
 -- The numbers of instances, flattened statements and flattened nodes.
 pub record Measure : Type 0 where
@@ -78,10 +79,14 @@ module _ (f : File) (m : ℕ) where
   unfoldable pub measure_of : Result Measure
   measure_of = cond (eqb forbidden_of 0) size_of (refusal forbidden_of)
 
--- Each case of the code's answer: a refusal's number, or the sizes.
-unfoldable pub measured_as : measured.Measured → Result Measure
-measured_as (Refused n) = refusal n
-measured_as (Sized i q n) = accepted (record { instances = i; stmts = q; nodes = n })
+-- Each case of the code's answers: a refusal's number, 0 where there is none, or the sizes.
+unfoldable pub forbidden_as : std.Result (Unit {0}) Refusal → ℕ
+forbidden_as (Err r) = number_of r
+forbidden_as (Ok x) = 0
+
+unfoldable pub measured_as : std.Result Extent Refusal → Result Measure
+measured_as (Err r) = refusal (number_of r)
+measured_as (Ok e) = accepted (record { instances = e.instances; stmts = e.stmts; nodes = e.nodes })
 
 -- The instances, flattened statements and nodes of a model that is not too big.
 pub record ExtentOf (f : File) (m i q n : ℕ) : Type 0 where
@@ -188,14 +193,10 @@ Fated f m z b = PartsLaid f m z (flat_records 0 (flats_of f m) (fates_at f m)) (
 abbrev pub Held : File → ℕ → Sizes → List ℕ → Type 0
 Held f m z b = PartsLaid f m z (flat_records 0 (flats_of f m) (fates_at f m)) (variable_records (answer_at f m) 0 0 (scope_at f m).vars) b
 
--- how many of the states are paired
-unfoldable pub paired_count : ℕ → ℕ → ℕ
-paired_count left states = cond (eqb left states) states 0
-
 -- ---- fates and errors over the records in an area, `numbers` having each name's variable
 
 module _ (b : List ℕ) (z : Sizes) (numbers : List ℕ) (lower : Float) where
-  unfoldable pub roles_by : List ℕ
+  unfoldable pub roles_by : List Role
   roles_by = map (role_by numbers (indexes_in b z) (rates_in b z) lower) (flats_in b z)
 
   unfoldable pub lacking_by : List ℕ
@@ -203,11 +204,11 @@ module _ (b : List ℕ) (z : Sizes) (numbers : List ℕ) (lower : Float) where
 
   -- the states that are paired
   unfoldable pub queue_by : List ℕ
-  queue_by = cond (eqb (times (eqb 0) roles_by) (length lacking_by)) lacking_by []
+  queue_by = cond (eqb (left_count roles_by) (length lacking_by)) lacking_by []
 
   -- the statements' records with their fates
   unfoldable pub fated_by : List (List ℕ)
-  fated_by = fating.fated (area_stmts b z) (fating.fates_in queue_by roles_by)
+  fated_by = fating.fated (area_stmts b z) (map fating.fate_pair (fates_of queue_by roles_by))
 
   -- the errors of root model m, where `left` statements and `states` states are left
   unfoldable pub errors_by : File → ℕ → ℕ → ℕ → List Error
@@ -225,13 +226,13 @@ pub record Erring (f : List ℕ) (s : Sections) (classes callees b numbers : Lis
 
 -- ---- what the build of a model answers: a refusal, or the bytes used of an area
 
-unfoldable pub answered_as : answered.Answered → List ℕ → Result (List ℕ)
-answered_as (is.Refused n) b = refusal n
-answered_as (is.Used n) b = accepted (take n b)
+unfoldable pub answered_as : std.Result ℕ Refusal → List ℕ → Result (List ℕ)
+answered_as (Err r) b = refusal (number_of r)
+answered_as (Ok n) b = accepted (take n b)
 
-unfoldable pub used_in : answered.Answered → ℕ
-used_in (is.Refused n) = 0
-used_in (is.Used n) = n
+unfoldable pub used_in : std.Result ℕ Refusal → ℕ
+used_in (Err r) = 0
+used_in (Ok n) = n
 
 unfoldable pub bytes_in : Result Answer → Result (List ℕ)
 bytes_in (refusal n) = refusal n

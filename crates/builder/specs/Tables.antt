@@ -1,7 +1,7 @@
 -- The tables that the code works out of an open file, by number, and what each entry says.
 use Rattle.std.specs.Prelude.{ℕ, zero, suc, ◌+◌, ◌*◌, ◌<◌, ◌≡◌, Bool, cond, not, ◌&&◌, eqb, List, [], ◌∷◌, ◌++◌, length, get_or}
 use Rattle.std.proofs.Math.Option.{Option, none, some}
-use Rattle.functions.specs.Lists.{text, same_text, plus_one, reaches, flag, member, sum_of}
+use Rattle.functions.specs.Lists.{text, same_text, any, plus_one, reaches, flag, member, sum_of}
 use Rattle.functions.specs.declared.Rule.{Rule}
 use Rattle.functions.specs.declared.Rule.TheVariants.{One, Two, Interp1d, Piecewise, Any}
 use Rattle.functions.specs.Rules.{rule_of}
@@ -14,7 +14,8 @@ use Rattle.definitions.specs.Names.{text_of}
 use Rattle.definitions.specs.Variables.{at}
 use Rattle.definitions.specs.Check.{Scope, lookup}
 use Rattle.definitions.specs.Flatten.{model_named, submodels}
-use Rattle.definitions.specs.Roles.{Role, starts, rates, free}
+use Rattle.definitions.specs.Roles.{Role}
+use Rattle.definitions.specs.Allocate.{is_rate_of}
 
 -- ---- classes of names: the place of a text among those that decide something, or 18
 
@@ -112,18 +113,13 @@ pub record Marks (n : ℕ) (vs table : List ℕ) : Type 0 where
 unfoldable pub kept_in : List ℕ → List ℕ → ℕ
 kept_in table ds = sum_of (λ d. flag (not (eqb (get_or table d 0) 0))) ds
 
--- ---- roles of statements by number: 0 for neither, 2 v + 1 for an initial condition of v, 2 v + 2 for a rate equation that goes to v
-
-unfoldable pub role_number : Role → ℕ
-role_number (starts v) = 2 * v + 1
-role_number (rates v) = 2 * v + 2
-role_number free = 0
+-- ---- by the roles of statements
 
 -- Whether variable v is a state, 1 in the table, that none of the roles goes to.
-unfoldable pub lacks_in : List ℕ → List ℕ → ℕ → Bool
-lacks_in roles states v = eqb (get_or states v 0) 1 && not (member (2 * v + 2) roles)
+unfoldable pub lacks_in : List Role → List ℕ → ℕ → Bool
+lacks_in roles states v = eqb (get_or states v 0) 1 && not (any (is_rate_of v) roles)
 
 -- Those below n, in order.
-unfoldable pub lacking_in : List ℕ → List ℕ → ℕ → List ℕ
+unfoldable pub lacking_in : List Role → List ℕ → ℕ → List ℕ
 lacking_in roles states zero = []
 lacking_in roles states (suc n) = lacking_in roles states n ++ cond (lacks_in roles states n) (n ∷ []) []

@@ -11,5 +11,6 @@ pub mod flattening;
 pub mod models;
 pub mod names;
 pub mod numbers;
+pub mod refusal;
 pub mod root;
 pub mod variables;

@@ -7,6 +7,7 @@ use native.Mathlib.Omega.{arith}
 use borrow.Author.Tests.{leb-true, lt-leb, le-leb}
 use lib.Dec.{leb, ltb}
 use lib.ListN.{length, take, drop}
+use Rattle.std.proofs.Math.Bool.{and-false}
 use Rattle.functions.specs.Lists.{all}
 use Rattle.functions.proofs.Lists.{and_both}
 use Rattle.ast.specs.Words.{words}
@@ -120,11 +121,7 @@ module _ (kinds : ℕ) (b : List ℕ) where
   -- shorter than a header
   pub no_header : length b < 4 * header_length → false ≡ keeps_layout plain kinds b
   unfolding keeps_layout headed_fits sections_fit end_at errors_at deps_at vars_at stmts_at nodes_at
-  no_header l = simp (lt-leb (end_at plain (take header_length (words b))) (length b) (omega arith), and_false)
-    where
-      and_false : (a : Bool) → (a && false) ≡ false
-      and_false true = refl
-      and_false false = refl
+  no_header l = simp (lt-leb (end_at plain (take header_length (words b))) (length b) (omega arith), and-false)
 
   pub over_most_lem : counts_fit header ≡ false → false ≡ keeps_layout plain kinds b
   unfolding keeps_layout headed_fits header_in

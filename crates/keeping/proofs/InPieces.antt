@@ -9,9 +9,9 @@ use borrow.Author.Tests.{le-leb}
 use lib.Dec.{eqb}
 use lib.ListN.{length, take, drop, get_or, length-append}
 use lib.Seq.{take-append-le, drop-append-le}
+use Rattle.std.proofs.Math.Bool.{and_assoc, and_comm}
 use Rattle.functions.specs.Lists.{all, each}
 use Rattle.ast.specs.Words.{words, records, section}
-use Rattle.ast.proofs.Turns.{and_assoc}
 use Rattle.area.proofs.SectionsKept.{section_kept}
 use Rattle.definitions.specs.Numbers.{most_bytes, header_length, node_length, stmt_length, variable_length, error_length}
 use Rattle.definitions.specs.Area.{nodes_in, stmts_in, vars_in, deps_in, listed_in, header_in}
@@ -72,15 +72,7 @@ module _ (kinds : ℕ) (p q : List ℕ) where
   headed_front h l =
       let l' : end_at plain h ≤ length (p ++ q) = rw length-append (omega arith) in
       rw (le-leb (end_at plain h) (length p) l, le-leb (end_at plain h) (length (p ++ q)) l', drop-append-le (end_at plain h) p q l, zeros_append (drop (end_at plain h) p) q, records_in_front p q h l)
-      (swap (counts_fit h) (zeros (drop (end_at plain h) p)) (zeros q) (records_fit kinds (records_at plain h p)))
-    where
-      swap : (w x y z : Bool) → ((w && (x && y)) && z) ≡ (((w && x) && z) && y)
-      swap false x y z = refl
-      swap true false y z = refl
-      swap true true true true = refl
-      swap true true true false = refl
-      swap true true false true = refl
-      swap true true false false = refl
+      (simp and_assoc (ap (λ (t : Bool). counts_fit h && (zeros (drop (end_at plain h) p) && t)) (and_comm (zeros q) (records_fit kinds (records_at plain h p)))))
 
   over_front : (h : List ℕ) → counts_fit h ≡ false → headed_fits plain kinds h (p ++ q) ≡ (headed_fits plain kinds h p && zeros q)
   unfolding headed_fits

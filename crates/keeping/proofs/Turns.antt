@@ -1,14 +1,15 @@
 -- The tests of an area's records in a loop's terms: the record at i, those behind it, and the end; and the tests of one record, case by case.
 use mathlib.Core.Path.{◌≡◌, refl, ap, ◌∙◌}
-use mathlib.Core.List.{List, []}
-use mathlib.Core.Bool.{true, false, not, ◌&&◌, ◌||◌}
+use mathlib.Core.List.{List, [], ◌∷◌}
+use mathlib.Core.Bool.{Bool, true, false, not, ◌&&◌, ◌||◌}
 use Prim.Native.Nat.{ℕ, zero, suc, ◌+◌, ◌≤◌, ◌<◌}
 use native.Mathlib.Omega.{arith}
 use borrow.Author.Tests.{leb-true, lt-ltb, ne_eqb}
 use lib.Dec.{eqb, ltb, leb}
-use lib.ListN.{length, drop, get_or}
+use lib.ListN.{drop, get_or}
+use Rattle.std.specs.List.{list_all}
 use Rattle.functions.specs.Lists.{all}
-use Rattle.functions.proofs.Lists.{and_both, drop_here, drop_past}
+use Rattle.functions.proofs.Lists.{and_both}
 use Rattle.ast.specs.Words.{section}
 use Rattle.ast.specs.Records.{right_top}
 use Rattle.ast.proofs.Turns.{turn, done}
@@ -81,11 +82,7 @@ module _ (name k : ℕ) (r : List ℕ) (is : k ≡ name_of_variable r) where
 
 -- ---- zeros
 
-module _ (b : List ℕ) (i : ℕ) where
-  pub zeros_turn : i < length b → zeros (drop i b) ≡ (eqb (get_or b i 0) 0 && zeros (drop (i + 1) b))
-  unfolding zeros all
-  zeros_turn h = ap zeros (drop_here b 0 i h)
-
-  pub zeros_done : length b ≤ i → zeros (drop i b) ≡ true
-  unfolding zeros all
-  zeros_done h = ap zeros (drop_past b i h)
+pub zeros_all : (b : List ℕ) → list_all (λ x. eqb x 0) b ≡ zeros b
+unfolding zeros all
+zeros_all [] = refl
+zeros_all (x ∷ b) = ap (λ (t : Bool). eqb x 0 && t) (zeros_all b)

@@ -26,12 +26,10 @@ pub fn errors_fit(area: &[u8], rs: Records, kinds: usize) -> bool
     requires { ErrorsLie rs area.now }
     ensures { result ≡ all (error_fits kinds) (records_in rs area.now) }
 {
-    let mut i = 0;
-    while i < rs.count {
+    for i in 0..rs.count {
         if !error_fits(area, rs, i, kinds) {
             return false;
         }
-        i += 1;
     }
     true
 }

@@ -53,22 +53,14 @@ fn listed(area: &[u8]) -> usize
     requires { 4 * header_length ≤ length area.now }
     ensures { result ≡ listed_in (header_in area.now) }
 {
-    let errors = header_word(area, HEADER_ERRORS);
-    if errors < MOST_LISTED {
-        return errors;
-    }
-    MOST_LISTED
+    header_word(area, HEADER_ERRORS).min(MOST_LISTED)
 }
 
 // So many records of a width in words, from a byte on.
 fn by_place(at: usize, width: usize, count: usize) -> Records
     ensures { result ≡ placed at width count }
 {
-    Records {
-        at: at,
-        width: width,
-        count: count,
-    }
+    Records { at, width, count }
 }
 
 pub fn sections_in(area: &[u8]) -> Sections

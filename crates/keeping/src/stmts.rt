@@ -5,7 +5,7 @@ ghost use Rattle.ast.specs.RecordsIn.{records_in, record_in};
 ghost use Rattle.definitions.specs.Layout.{fate_fits, row_fits, rows_fit};
 ghost use Rattle.keeping.specs.Placed.{RowsLie};
 
-use area::layout::{INITIAL_FATE, LEFT_OVER_FATE, STMT_FATE, STMT_VARIABLE};
+use area::layout::{Fate, STMT_FATE, STMT_VARIABLE};
 use ast::layout::{MOST_NAMES, STMT_KIND, STMT_RIGHT, SUBMODEL_KIND};
 use ast::sections::{Nodes, Records, word_of};
 use ast::stmts::stmt_fits;
@@ -18,10 +18,10 @@ fn fate_fits(area: &[u8], rs: Records, i: usize, vars: usize) -> bool
 {
     let fate = word_of(area, rs, i, STMT_FATE);
     let variable = word_of(area, rs, i, STMT_VARIABLE);
-    if fate == LEFT_OVER_FATE as usize {
+    if fate == Fate::LeftOver as usize {
         return variable == 0;
     }
-    (INITIAL_FATE as usize <= fate) & (fate <= LEFT_OVER_FATE as usize) & (variable < vars)
+    (Fate::Initial as usize <= fate) & (fate <= Fate::LeftOver as usize) & (variable < vars)
 }
 
 // A statement whose trees go on from node `first`, and that is no submodel statement.
@@ -45,13 +45,11 @@ pub fn rows_fit(area: &[u8], ns: Nodes, rs: Records, vars: usize) -> bool
         (records_in rs area.now) }
 {
     let mut first: usize = 0;
-    let mut i = 0;
-    while i < rs.count {
+    for i in 0..rs.count {
         if !row_fits(area, ns, rs, i, vars, first) {
             return false;
         }
         first = word_of(area, rs, i, STMT_RIGHT) + 1;
-        i += 1;
     }
     first == ns.count
 }

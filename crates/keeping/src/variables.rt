@@ -43,13 +43,11 @@ pub fn variables_fit(area: &[u8], rs: Records, stmts: usize, deps: usize) -> boo
     ensures { result ≡ variables_fit stmts deps 0 (records_in rs area.now) }
 {
     let mut first: usize = 0;
-    let mut i = 0;
-    while i < rs.count {
+    for i in 0..rs.count {
         if !variable_fits(area, rs, i, stmts, deps, first) {
             return false;
         }
         first += word_of(area, rs, i, VAR_DEPS);
-        i += 1;
     }
     first == deps
 }
@@ -60,13 +58,11 @@ fn named_apart(area: &[u8], rs: Records, from: usize, name: usize) -> bool
         × (from ≤ rs.count) }
     ensures { result ≡ all (named_apart name) (drop from (records_in rs area.now)) }
 {
-    let mut i = from;
-    while i < rs.count {
+    for i in from..rs.count {
         let other = word_of(area, rs, i, VAR_NAME);
         if (other == 0) | (other == name) {
             return false;
         }
-        i += 1;
     }
     true
 }
@@ -75,13 +71,11 @@ pub fn names_differ(area: &[u8], rs: Records) -> bool
     requires { VarsLie rs area.now }
     ensures { result ≡ names_differ (records_in rs area.now) }
 {
-    let mut i = 0;
-    while i < rs.count {
+    for i in 0..rs.count {
         let name = word_of(area, rs, i, VAR_NAME);
         if !named_apart(area, rs, i + 1, name) {
             return false;
         }
-        i += 1;
     }
     true
 }

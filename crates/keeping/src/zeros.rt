@@ -6,12 +6,5 @@ ghost use Rattle.definitions.specs.Layout.{zeros};
 pub fn all_zeros(bytes: &[u8]) -> bool
     ensures { result ≡ zeros bytes.now }
 {
-    let mut i = 0;
-    while i < bytes.len() {
-        if bytes[i] != 0 {
-            return false;
-        }
-        i += 1;
-    }
-    true
+    bytes.iter().all(|b| *b == 0)
 }

@@ -3,34 +3,41 @@
 // breaks its layout prints nothing.
 #![tactic(auto)]
 
-mod files;
 mod judge;
 mod print;
 mod text;
 
-use std::io::Read;
-use std::rt::{Env, Files};
+use area::layout::MOST_KIND;
+use files::read_full;
+use judge::rest_is_zeros;
+use keeping::kept::keeps_layout;
+use print::print_lines;
+use std::rt::Env;
 use std::{fs, io};
 
-// Judges an open area, whose front is as long as the buffer or all that there is.
-fn with_open<R: Env + Files + Print + Eprint + Alloc>(
-    rt: &R,
-    file: &mut impl Read,
-) -> io::Result<()> {
-    let mut front = [0u8; 65536];
-    let n = files::read_full(file, &mut front);
-    print::judged(rt, file, &front[..n])
-}
-
-fn with_area<R: Env + Files + Print + Eprint + Alloc>(rt: &R, path: &[u8]) -> io::Result<()> {
-    match fs::open(rt, files::text_of(path)) {
-        Ok(mut file) => with_open(rt, &mut file),
-        Err(_) => Ok(()),
+// The name of a file, which is text since std opens no other. One that is missing, too long for a path or no UTF-8 text
+// is empty, and no file has that name.
+fn name<'a>(rt: &impl Env, i: usize, buffer: &'a mut [u8]) -> &'a str {
+    match rt.arg(i, buffer) {
+        Ok(n) => str::from_utf8(&buffer[..n]).unwrap_or(""),
+        Err(_) => "",
     }
 }
 
-// An argument that is missing or too long for a path is empty, and no file has that name.
+// Nothing is printed before the whole area is judged: its front, which is as long as the buffer or all that there is,
+// and what is left of its file, which has to be zeros. Arguments behind the second are not looked at.
 fn main(rt: HostRuntime) -> io::Result<()> {
-    let mut name = [0u8; 4096];
-    with_area(&rt, files::bytes(&rt, 1, &mut name))
+    let mut area = [0; 4096];
+    let mut text = [0; 4096];
+    let mut front = [0; 65536];
+    let Ok(mut file) = fs::open(&rt, name(&rt, 1, &mut area)) else {
+        return Ok(());
+    };
+    let Ok(n) = read_full(&mut file, &mut front) else {
+        return Ok(());
+    };
+    if keeps_layout(&front[..n], MOST_KIND) && rest_is_zeros(&mut file) {
+        print_lines(&rt, &front[..n], name(&rt, 2, &mut text))?;
+    }
+    Ok(())
 }

@@ -3,93 +3,60 @@ ghost use Rattle.std.specs.Prelude.{true, ◌≡◌, ◌*◌, ◌≤◌, length,
 ghost use Rattle.io.specs.Counts.{IsPrefixLen};
 ghost use Rattle.definitions.specs.Numbers.{most_listed};
 ghost use Rattle.definitions.specs.Layout.{plain, most_kind, keeps_layout};
-ghost use Rattle.positions.specs.Pieces.{AsLong};
 ghost use Rattle.report.specs.Lines.{most_line};
 ghost use Rattle.report.specs.Tabled.{Printed};
 
-use super::files;
-use super::judge::rest_is_zeros;
 use super::text::places;
-use area::layout::{MOST_KIND, MOST_LISTED};
-use keeping::kept::keeps_layout;
+use area::layout::MOST_LISTED;
+use files::failure;
 use keeping::sections::sections_in;
+use positions::{Entry, Place};
 use report::lines::put_lines;
 use report::starts::note_starts;
 use std::io;
-use std::io::Read;
-use std::rt::{Env, Files};
+use std::rt::Files;
 
 // An entry for each error that can be listed.
-fn table() -> [u64; MOST_LISTED]
+fn table() -> [Entry; MOST_LISTED]
     ensures { most_listed ≡ length result }
 {
-    [0u64; MOST_LISTED]
+    let place = Place::NOWHERE;
+    [Entry { start: 0, place }; MOST_LISTED]
 }
 
 // Writes the lines of an area and of the text in a file, and gives their length.
 fn lines_of(
     rt: &impl Files,
     area: &[u8],
-    path: &[u8],
-    starts: &mut [u64],
-    lines: &mut [u64],
-    columns: &mut [u64],
+    path: &str,
+    entries: &mut [Entry],
     out: &mut [u8],
 ) -> usize
     requires { (keeps_layout plain most_kind area.now ≡ true)
-        × (length starts.old ≡ most_listed)
-        × AsLong starts.old lines.old columns.old
+        × (length entries.old ≡ most_listed)
         × (most_listed * most_line ≤ length out.old) }
     ensures { IsPrefixLen result out.new
         × Printed area.now (take result out.new) }
 {
     let s = sections_in(area);
-    note_starts(area, s.errors, starts);
-    places(rt, path, starts, lines, columns);
-    put_lines(area, s.errors, lines, columns, out)
+    note_starts(area, s.errors, entries);
+    places(rt, path, entries);
+    put_lines(area, s.errors, entries, out)
 }
 
-fn with_path<R: Files + Print + Eprint + Alloc>(rt: &R, area: &[u8], path: &[u8]) -> io::Result<()>
+// Prints the lines of an area and of the text in a file.
+pub fn print_lines<R: Files + Print + Eprint + Alloc>(
+    rt: &R,
+    area: &[u8],
+    path: &str,
+) -> io::Result<()>
     requires { keeps_layout plain most_kind area.now ≡ true }
 {
-    let mut starts = table();
-    let mut lines = table();
-    let mut columns = table();
+    let mut entries = table();
     let mut out = [0u8; 65536];
-    let n = lines_of(
-        rt,
-        area,
-        path,
-        &mut starts,
-        &mut lines,
-        &mut columns,
-        &mut out,
-    );
+    let n = lines_of(rt, area, path, &mut entries, &mut out);
     match rt.write_all(&out[..n]) {
         Ok(()) => Ok(()),
-        Err(error) => files::fail(rt, "lines: standard output", error),
+        Err(error) => rt.eprintln(failure(rt, "lines: standard output", error)?),
     }
-}
-
-// The text's name is the second argument; those behind it are not looked at.
-fn with_text<R: Env + Files + Print + Eprint + Alloc>(rt: &R, area: &[u8]) -> io::Result<()>
-    requires { keeps_layout plain most_kind area.now ≡ true }
-{
-    let mut name = [0u8; 4096];
-    with_path(rt, area, files::bytes(rt, 2, &mut name))
-}
-
-// Nothing is printed before the whole area is judged: what is left of its file has to be zeros.
-pub fn judged<R: Env + Files + Print + Eprint + Alloc>(
-    rt: &R,
-    file: &mut impl Read,
-    front: &[u8],
-) -> io::Result<()> {
-    if !keeps_layout(front, MOST_KIND) {
-        return Ok(());
-    }
-    if !rest_is_zeros(file) {
-        return Ok(());
-    }
-    with_text(rt, front)
 }

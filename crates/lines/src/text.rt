@@ -1,63 +1,50 @@
-// Reads a text once, piece by piece, into the tables of the starts' lines and columns. A contract cannot say which
-// bytes are read: these say that the tables are those of a text.
-ghost use Rattle.std.specs.Prelude.{[], ◌^◌, ◌≤◌, length};
-ghost use Rattle.positions.specs.Pieces.{AsLong, Placed, OfText};
+// Reads a text once, piece by piece, into the table of the starts with their places. A contract cannot say which bytes
+// are read: these say that the table is that of a text.
+ghost use Rattle.std.specs.Prelude.{◌≡◌, [], ◌^◌, ◌≤◌, length};
+ghost use Rattle.positions.specs.Pieces.{starts, placed, OfText};
 
-use super::files::text_of;
-use positions::ends::beginning;
 use positions::tables::{begin, take_piece};
-use std::fs;
+use positions::{End, Entry};
 use std::io::Read;
 use std::rt::Files;
+use std::{fs, io};
 
 // Every start is a word, so what stands behind so many bytes is not asked for.
 const WORD: u64 = 4294967296;
 
-// Takes in a file to its end, by way of a buffer, and tells whether every read was done.
-fn follow(
-    file: &mut impl Read,
-    piece: &mut [u8],
-    starts: &[u64],
-    lines: &mut [u64],
-    columns: &mut [u64],
-) -> bool
+// Takes in a file to its end, by way of a buffer.
+fn follow(file: &mut impl Read, piece: &mut [u8], entries: &mut [Entry]) -> io::Result<()>
     requires { (length piece.old ≤ 2 ^ 16)
-        × Placed [] starts.now lines.old columns.old }
-    ensures { OfText starts.now lines.new columns.new }
+        × (entries.old ≡ placed [] (starts entries.old)) }
+    ensures { OfText (starts entries.old) entries.new }
 {
-    let mut e = beginning();
-    while e.size < WORD {
-        let Ok(n) = file.read(piece) else {
-            return false;
-        };
+    let mut end = End::new();
+    while end.size < WORD {
+        let n = file.read(piece)?;
         if n == 0 {
-            return true;
+            break;
         }
-        let next = take_piece(&piece[..n], e, starts, lines, columns);
-        e = next;
+        end = take_piece(&piece[..n], end, entries);
     }
-    true
+    Ok(())
 }
 
-fn with_buffer(file: &mut impl Read, starts: &[u64], lines: &mut [u64], columns: &mut [u64]) -> bool
-    requires { Placed [] starts.now lines.old columns.old }
-    ensures { OfText starts.now lines.new columns.new }
+// Takes in the text in a file.
+fn read_text(rt: &impl Files, path: &str, entries: &mut [Entry]) -> io::Result<()>
+    requires { entries.old ≡ placed [] (starts entries.old) }
+    ensures { OfText (starts entries.old) entries.new }
 {
+    let mut file = fs::open(rt, path)?;
     let mut piece = [0u8; 65536];
-    follow(file, &mut piece, starts, lines, columns)
+    follow(&mut file, &mut piece, entries)
 }
 
-// The tables of the text in a file. One that cannot be read to its end counts as empty.
-pub fn places(rt: &impl Files, path: &[u8], starts: &[u64], lines: &mut [u64], columns: &mut [u64])
-    requires { AsLong starts.now lines.old columns.old }
-    ensures { OfText starts.now lines.new columns.new }
+// The table of the text in a file. One that cannot be read to its end counts as empty.
+pub fn places(rt: &impl Files, path: &str, entries: &mut [Entry])
+    ensures { OfText (starts entries.old) entries.new }
 {
-    begin(starts, lines, columns);
-    let Ok(mut file) = fs::open(rt, text_of(path)) else {
-        return;
-    };
-    let whole = with_buffer(&mut file, starts, lines, columns);
-    if !whole {
-        begin(starts, lines, columns);
+    begin(entries);
+    if read_text(rt, path, entries).is_err() {
+        begin(entries);
     }
 }

@@ -1,101 +1,74 @@
--- Tables of lines and columns, entry by entry: those below i are of the text with the piece, the others of the text without it.
-use mathlib.Core.Path.{◌≡◌, ap, ◌∙◌}
-use mathlib.Core.Logic.{◌≢◌}
-use mathlib.Core.List.{List, [], ◌++◌}
-use Prim.Native.Nat.{ℕ, ◌+◌, ◌≤◌, ◌<◌}
+-- A table's entries, one by one: the first ones are of the text with the piece, the others of the text without it.
+use mathlib.Core.Path.{◌≡◌, refl, sym, ap, subst, ◌∙◌}
+use mathlib.Core.List.{List, [], ◌∷◌, ◌++◌, map, append-nil}
+use Prim.Native.Nat.{ℕ, suc, ◌+◌, ◌≤◌, ◌<◌}
 use native.Mathlib.Omega.{arith}
-use lib.ListN.{length, get_or, set, length-set}
-use lib.Seq.{get_or-set_same, get_or-set_other}
-use borrow.Author.Tests.{eqb-false}
-use Rattle.ast.proofs.ToBytes.{by_test}
+use lib.ListN.{length, take, drop, get_or, set}
 use Rattle.positions.specs.declared.End.{End}
+use Rattle.positions.specs.declared.Entry.{Entry}
+use lib.Seq.{length-take-le, take_all, drop-cons, get_or_at}
+use Rattle.std.proofs.lemmas.List.{length-map, get_or-map, drop_all}
+use Rattle.std.proofs.lemmas.List.Edits.{map_over_more}
 use Rattle.positions.specs.declared.Place.{Place}
 use Rattle.positions.specs.Positions.{place_of}
-use Rattle.positions.specs.Pieces.{end_of, Bounded, PlacedAt, AsLong, Placed, Taken, Standing, OfText}
+use Rattle.positions.specs.Pieces.{starts, placed, Taken, Standing, OfText}
 
--- the entries below i are of the text x
-abbrev pub Done : List ℕ → List ℕ → ℕ → List ℕ → List ℕ → Type 0
-Done x starts i lines columns = (j : ℕ) → j < i → PlacedAt x starts lines columns j
+-- an entry with the place of its start in the text t
+abbrev pub seen : List ℕ → Entry → Entry
+seen t x = record { start = x.start; place = place_of t x.start }
 
--- those below i are of the text x, which has the piece, the others of the text t, which has not
-pub record Half (t x starts : List ℕ) (i : ℕ) (lines columns : List ℕ) : Type 0 where
-  pub done : Done x starts i lines columns
-  pub left : (j : ℕ) → i ≤ j → j < length starts → PlacedAt t starts lines columns j
+-- The entries of a table, each seen, are the table of the text.
+pub seen_placed : (t : List ℕ) (es : List Entry) → map (seen t) es ≡ placed t (starts es)
+unfolding placed
+seen_placed t [] = refl
+seen_placed t (x ∷ es) = ap (λ z. seen t x ∷ z) (seen_placed t es)
 
--- ---- one entry
+starts_placed : (t ss : List ℕ) → starts (placed t ss) ≡ ss
+unfolding placed
+starts_placed t [] = refl
+starts_placed t (s ∷ ss) = ap (λ z. s ∷ z) (starts_placed t ss)
 
-module _ (starts lines columns : List ℕ) (i : ℕ) (q : Place) (long : AsLong starts lines columns) (l : i < length starts) where
-  abbrev Lines : List ℕ
-  Lines = set lines i q.line
+-- The starts of the table of a text are those that it was made of.
+pub starts_of : (t ss : List ℕ) (es : List Entry) → es ≡ placed t ss → starts es ≡ ss
+starts_of t ss es e = ap starts e ∙ starts_placed t ss
 
-  abbrev Columns : List ℕ
-  Columns = set columns i q.column
+-- An entry of the table of a text has the place of its start in it.
+place_in : (t ss : List ℕ) (es : List Entry) (i : ℕ) (d : Entry) → es ≡ placed t ss → i < length es → (get_or es i d).place ≡ place_of t (get_or es i d).start
+unfolding placed
+place_in t ss es i d e l =
+    let f : ℕ → Entry = λ s. record { start = s; place = place_of t s } in
+    let k : i < length ss = omega (arith, ap length e ∙ length-map ss f) in
+    let r : get_or es i d ≡ f (get_or ss i 0) = ap (λ (z : List Entry). get_or z i d) e ∙ get_or-map f ss i 0 d k in
+    rw r refl
 
-  pub long_set : AsLong starts Lines Columns
-  long_set = record { lines = length-set lines i q.line ∙ long.lines; columns = length-set columns i q.column ∙ long.columns }
+-- ---- one entry more
 
-  -- the entry that is set
-  placed_set : (x : List ℕ) → q ≡ place_of x (get_or starts i 0) → PlacedAt x starts Lines Columns i
-  placed_set x e =
-      record {
-        line = get_or-set_same lines i q.line 0 (omega (arith, long.lines)) ∙ ap (λ (p : Place). p.line) e;
-        column = get_or-set_same columns i q.column 0 (omega (arith, long.columns)) ∙ ap (λ (p : Place). p.column) e;
-      }
+-- x is entry i, where those below i have their places in the text t
+module _ (t : List ℕ) (os es : List Entry) (i : ℕ) (x : Entry) (l : i < length os) (e : es ≡ map (seen t) (take i os) ++ drop i os) (is : x ≡ get_or es i x) where
+  pub seen_more : (p : Place) → p ≡ place_of t x.start → set es i (record { start = x.start; place = p }) ≡ map (seen t) (take (i + 1) os) ++ drop (i + 1) os
+  seen_more p h = rw h (map_over_more (seen t) os es i x l e is)
 
-  -- any other one
-  placed_kept : (x : List ℕ) (j : ℕ) → j ≢ i → PlacedAt x starts lines columns j → PlacedAt x starts Lines Columns j
-  placed_kept x j n h =
-      record { line = get_or-set_other lines i j q.line 0 n ∙ h.line; column = get_or-set_other columns i j q.column 0 n ∙ h.column }
+  -- Its place is still the one that it had.
+  pub seen_left : (u ss : List ℕ) → os ≡ placed u ss → x.place ≡ place_of u x.start
+  seen_left u ss h =
+      let front = map (seen t) (take i os) in
+      let long : length front ≡ i = length-map _ _ ∙ length-take-le i os (omega arith) in
+      let still : get_or es i x ≡ get_or os i x = rw (e, drop-cons os i x l) (get_or_at front (get_or os i x) (drop (suc i) os) x i long) in
+      subst (λ (z : Entry). z.place ≡ place_of u z.start) (sym (is ∙ still)) (place_in u ss os i x h l)
 
-  pub done_turn : (x : List ℕ) → q ≡ place_of x (get_or starts i 0) → Done x starts i lines columns → Done x starts (i + 1) Lines Columns
-  done_turn x e h j k =
-      by_test j i
-      (λ (z : j ≡ i). rw z (placed_set x e))
-      (λ z. placed_kept x j (eqb-false j i z) (h j (under (eqb-false j i z))))
-    where
-      under : j ≢ i → j < i
-      under n = omega arith
-
-  pub half_turn : (t x : List ℕ) → q ≡ place_of x (get_or starts i 0) → Half t x starts i lines columns → Half t x starts (i + 1) Lines Columns
-  half_turn t x e h =
-      record {
-        done = done_turn x e h.done;
-        left = λ j k m. placed_kept t j (λ z. omega arith) (h.left j (omega arith) m);
-      }
-
--- ---- the first entry, and the last
-
-pub half_begin : (t x starts lines columns : List ℕ) → Placed t starts lines columns → Half t x starts 0 lines columns
-half_begin t x starts lines columns h = record { done = λ j l. absurd (omega arith); left = λ j _ l. h.each j l }
-
-pub done_end : (x starts lines columns : List ℕ) (i : ℕ) → AsLong starts lines columns → length starts ≤ i → Done x starts i lines columns
-    → Placed x starts lines columns
-done_end x starts lines columns i long h y = record { long = long; each = λ j l. y j (omega arith) }
-
--- The old place of entry i, as the record that the code makes of it.
-pub old_place : (t x starts lines columns : List ℕ) (i : ℕ) → i < length starts → Half t x starts i lines columns
-    → ◌≡◌ {A = Place} (record { line = get_or lines i 0; column = get_or columns i 0 }) (place_of t (get_or starts i 0))
-old_place t x starts lines columns i l h =
-    let p = h.left i (omega arith) l in
-    λ k. record { line = p.line k; column = p.column k }
+-- The last one has it too.
+pub seen_all : (t : List ℕ) (os es : List Entry) (i : ℕ) → length os ≤ i → es ≡ map (seen t) (take i os) ++ drop i os → es ≡ placed t (starts os)
+seen_all t os es i l e = e ∙ rw (take_all i os l, drop_all i os l, append-nil) (seen_placed t os)
 
 -- ---- a text that is read
 
--- The end of a text and its tables, a piece further.
-pub stands_on : (e r : End) (b starts lines columns lines' columns' : List ℕ) → Standing e starts lines columns
-    → Taken e b r starts lines columns lines' columns' → Standing r starts lines' columns'
-stands_on e r b starts lines columns lines' columns' s k =
-    record {
-      text = s.text ++ b;
-      is_end = k.passed.is_end s.text s.is_end;
-      bounded = k.passed.bounded;
-      placed = k.advanced.placed s.text s.is_end s.placed;
-    }
+-- The end of a text and its table, a piece further.
+pub stands_on : (e r : End) (b ss : List ℕ) (es es' : List Entry) → Standing e ss es → Taken e b r es es' → Standing r ss es'
+stands_on e r b ss es es' s k =
+    record { text = s.text ++ b; is_end = k.passed.is_end s.text s.is_end; placed = k.advanced.placed s.text ss s.is_end s.placed }
 
--- Tables that stand are those of a text.
-pub texts : {e : End} {starts lines columns : List ℕ} → Standing e starts lines columns → OfText starts lines columns
+-- A table that stands is that of a text.
+pub texts : {e : End} {ss : List ℕ} {es : List Entry} → Standing e ss es → OfText ss es
 texts s = record { text = s.text; placed = s.placed }
 
--- The end of no text and its tables.
-pub stands_first : {starts lines columns : List ℕ} (e : End) → e ≡ end_of [] → Bounded e → Placed [] starts lines columns → Standing e starts lines columns
-stands_first e g h p = record { text = []; is_end = g; bounded = h; placed = p }
+-- The end of no text and its table.

@@ -2,19 +2,18 @@
 use mathlib.Core.Path.{◌≡◌, refl, sym, ap, ap₂, ◌∙◌}
 use mathlib.Core.Bool.{Bool, true, false}
 use mathlib.Core.Logic.{◌≢◌}
-use mathlib.Core.List.{List, [], ◌∷◌, ◌++◌, append_assoc, append-nil}
+use mathlib.Core.List.{List, [], ◌∷◌, ◌++◌, append_assoc}
 use Prim.Native.Nat.{ℕ, suc, ◌+◌, ◌≤◌, ◌<◌}
 use native.Mathlib.Omega.{arith}
-use native.Mathlib.Numerals.{add-one}
 use borrow.Author.Tests.{le-leb, lt-leb, eq-eqb, ne_eqb}
 use lib.Dec.{eqb}
-use lib.ListN.{length, take, drop, get_or, length-append, length-take, take-append-drop}
-use lib.Seq.{take-append-le, take-length, take_all, take-suc}
+use lib.ListN.{length, take, drop, length-append, length-take, take-append-drop}
+use lib.Seq.{take-append-le, take-length, take_all}
 use Rattle.functions.specs.Lists.{times, flag}
 use Rattle.positions.specs.declared.End.{End}
 use Rattle.positions.specs.declared.Place.{Place}
 use Rattle.positions.specs.Positions.{newline, is_newline, line_of, below, column_of, nowhere, place_of}
-use Rattle.positions.specs.Pieces.{end_of, Bounded, Passed, Found}
+use Rattle.positions.specs.Pieces.{EndOf, Passed, Found}
 use Rattle.positions.proofs.Counting.{times_append, times_front, times_same, times_none}
 
 -- ---- what stands before the end stays
@@ -50,14 +49,13 @@ place_waits : (t u : List ℕ) (s : ℕ) → length t + length u < s → place_o
 place_waits t u s h = place_beyond (t ++ u) s (rw length-append (omega arith)) ∙ sym (place_beyond t s (omega arith))
 
 -- The end of a part of the text is the place there, in the whole text.
-place_end : (t u : List ℕ) (n s : ℕ) (r : End) → n ≤ length u → s ≡ length t + n → r ≡ end_of (t ++ take n u)
+place_end : (t u : List ℕ) (n s : ℕ) (r : End) → n ≤ length u → s ≡ length t + n → EndOf r (t ++ take n u)
     → record { line = r.line; column = r.column } ≡ place_of (t ++ u) s
-unfolding end_of
 place_end t u n s r h e g =
     let x = t ++ take n u in
     let l : length x ≡ s = length-append t (take n u) ∙ simp length-take (omega arith) in
     let w : x ++ drop n u ≡ t ++ u = append_assoc t (take n u) (drop n u) ∙ ap (λ (z : List ℕ). t ++ z) (take-append-drop n u) in
-    (λ i. record { line = (g i).line; column = (g i).column })
+    (λ i. record { line = g.line i; column = g.column i })
     ∙ (λ i. record { line = line_of x (l i); column = column_of x (l i) })
     ∙ sym (place_there x s (omega (arith, l))) ∙ sym (place_stays x (drop n u) s (omega (arith, l))) ∙ ap (λ (z : List ℕ). place_of z s) w
 
@@ -107,82 +105,52 @@ column_other t b h =
 pub length_last : (t : List ℕ) (b : ℕ) → length (t ++ b ∷ []) ≡ suc (length t)
 length_last t b = rw length-append (omega arith)
 
-module _ (e : End) (b : ℕ) where
-  -- a byte on, by the line and the column there
-  passed_byte : (l c : ℕ) → Bounded (record { size = e.size + 1; line = l; column = c })
-      → ((t : List ℕ) → e ≡ end_of t → (l ≡ line_of (t ++ b ∷ []) (suc (length t))) × (c ≡ column_of (t ++ b ∷ []) (suc (length t))))
-      → Passed e (b ∷ []) (record { size = e.size + 1; line = l; column = c })
-  unfolding end_of
-  passed_byte l c h f =
+module _ (e : End) (b : ℕ) (r : End) (size : r.size ≡ e.size + 1) where
+  pub after_newline : b ≡ newline → r.line ≡ e.line + 1 → r.column ≡ 1 → Passed e (b ∷ []) r
+  unfolding flag
+  after_newline k p q =
+      let n : is_newline b ≡ true = eq-eqb b newline k in
       record {
-        bounded = h;
-        size = omega arith;
+        size = size;
         is_end = λ t g.
-            let x = t ++ b ∷ [] in
-            let n = length_last t b in
-            let p : e.size + 1 ≡ length x = omega (arith, ap (λ (z : End). z.size) g, n) in
-            let q : l ≡ line_of x (length x) = rw n (f t g).0 in
-            let r : c ≡ column_of x (length x) = rw n (f t g).1 in
-            λ i. record { size = p i; line = q i; column = r i };
+            let l = length_last t b in
+            record {
+              size = omega (arith, g.size, l);
+              line = rw l (omega (arith, g.line, line_last t b, ap flag n));
+              column = rw l (q ∙ sym (column_newline t b n));
+            };
       }
 
-  pub after_newline : Bounded e → b ≡ newline → Passed e (b ∷ []) (record { size = e.size + 1; line = e.line + 1; column = 1 })
-  unfolding end_of flag
-  after_newline h k =
-      let n : is_newline b ≡ true = eq-eqb b newline k in
-      passed_byte (e.line + 1) 1 (record { line = omega (arith, h.line); column = omega arith })
-      (λ t g. (omega (arith, ap (λ (z : End). z.line) g, line_last t b, ap flag n), sym (column_newline t b n)))
-
-  pub after_other : Bounded e → (b ≡ newline → ⊥) → Passed e (b ∷ []) (record { size = e.size + 1; line = e.line; column = e.column + 1 })
-  unfolding end_of flag
-  after_other h k =
+  pub after_other : (b ≡ newline → ⊥) → r.line ≡ e.line → r.column ≡ e.column + 1 → Passed e (b ∷ []) r
+  unfolding flag
+  after_other k p q =
       let n : is_newline b ≡ false = ne_eqb b newline k in
-      passed_byte e.line (e.column + 1) (record { line = omega (arith, h.line); column = omega (arith, h.column) })
-      (λ t g. (
-        omega (arith, ap (λ (z : End). z.line) g, line_last t b, ap flag n),
-        omega (arith, ap (λ (z : End). z.column) g, column_other t b n),
-      ))
-
--- ---- the end, several bytes on
-
-pub passed_none : (e : End) → Bounded e → Passed e [] e
-passed_none e h = record { bounded = h; size = omega arith; is_end = λ t g. rw append-nil g }
-
--- One byte more of the list u.
-pub passed_more : (e f r : End) (u : List ℕ) (n : ℕ) → n < length u → Passed e (take n u) f → Passed f (get_or u n 0 ∷ []) r → Passed e (take (n + 1) u) r
-passed_more e f r u n h x y =
-    let b = get_or u n 0 ∷ [] in
-    let w : take (n + 1) u ≡ take n u ++ b = rw add-one (take-suc u n 0 h) in
-    record {
-      bounded = y.bounded;
-      size = omega (arith, x.size, y.size, ap length w, length-append (take n u) b);
-      is_end = λ t g.
-          y.is_end (t ++ take n u) (x.is_end t g) ∙ ap end_of (append_assoc t (take n u) b ∙ ap (λ (z : List ℕ). t ++ z) (sym w));
-    }
-
--- The first bytes of a list, as many as it has, are the list.
-pub passed_all : (e r : End) (u : List ℕ) → Passed e (take (length u) u) r → Passed e u r
-passed_all e r u h = rw (take-length u) at h
+      record {
+        size = size;
+        is_end = λ t g.
+            let l = length_last t b in
+            record {
+              size = omega (arith, g.size, l);
+              line = rw l (omega (arith, g.line, line_last t b, ap flag n));
+              column = rw l (omega (arith, g.column, column_other t b n));
+            };
+      }
 
 -- ---- a start and a piece
-
-size_of : (e : End) (t : List ℕ) → e ≡ end_of t → e.size ≡ length t
-unfolding end_of
-size_of e t g = ap (λ (z : End). z.size) g
 
 module _ (e : End) (u : List ℕ) (start : ℕ) (old : Place) where
   -- A start in the text so far has its place already.
   pub found_before : start ≤ e.size → Found e u start old old
-  found_before h = λ t g k. k ∙ sym (place_stays t u start (omega (arith, size_of e t g)))
+  found_before h = λ t g k. k ∙ sym (place_stays t u start (omega (arith, g.size)))
 
   -- One behind the piece has none yet.
   pub found_later : e.size + length u < start → Found e u start old old
-  found_later h = λ t g k. k ∙ sym (place_waits t u start (omega (arith, size_of e t g)))
+  found_later h = λ t g k. k ∙ sym (place_waits t u start (omega (arith, g.size)))
 
   -- One in the piece, n bytes in, has that of the end there.
   pub found_here : (n : ℕ) (r : End) → n ≤ length u → start ≡ e.size + n → Passed e (take n u) r
       → Found e u start old (record { line = r.line; column = r.column })
-  found_here n r h l p = λ t g _. place_end t u n start r h (omega (arith, size_of e t g)) (p.is_end t g)
+  found_here n r h l p = λ t g _. place_end t u n start r h (omega (arith, g.size)) (p.is_end t g)
 
 -- ---- no text
 
@@ -194,6 +162,6 @@ pub first_none : (start : ℕ) → (start ≡ 0 → ⊥) → record { line = 0; 
 unfolding nowhere
 first_none start n = sym (place_beyond [] start (omega arith))
 
-pub beginning_end : ◌≡◌ {A = End} (record { size = 0; line = 1; column = 1 }) (end_of [])
-unfolding end_of line_of column_of times below
-beginning_end = refl
+pub end_first : (r : End) → r.size ≡ 0 → r.line ≡ 1 → r.column ≡ 1 → EndOf r []
+unfolding line_of column_of times below
+end_first r p q s = record { size = p; line = q; column = s }

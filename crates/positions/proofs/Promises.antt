@@ -7,8 +7,9 @@ use native.Mathlib.Omega.{arith}
 use lib.ListN.{length, take, length-append}
 use Rattle.functions.specs.Lists.{times, flag, each}
 use Rattle.positions.specs.declared.End.{End}
+use Rattle.positions.specs.declared.Entry.{Entry}
 use Rattle.positions.specs.Positions.{newline, is_newline, line_of, below, column_of}
-use Rattle.positions.specs.Pieces.{end_of, Placed, Follows, none, more}
+use Rattle.positions.specs.Pieces.{EndOf, placed, Follows, none, more}
 use Rattle.positions.proofs.Growing.{column_stays, column_newline, column_other, length_last}
 
 -- The line of a place is 1 plus the newline bytes before it.
@@ -55,15 +56,15 @@ column_since a b c h =
     column_on t b c (length a + 1 + length b) (omega (arith, length-append t b, l)) (rw l (column_newline a newline refl)) h
 
 -- pieces behind a text t
-pieces_from : (t : List ℕ) (e r : End) (ps : List (List ℕ)) (starts ls cs ls' cs' : List ℕ) → e ≡ end_of t → Placed t starts ls cs
-    → Follows e ps r starts ls cs ls' cs' → Placed (t ++ each (λ p. p) ps) starts ls' cs'
+pieces_from : (t ss : List ℕ) (e r : End) (ps : List (List ℕ)) (es es' : List Entry) → EndOf e t → es ≡ placed t ss → Follows e ps r es es'
+    → es' ≡ placed (t ++ each (λ p. p) ps) ss
 unfolding each
-pieces_from t e r ps starts ls cs ls' cs' g h none = rw append-nil h
-pieces_from t e r (p ∷ ps) starts ls cs ls' cs' g h (more f ls'' cs'' k o) =
-    let d = pieces_from (t ++ p) f r ps starts ls'' cs'' ls' cs' (k.passed.is_end t g) (k.advanced.placed t g h) o in
-    subst (λ (x : List ℕ). Placed x starts ls' cs') (append_assoc t p (each (λ (z : List ℕ). z) ps)) d
+pieces_from t ss e r ps es es' g h none = rw append-nil h
+pieces_from t ss e r (p ∷ ps) es es' g h (more f es'' k o) =
+    let d = pieces_from (t ++ p) ss f r ps es'' es' (k.passed.is_end t g) (k.advanced.placed t ss g h) o in
+    subst (λ (x : List ℕ). es' ≡ placed x ss) (append_assoc t p (each (λ (z : List ℕ). z) ps)) d
 
--- A text that is read in pieces has the tables of the whole text, which is the pieces joined.
-pub in_pieces : (e r : End) (ps : List (List ℕ)) (starts ls cs ls' cs' : List ℕ) → e ≡ end_of [] → Placed [] starts ls cs
-    → Follows e ps r starts ls cs ls' cs' → Placed (each (λ p. p) ps) starts ls' cs'
-in_pieces e r ps starts ls cs ls' cs' g h o = pieces_from [] e r ps starts ls cs ls' cs' g h o
+-- A text that is read in pieces has the table of the whole text, which is the pieces joined.
+pub in_pieces : (ss : List ℕ) (e r : End) (ps : List (List ℕ)) (es es' : List Entry) → EndOf e [] → es ≡ placed [] ss → Follows e ps r es es'
+    → es' ≡ placed (each (λ p. p) ps) ss
+in_pieces ss e r ps es es' g h o = pieces_from [] ss e r ps es es' g h o

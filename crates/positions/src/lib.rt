@@ -2,21 +2,37 @@
 // 2^40 bytes.
 #![tactic(auto)]
 
+ghost use Rattle.std.specs.Prelude.{◌+◌, ◌≤◌};
+
 pub mod ends;
 pub mod shown;
 pub mod tables;
 
 // The end of the text so far: its length, and the line and the column there.
-#[derive(Clone, Copy)]
+#[derive(Clone, Copy, Debug, PartialEq, Eq)]
 pub struct End {
     pub size: u64,
     pub line: u64,
     pub column: u64,
+    ghost line_within: { line ≤ size + 1 },
+    ghost column_within: { column ≤ size + 1 },
 }
 
 // A line and a column, or 0 and 0.
-#[derive(Clone, Copy)]
+#[derive(Clone, Copy, Debug, PartialEq, Eq)]
 pub struct Place {
     pub line: u64,
     pub column: u64,
+}
+
+impl Place {
+    // What is shown where there is no place.
+    pub const NOWHERE: Place = Place { line: 0, column: 0 };
+}
+
+// A start, and its place in the text so far.
+#[derive(Clone, Copy, Debug, PartialEq, Eq)]
+pub struct Entry {
+    pub start: u64,
+    pub place: Place,
 }

@@ -10,7 +10,7 @@ pub fn shown(from: u64, to: u64, place: Place) -> Place
     ensures { result ≡ shown_for from to place }
 {
     if (from == MISSING) & (to == MISSING) {
-        return Place { line: 0, column: 0 };
+        return Place::NOWHERE;
     }
     place
 }

@@ -1,68 +1,46 @@
-// Tables of the lines and the columns of starts.
+// Tables of starts with their places in a text.
 ghost use Rattle.std.specs.Prelude.{◌≡◌, [], ◌+◌, ◌^◌, ◌<◌, length};
 ghost use Rattle.positions.specs.Positions.{place_of};
-ghost use Rattle.positions.specs.Pieces.{Bounded, Found, AsLong, Placed, Advanced, Taken};
+ghost use Rattle.positions.specs.Pieces.{Found, starts, placed, Advanced, Taken};
 
-use super::ends::walk;
-use super::{End, Place};
+use super::{End, Entry, Place};
 
-// The place of a start in the text with the piece, where `old` is its place in the text so far, whose end is e.
-fn look(piece: &[u8], e: End, start: u64, old: Place) -> Place
-    requires { Bounded e
-        × (e.size + length piece.now < 2 ^ 40) }
-    ensures { Found e piece.now start old result }
+// The place of an entry's start in the text with the piece, where it has the one in the text so far, whose end is `end`.
+fn look(piece: &[u8], end: End, entry: Entry) -> Place
+    requires { end.size + length piece.now < 2 ^ 40 }
+    ensures { Found end piece.now entry.start entry.place result }
 {
-    if start <= e.size {
-        return old;
+    if entry.start <= end.size {
+        return entry.place;
     }
-    let n = (start - e.size) as usize;
+    let n = (entry.start - end.size) as usize;
     if piece.len() < n {
-        return old;
+        return entry.place;
     }
-    let at = walk(piece, n, e);
+    let at = end.walk(&piece[..n]);
     Place {
         line: at.line,
         column: at.column,
     }
 }
 
-// The tables with a piece. Only a start that lies in the piece makes it be walked.
-fn advance(piece: &[u8], e: End, starts: &[u64], lines: &mut [u64], columns: &mut [u64])
-    requires { Bounded e
-        × (e.size + length piece.now < 2 ^ 40)
-        × AsLong starts.now lines.old columns.old }
-    ensures { Advanced e piece.now starts.now lines.old columns.old
-        lines.new columns.new }
+// The table with a piece. Only a start that lies in the piece makes it be walked.
+fn advance(piece: &[u8], end: End, entries: &mut [Entry])
+    requires { end.size + length piece.now < 2 ^ 40 }
+    ensures { Advanced end piece.now entries.old entries.new }
 {
-    let mut i = 0;
-    while i < starts.len() {
-        let old = Place {
-            line: lines[i],
-            column: columns[i],
-        };
-        let new = look(piece, e, starts[i], old);
-        lines[i] = new.line;
-        columns[i] = new.column;
-        i += 1;
+    for entry in entries.iter_mut() {
+        entry.place = look(piece, end, *entry);
     }
 }
 
-// Takes a piece into the tables, and gives the end of the text with it.
-pub fn take_piece(
-    piece: &[u8],
-    e: End,
-    starts: &[u64],
-    lines: &mut [u64],
-    columns: &mut [u64],
-) -> End
-    requires { Bounded e
-        × (e.size + length piece.now < 2 ^ 40)
-        × AsLong starts.now lines.old columns.old }
-    ensures { Taken e piece.now result starts.now lines.old columns.old
-        lines.new columns.new }
+// Takes a piece into the table, and gives the end of the text with it.
+pub fn take_piece(piece: &[u8], end: End, entries: &mut [Entry]) -> End
+    requires { end.size + length piece.now < 2 ^ 40 }
+    ensures { Taken end piece.now result entries.old entries.new }
 {
-    advance(piece, e, starts, lines, columns);
-    walk(piece, piece.len(), e)
+    advance(piece, end, entries);
+    end.walk(piece)
 }
 
 // The place of a start in no text.
@@ -72,19 +50,14 @@ fn first(start: u64) -> Place
     if start == 0 {
         return Place { line: 1, column: 1 };
     }
-    Place { line: 0, column: 0 }
+    Place::NOWHERE
 }
 
-// The tables of no text.
-pub fn begin(starts: &[u64], lines: &mut [u64], columns: &mut [u64])
-    requires { AsLong starts.now lines.old columns.old }
-    ensures { Placed [] starts.now lines.new columns.new }
+// The table of no text.
+pub fn begin(entries: &mut [Entry])
+    ensures { entries.new ≡ placed [] (starts entries.old) }
 {
-    let mut i = 0;
-    while i < starts.len() {
-        let new = first(starts[i]);
-        lines[i] = new.line;
-        columns[i] = new.column;
-        i += 1;
+    for entry in entries.iter_mut() {
+        entry.place = first(entry.start);
     }
 }

@@ -1,85 +1,105 @@
-// What the build told and what the area says, counted and handed over.
-ghost use Rattle.std.specs.Prelude.{◌<◌};
-
-use super::line::Fates;
-use super::{files, line};
-use area::layout::{
-    ERRORS_AT, FATE_AT, HEADER_BYTES, HIGH, NODES_AT, STMT_BYTES, STMTS_AT, WORD_BYTES,
-};
+// What an answer's bytes say in total.
+use area::layout::{ERRORS_AT, FATE_AT, Fate, HEADER_BYTES, NODES_AT, STMT_BYTES, STMTS_AT};
 use ast::layout::NODE_BYTES;
-use ast::words::read_word;
-use std::io;
-use std::rt::Files;
+use std::fmt;
+use std::fmt::{Display, Formatter};
 
-// The word at a byte, 0 where the area is too short.
-fn word(area: &[u8], at: usize) -> u32 {
-    if area.len() < WORD_BYTES {
-        return 0;
+// The word at a byte, 0 where the bytes end before.
+fn word(bytes: &[u8], at: usize) -> u32 {
+    match bytes.get(at..) {
+        Some([a, b, c, d, ..]) => u32::from_le_bytes([*a, *b, *c, *d]),
+        _ => 0,
     }
-    if area.len() - WORD_BYTES < at {
-        return 0;
-    }
-    read_word(area, at)
 }
 
-// Counts the fates of the statement records that begin at a byte.
-fn fates(area: &[u8], first: usize, stmts: usize) -> Fates
-    requires first_bound { first < 1000000000000 }
-    requires stmts_bound { stmts < 1000000000000 }
-{
-    let mut found = line::no_fates();
-    let mut i = 0;
-    while i < stmts {
-        found = line::counted(found, word(area, first + STMT_BYTES * i + FATE_AT));
-        i += 1;
-    }
-    found
+const INITIAL: u32 = Fate::Initial as u32;
+
+const HELD: u32 = Fate::Held as u32;
+
+const REPLACED: u32 = Fate::Replaced as u32;
+
+const LEFT_OVER: u32 = Fate::LeftOver as u32;
+
+// How many statements have each fate.
+#[derive(Clone, Copy, Default)]
+struct Fates {
+    initial: u64,
+    held: u64,
+    replaced: u64,
+    left: u64,
 }
 
-// The fates in an area, whose statement records stand behind the header and the nodes.
-fn all_fates(area: &[u8]) -> Fates {
-    let nodes = word(area, NODES_AT) as usize;
-    let stmts = word(area, STMTS_AT) as usize;
-    fates(area, HEADER_BYTES + NODE_BYTES * nodes, stmts)
+impl Fates {
+    // Those of an answer, whose statement records stand behind the header and the nodes.
+    fn of(answer: &[u8]) -> Fates {
+        let mut fates = Fates::default();
+        let first = HEADER_BYTES + NODE_BYTES * word(answer, NODES_AT) as usize;
+        let behind = answer.get(first..).unwrap_or(b"");
+        let stmts = word(answer, STMTS_AT) as usize;
+        for record in behind.chunks_exact(STMT_BYTES).take(stmts) {
+            fates.count(word(record, FATE_AT));
+        }
+        fates
+    }
+
+    fn count(&mut self, fate: u32) {
+        let stmts = match fate {
+            INITIAL => &mut self.initial,
+            HELD => &mut self.held,
+            REPLACED => &mut self.replaced,
+            LEFT_OVER => &mut self.left,
+            _ => return,
+        };
+        *stmts = stmts.saturating_add(1);
+    }
 }
 
-// Writes an answer to a new file, and prints the line where that is done.
-fn write_answer<R: Files + Print + Eprint + Alloc>(
-    rt: &R,
-    answer: &[u8],
-    to: &[u8],
-) -> io::Result<()> {
-    if files::write_new(rt, to, answer)? {
-        let errors = word(answer, ERRORS_AT) as u64;
-        let stmts = word(answer, STMTS_AT) as u64;
-        line::accepted(rt, answer.len() as u64, errors, stmts, all_fates(answer))?;
+impl Display for Fates {
+    fn fmt<W: fmt::Write>(&self, f: &mut Formatter<W>) -> fmt::Result {
+        let Fates {
+            initial,
+            held,
+            replaced,
+            left,
+        } = self;
+        write!(
+            f,
+            "initial conditions {initial}, held {held}, replaced {replaced}, left over {left}"
+        )
     }
-    Ok(())
 }
 
-// The first `used` bytes are the answer; a build tells no more bytes than the area has.
-fn write_used<R: Files + Print + Eprint + Alloc>(
-    rt: &R,
-    area: &[u8],
-    used: usize,
-    to: &[u8],
-) -> io::Result<()> {
-    if area.len() < used {
-        return eprintln!(rt; "release: more bytes used than there are");
-    }
-    write_answer(rt, &area[..used], to)
+// How many bytes, errors and statements there are.
+#[derive(Clone, Copy)]
+pub struct Totals {
+    bytes: usize,
+    errors: u32,
+    stmts: u32,
+    fates: Fates,
 }
 
-// The low 32 bits are 0 or the refusal's number, the high ones the bytes used.
-pub fn hand_over<R: Files + Print + Eprint + Alloc>(
-    rt: &R,
-    told: u64,
-    area: &[u8],
-    to: &[u8],
-) -> io::Result<()> {
-    let number = told % HIGH;
-    if number != 0 {
-        return line::refused(rt, number);
+impl Totals {
+    pub fn of(answer: &[u8]) -> Totals {
+        Totals {
+            bytes: answer.len(),
+            errors: word(answer, ERRORS_AT),
+            stmts: word(answer, STMTS_AT),
+            fates: Fates::of(answer),
+        }
     }
-    write_used(rt, area, (told / HIGH) as usize, to)
+}
+
+impl Display for Totals {
+    fn fmt<W: fmt::Write>(&self, f: &mut Formatter<W>) -> fmt::Result {
+        let Totals {
+            bytes,
+            errors,
+            stmts,
+            fates,
+        } = self;
+        write!(
+            f,
+            "bytes {bytes} errors {errors} statements {stmts}: {fates}"
+        )
+    }
 }

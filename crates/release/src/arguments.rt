@@ -5,13 +5,13 @@ use std::io::ErrorKind;
 use std::rt::Env;
 
 fn is_there(rt: &impl Env, i: usize) -> bool {
-    let mut one = [0u8; 1];
-    !matches!(&rt.arg(i, &mut one), Err(FillError::NotPresent))
+    let mut one = [0; 1];
+    !matches!(rt.arg(i, &mut one), Err(FillError::NotPresent))
 }
 
 // Whether the program has three arguments behind its own name.
 pub fn are_three(rt: &impl Env) -> bool {
-    is_there(rt, 3) & !is_there(rt, 4)
+    is_there(rt, 3) && !is_there(rt, 4)
 }
 
 // Why an argument cannot be had, in the system's words.
@@ -23,9 +23,7 @@ fn not_had(error: FillError) -> io::Error {
 }
 
 // An argument's bytes.
-pub fn bytes<'a>(rt: &impl Env, i: usize, buffer: &'a mut [u8]) -> io::Result<&'a [u8]> {
-    match rt.arg(i, buffer) {
-        Ok(n) => Ok(&buffer[..n]),
-        Err(error) => Err(not_had(error)),
-    }
+pub fn argument<'a>(rt: &impl Env, i: usize, buffer: &'a mut [u8]) -> io::Result<&'a [u8]> {
+    let n = rt.arg(i, buffer).map_err(not_had)?;
+    Ok(&buffer[..n])
 }

@@ -6,82 +6,63 @@
 
 mod answer;
 mod arguments;
-mod files;
+mod disk;
 mod line;
 
-use files::End;
+use answer::Totals;
+use area::layout::HIGH;
+use arguments::argument;
+use builder::build::build;
+use disk::{Failed, name, read_tree, write_new};
+use files::failure;
+use line::Line;
 use std::io;
-use std::io::Read;
+use std::io::{Error, ErrorKind};
 use std::rt::{Env, Files};
 
-// Builds the file's bytes, and hands the answer over.
-fn release<R: Files + Print + Eprint + Alloc>(
-    rt: &R,
-    file: &[u8],
-    root: &[u8],
-    to: &[u8],
-) -> io::Result<()> {
-    let mut area = [0u8; 65536];
-    let told = builder::build::build(file, root, &mut area);
-    answer::hand_over(rt, told, &area, to)
-}
+// A byte more than is taken for a tree file: none has over 55,200.
+const FILE: usize = 65537;
 
-// Reads an open tree file to its end. No tree file has over 55,200 bytes, so the buffer holds it.
-fn with_open<R: Files + Print + Eprint + Alloc>(
-    rt: &R,
-    file: &mut impl Read,
-    from: &[u8],
-    root: &[u8],
-    to: &[u8],
-) -> io::Result<()> {
-    let mut buffer = [0u8; 65536];
-    let n = files::read_full(file, &mut buffer);
-    match files::at_end(file) {
-        End::Ended => release(rt, &buffer[..n], root, to),
-        End::Failed(error) => files::fail(rt, files::shown(from), error),
-        End::More => files::too_long(rt, from),
-    }
-}
+// Room for any answer: none has over 55,384 bytes.
+const AREA: usize = 65536;
 
-fn with_names<R: Files + Print + Eprint + Alloc>(
+// Builds, writes the answer, and gives the line to print. The arguments are put into the three buffers.
+fn release<'a, R: Env + Files>(
     rt: &R,
-    from: &[u8],
-    root: &[u8],
-    to: &[u8],
-) -> io::Result<()> {
-    match files::open_read(rt, from) {
-        Ok(mut file) => with_open(rt, &mut file, from, root, to),
-        Err(error) => files::fail(rt, files::shown(from), error),
+    from: &'a mut [u8],
+    root: &'a mut [u8],
+    to: &'a mut [u8],
+) -> Result<Line, Failed<'a>> {
+    let from = argument(rt, 1, from).map_err(|why| Failed::new("release: TREEFILE", why))?;
+    let root = argument(rt, 2, root).map_err(|why| Failed::new("release: ROOT", why))?;
+    let to = argument(rt, 3, to).map_err(|why| Failed::new("release: AREAFILE", why))?;
+    let from = name(from)?;
+    let mut buffer = [0; FILE];
+    let file = read_tree(rt, from, &mut buffer).map_err(|why| Failed::new(from, why))?;
+    let mut area = [0; AREA];
+    let told = build(file, root, &mut area);
+    let (number, used) = ((told % HIGH) as u32, (told / HIGH) as usize);
+    if number != 0 {
+        return Ok(Line::Refused(number));
     }
-}
-
-fn with_root<R: Env + Files + Print + Eprint + Alloc>(
-    rt: &R,
-    from: &[u8],
-    root: &[u8],
-) -> io::Result<()> {
-    let mut name = [0u8; 4096];
-    match arguments::bytes(rt, 3, &mut name) {
-        Ok(to) => with_names(rt, from, root, to),
-        Err(error) => files::fail(rt, "release: AREAFILE", error),
-    }
-}
-
-fn with_file<R: Env + Files + Print + Eprint + Alloc>(rt: &R, from: &[u8]) -> io::Result<()> {
-    let mut name = [0u8; 4096];
-    match arguments::bytes(rt, 2, &mut name) {
-        Ok(root) => with_root(rt, from, root),
-        Err(error) => files::fail(rt, "release: ROOT", error),
-    }
+    let Some(answer) = area.get(..used) else {
+        let why = Error::new(ErrorKind::InvalidData, "more bytes used than there are");
+        return Err(Failed::new("release", why));
+    };
+    let to = name(to)?;
+    write_new(rt, to, answer).map_err(|why| Failed::new(to, why))?;
+    Ok(Line::Written(Totals::of(answer)))
 }
 
 fn main(rt: HostRuntime) -> io::Result<()> {
     if !arguments::are_three(&rt) {
         return eprintln!(rt; "usage: release TREEFILE ROOT AREAFILE");
     }
-    let mut name = [0u8; 4096];
-    match arguments::bytes(&rt, 1, &mut name) {
-        Ok(from) => with_file(&rt, from),
-        Err(error) => files::fail(&rt, "release: TREEFILE", error),
+    let mut from = [0; 4096];
+    let mut root = [0; 4096];
+    let mut to = [0; 4096];
+    match release(&rt, &mut from, &mut root, &mut to) {
+        Ok(line) => rt.println(line),
+        Err(Failed { what, why }) => rt.eprintln(failure(&rt, what, why)?),
     }
 }

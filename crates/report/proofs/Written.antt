@@ -1,20 +1,25 @@
 -- Lines that are put one behind the other, and a table that is filled.
-use mathlib.Core.Path.{◌≡◌, sym, ap, ap₂, ◌∙◌}
-use mathlib.Core.List.{List, [], ◌∷◌, ◌++◌, append_assoc, append-nil}
-use Prim.Native.Nat.{ℕ, suc, ◌+◌, ◌≤◌, ◌<◌}
+use mathlib.Core.Path.{◌≡◌, sym, ap, ◌∙◌}
+use mathlib.Core.List.{List, [], ◌∷◌, ◌++◌, map, append_assoc, append-nil}
+use Prim.Native.Nat.{ℕ, zero, suc, ◌+◌, ◌≤◌, ◌<◌}
 use native.Mathlib.Omega.{arith}
 use native.Mathlib.Numerals.{add-one}
-use borrow.Author.Tests.{eqb-false}
 use lib.ListN.{length, take, get_or, set, length-append}
-use lib.Seq.{take-suc, length-take-le, get_or-set_same, get_or-set_other}
+use lib.Seq.{length-take-le, take_all, map-set}
+use Rattle.std.proofs.lemmas.List.{length-map, map_more}
 use Rattle.ast.specs.Bytes.{front, put}
+use Rattle.ast.specs.RecordsIn.{records_in}
+use Rattle.ast.specs.declared.sections.Records.{Records}
+use Rattle.ast.proofs.Fields.{length_section}
 use Rattle.ast.proofs.Fronts.{put_behind}
-use Rattle.ast.proofs.ToBytes.{by_test}
 use Rattle.area.proofs.Puts.{put_again}
 use Rattle.definitions.specs.Layout.{kind_of_error}
+use Rattle.positions.specs.declared.Entry.{Entry}
 use Rattle.positions.specs.declared.Place.{Place}
+use Rattle.positions.specs.Pieces.{starts}
 use Rattle.positions.specs.Positions.{newline}
 use Rattle.report.specs.Lines.{space, field, line_for, start_of_error}
+use Rattle.report.proofs.Fields.{put_one}
 use Rattle.report.specs.Tabled.{tabled_place, tabled_lines}
 
 -- ---- a line
@@ -38,52 +43,51 @@ module _ (p : Place) (kind at second third : ℕ) (is-second : second ≡ at + l
       let l : third ≡ at + length (x ++ y) = simp length-append (omega arith) in
       e₃ ∙ put_again d d₂ (x ++ y) (field kind newline) at third l h g ∙ ap (put d at) (append_assoc x y (field kind newline))
 
--- ---- lines from tables
+-- ---- records by place, one by one
 
-module _ (ls cs : List ℕ) where
-  -- the lines of errors one behind the other
-  tabled_append : (j : ℕ) (xs ys : List (List ℕ)) → tabled_lines ls cs j (xs ++ ys) ≡ tabled_lines ls cs j xs ++ tabled_lines ls cs (j + length xs) ys
-  unfolding tabled_lines
-  tabled_append j [] ys = ap (λ (n : ℕ). tabled_lines ls cs n ys) (omega arith)
-  tabled_append j (x ∷ xs) ys =
-      let n : suc j + length xs ≡ j + suc (length xs) = omega arith in
-      let line = line_for (tabled_place ls cs j x) (kind_of_error x) in
-      ap (λ (b : List ℕ). line ++ b) (tabled_append (suc j) xs ys ∙ ap (λ (n : ℕ). tabled_lines ls cs (suc j) xs ++ tabled_lines ls cs n ys) n)
-      ∙ sym (append_assoc line (tabled_lines ls cs (suc j) xs) (tabled_lines ls cs (j + suc (length xs)) ys))
+module _ (rs : Records) (area : List ℕ) (i : ℕ) where
+  pub one_of_them : i < rs.count → i < length (records_in rs area)
+  one_of_them h = omega (arith, length_section rs.width rs.count rs.at area)
 
-  -- one more, of error i
-  module _ (rs : List (List ℕ)) (i : ℕ) (h : i < length rs) (p : Place) (is-place : p ≡ tabled_place ls cs i (get_or rs i []))
-      (kind : ℕ) (is-kind : kind ≡ kind_of_error (get_or rs i [])) where
-    abbrev line : List ℕ
-    line = line_for p kind
+  pub all_of_them : rs.count ≤ i → take i (records_in rs area) ≡ records_in rs area
+  all_of_them h = take_all i (records_in rs area) (omega (arith, length_section rs.width rs.count rs.at area))
 
-    tabled_more : tabled_lines ls cs 0 (take (i + 1) rs) ≡ tabled_lines ls cs 0 (take i rs) ++ line
-    unfolding tabled_lines
-    tabled_more =
-        let l : 0 + length (take i rs) ≡ i = omega (arith, length-take-le i rs (omega arith)) in
-        let t : take (i + 1) rs ≡ take i rs ++ get_or rs i [] ∷ [] = rw add-one (take-suc rs i [] h) in
-        let one : tabled_lines ls cs (0 + length (take i rs)) (get_or rs i [] ∷ []) ≡ line = rw l (append-nil _ ∙ sym (ap₂ line_for is-place is-kind)) in
-        ap (tabled_lines ls cs 0) t ∙ tabled_append 0 (take i rs) (get_or rs i [] ∷ []) ∙ ap (λ (b : List ℕ). tabled_lines ls cs 0 (take i rs) ++ b) one
+-- ---- lines from a table
 
-    module _ (at : ℕ) (long : at ≡ length (tabled_lines ls cs 0 (take i rs))) where
-      -- It ends where the lines do,
-      pub more_end : (r : ℕ) → r ≡ at + length line → r ≡ length (tabled_lines ls cs 0 (take (i + 1) rs))
-      more_end r e = rw tabled_more (simp length-append (omega arith))
+-- one error more
+tabled_suc : (es : List Entry) (rs : List (List ℕ)) (i : ℕ) (d : Entry) → i < length es → i < length rs
+    → tabled_lines es (take (suc i) rs) ≡ tabled_lines es (take i rs) ++ line_for (tabled_place (get_or es i d).place (get_or rs i [])) (kind_of_error (get_or rs i []))
+unfolding tabled_lines
+tabled_suc [] rs i d l h = absurd (omega arith)
+tabled_suc (x ∷ es) [] i d l h = absurd (omega arith)
+tabled_suc (x ∷ es) (r ∷ rs) zero d l h = append-nil _
+tabled_suc (x ∷ es) (r ∷ rs) (suc i) d l h = rw (tabled_suc es rs i d (omega arith) (omega arith), append_assoc)
 
-      -- and put behind those in front of it, it makes the lines with it.
-      pub put_more : (d d' d'' : List ℕ) → d' ≡ front d (tabled_lines ls cs 0 (take i rs)) → d'' ≡ put d' at line
-          → d'' ≡ front d (tabled_lines ls cs 0 (take (i + 1) rs))
-      put_more d d' d'' e g = g ∙ put_behind d (tabled_lines ls cs 0 (take i rs)) line d' at long e ∙ ap (front d) (sym tabled_more)
+-- of error i, where the lines of those in front of it are `at` bytes
+module _ (es : List Entry) (rs : List (List ℕ)) (i : ℕ) (d : Entry) (p : Place) (kind : ℕ) (l : i < length es) (h : i < length rs)
+    (is-place : p ≡ tabled_place (get_or es i d).place (get_or rs i [])) (is-kind : kind ≡ kind_of_error (get_or rs i []))
+    (at : ℕ) (long : at ≡ length (tabled_lines es (take i rs))) where
+  more : tabled_lines es (take (i + 1) rs) ≡ tabled_lines es (take i rs) ++ line_for p kind
+  more = rw (add-one, is-place, is-kind) (tabled_suc es rs i d l h)
+
+  -- It ends where the lines do,
+  pub more_end : (r : ℕ) → r ≡ at + length (line_for p kind) → r ≡ length (tabled_lines es (take (i + 1) rs))
+  more_end r e = rw more (simp length-append (omega arith))
+
+  -- and put behind those in front of it, it makes the lines with it.
+  pub put_more : (o o' o'' : List ℕ) → o' ≡ front o (tabled_lines es (take i rs)) → o'' ≡ put o' at (line_for p kind)
+      → o'' ≡ front o (tabled_lines es (take (i + 1) rs))
+  put_more o o' o'' e g = g ∙ put_behind o (tabled_lines es (take i rs)) (line_for p kind) o' at long e ∙ ap (front o) (sym more)
 
 -- ---- a table of starts
 
--- One more entry.
-pub noted_more : (rs : List (List ℕ)) (i : ℕ) (starts : List ℕ) (w : ℕ) → i < length starts → w ≡ start_of_error (get_or rs i [])
-    → ((j : ℕ) → j < i → get_or starts j 0 ≡ start_of_error (get_or rs j [])) → (j : ℕ) → j < i + 1 → get_or (set starts i w) j 0 ≡ start_of_error (get_or rs j [])
-noted_more rs i starts w l e h j k =
-    by_test j i
-    (λ (z : j ≡ i). rw z (get_or-set_same starts i w 0 l ∙ e))
-    (λ z. get_or-set_other starts i j w 0 (eqb-false j i z) ∙ h j (below (eqb-false j i z)))
-  where
-    below : (j ≡ i → ⊥) → j < i
-    below n = omega arith
+-- The entry of one error more has its start.
+pub noted_more : (rs : List (List ℕ)) (es es' : List Entry) (i : ℕ) (x : Entry) → i < length rs → i < length es'
+    → starts es' ≡ front (starts es) (map start_of_error (take i rs)) → x.start ≡ start_of_error (get_or rs i [])
+    → starts (set es' i x) ≡ front (starts es) (map start_of_error (take (i + 1) rs))
+noted_more rs es es' i x h l e w =
+    let long : i ≡ length (map start_of_error (take i rs)) = sym (length-map _ _ ∙ length-take-le i rs (omega arith)) in
+    map-set (λ (y : Entry). y.start) es' i x
+    ∙ put_one (starts es') i x.start (omega (arith, length-map es' (λ (y : Entry). y.start)))
+    ∙ put_behind (starts es) (map start_of_error (take i rs)) (x.start ∷ []) (starts es') i long e
+    ∙ ap (front (starts es)) (rw w (sym (map_more start_of_error rs i [] h)))

@@ -4,8 +4,6 @@ ghost use Rattle.ast.specs.Bytes.{put};
 ghost use Rattle.report.specs.Decimals.{most_digits};
 ghost use Rattle.report.specs.Lines.{field};
 
-use area::lent::copy;
-
 // Writes a number's decimal with a byte behind it, and gives the place behind that.
 pub fn put_field(out: &mut [u8], at: usize, n: u64, behind: u8) -> usize
     requires { at + (most_digits + 1) ≤ length out.old }
@@ -15,7 +13,7 @@ pub fn put_field(out: &mut [u8], at: usize, n: u64, behind: u8) -> usize
 {
     let mut digits = [0u8; 20];
     let k = io::decimal(n, &mut digits);
-    copy(&digits[..k], k, &mut out[at..]);
+    out[at..at + k].copy_from_slice(&digits[..k]);
     out[at + k] = behind;
     at + k + 1
 }

@@ -6,16 +6,15 @@ ghost use Rattle.report.specs.Tabled.{Noted};
 
 use area::layout::ERROR_FROM;
 use ast::sections::{Records, word_of};
+use positions::Entry;
 
 // Notes them in a table.
-pub fn note_starts(area: &[u8], es: Records, starts: &mut [u64])
+pub fn note_starts(area: &[u8], es: Records, entries: &mut [Entry])
     requires { ErrorsLie es area.now
-        × (es.count ≤ length starts.old) }
-    ensures { Noted (records_in es area.now) starts.old starts.new }
+        × (es.count ≤ length entries.old) }
+    ensures { Noted (records_in es area.now) entries.old entries.new }
 {
-    let mut i = 0;
-    while i < es.count {
-        starts[i] = word_of(area, es, i, ERROR_FROM) as u64;
-        i += 1;
+    for i in 0..es.count {
+        entries[i].start = word_of(area, es, i, ERROR_FROM) as u64;
     }
 }

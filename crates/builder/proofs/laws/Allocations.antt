@@ -17,10 +17,9 @@ use Rattle.ast.specs.Nodes.{tree_at}
 use Rattle.ast.proofs.Formed.{WellFormed, tree_formed}
 use Rattle.definitions.specs.Variables.{Error, Bounds, at, time_index}
 use Rattle.definitions.specs.Check.{Scope, lookup}
-use Rattle.definitions.specs.Roles.{Start, starts, rates, free, start_of, takes_rate, rate_role, rate_errors, at_lower, start_role, start_errors, role_of, role_errors, short_for, short_call, short_left, too_short}
-use Rattle.builder.specs.Tables.{role_number}
+use Rattle.definitions.specs.Roles.{Start, Role, start_of, takes_rate, rate_role, rate_errors, at_lower, start_role, start_errors, role_of, role_errors, short_for, short_call, short_left, too_short}
 use Rattle.area.specs.declared.sections.Sizes.{Sizes}
-use Rattle.builder.specs.Allocating.{flat_at, flat_in, flats_in, Flattened, less_one, entry_by, start_by, few_for, short_call_by, short_left_by, short_by, start_number, start_errors_by, rate_number, rate_errors_by, role_by, role_errors_by, Agree}
+use Rattle.builder.specs.Allocating.{flat_at, flat_in, flats_in, Flattened, less_one, entry_by, start_by, few_for, short_call_by, short_left_by, short_by, start_role_by, start_errors_by, rate_role_by, rate_errors_by, role_by, role_errors_by, Agree}
 use Rattle.area.specs.Sections.{area_nodes, area_stmt}
 use Rattle.builder.proofs.laws.Flats.{same_float_lem, flats_count, flat_at_lem, flat_equation, flat_rate}
 use Rattle.definitions.proofs.ListLaws.{flag_one, place_below}
@@ -109,31 +108,23 @@ module _ (c : Scope) (time : Bounds) (numbers indexes rate_table : List ℕ) (lo
 
   -- ---- roles and errors
 
-  start_number_lem : (o : Option Start) → start_number lower o ≡ role_number (start_role time o)
-  unfolding start_number role_number start_role at_lower
-  start_number_lem none = refl
-  start_number_lem (some x) = rw (a.low, same_float_lem x.bits time.lower) (go (at_lower time x))
-    where
-      go : (b : Bool) → cond b (2 * x.variable + 1) 0 ≡ role_number (cond b (starts x.variable) free)
-      go true = refl
-      go false = refl
+  start_role_lem : (o : Option Start) → start_role_by lower o ≡ start_role time o
+  unfolding start_role_by start_role at_lower
+  start_role_lem none = refl
+  start_role_lem (some x) = rw (a.low, same_float_lem x.bits time.lower) refl
 
   start_errors_lem : (o : Option Start) → start_errors_by lower o ≡ start_errors time o
   unfolding start_errors_by start_errors at_lower
   start_errors_lem none = refl
   start_errors_lem (some x) = rw (a.low, same_float_lem x.bits time.lower) refl
 
-  rate_number_lem : (n : ℕ) → n < length c.names → rate_number rate_table (entry_by numbers n) ≡ role_number (rate_role c (lookup c n))
-  unfolding rate_number role_number rate_role
-  rate_number_lem n h = go (lookup c n) refl
+  rate_role_lem : (n : ℕ) → n < length c.names → rate_role_by rate_table (entry_by numbers n) ≡ rate_role c (lookup c n)
+  unfolding rate_role_by rate_role
+  rate_role_lem n h = go (lookup c n) refl
     where
-      by : (v : ℕ) (b : Bool) → cond b (2 * v + 2) 0 ≡ role_number (cond b (rates v) free)
-      by v true = refl
-      by v false = refl
-
-      go : (o : Option ℕ) → lookup c n ≡ o → rate_number rate_table (entry_by numbers n) ≡ role_number (rate_role c (lookup c n))
+      go : (o : Option ℕ) → lookup c n ≡ o → rate_role_by rate_table (entry_by numbers n) ≡ rate_role c (lookup c n)
       go none e = rw (entry_number n h, e) refl
-      go (some v) e = rw (entry_number n h, e, entry_rate v (lookup_below c n v e)) (by v (takes_rate c v))
+      go (some v) e = rw (entry_number n h, e, entry_rate v (lookup_below c n v e)) refl
 
   rate_errors_lem : (n : ℕ) (s : Span) → n < length c.names → rate_errors_by rate_table n s (entry_by numbers n) ≡ rate_errors c n s (lookup c n)
   unfolding rate_errors_by rate_errors
@@ -146,10 +137,10 @@ module _ (c : Scope) (time : Bounds) (numbers indexes rate_table : List ℕ) (lo
   -- ---- statements
 
   -- the role
-  pub role_same : (q : Flat) → FlatFormed (length c.names) q → role_by numbers indexes rate_table lower q ≡ role_number (role_of c time q)
+  pub role_same : (q : Flat) → FlatFormed (length c.names) q → role_by numbers indexes rate_table lower q ≡ role_of c time q
   unfolding role_by role_of
-  role_same (equation l r s) w = ap (start_number lower) (start_same l w.0) ∙ start_number_lem (start_of c l)
-  role_same (rate n r s) w = rate_number_lem n w.0
+  role_same (equation l r s) w = ap (start_role_by lower) (start_same l w.0) ∙ start_role_lem (start_of c l)
+  role_same (rate n r s) w = rate_role_lem n w.0
 
   -- whether the left side is too short
   pub flat_short : (q : Flat) → FlatFormed (length c.names) q → short_by numbers indexes q ≡ too_short c q
@@ -167,7 +158,7 @@ module _ (c : Scope) (time : Bounds) (numbers indexes rate_table : List ℕ) (lo
 
 -- what two functions say alike of each statement they say alike of all
 module _ (d : Flat) where
-  map_alike : (f g : Flat → ℕ) (l : List Flat) → ((i : ℕ) → i < length l → f (get_or l i d) ≡ g (get_or l i d)) → map f l ≡ map g l
+  map_alike : (f g : Flat → Role) (l : List Flat) → ((i : ℕ) → i < length l → f (get_or l i d) ≡ g (get_or l i d)) → map f l ≡ map g l
   map_alike f g [] h = refl
   map_alike f g (q ∷ l) h = rw (h 0 (omega arith), map_alike f g l (λ i k. h (suc i) (omega arith))) refl
 
@@ -189,7 +180,7 @@ module _ (c : Scope) (time : Bounds) (numbers indexes rate_table : List ℕ) (lo
   all_formed i h = rw (flat_at_lem b z i) (flat_formed (length c.names) b z o i (omega (arith, flats_count b z)))
 
   -- their roles
-  pub roles_same : map (role_by numbers indexes rate_table lower) (flats_in b z) ≡ map (λ q. role_number (role_of c time q)) (flats_in b z)
+  pub roles_same : map (role_by numbers indexes rate_table lower) (flats_in b z) ≡ map (role_of c time) (flats_in b z)
   roles_same = map_alike no_flat _ _ (flats_in b z) (λ i h. role_same c time numbers indexes rate_table lower a (get_or (flats_in b z) i no_flat) (all_formed i h))
 
   -- whether any left side is too short

@@ -16,10 +16,11 @@ use Rattle.definitions.specs.Flatten.{instances, cyclic, self_listed, overfull}
 use Rattle.definitions.specs.Answer.{Answer}
 use Rattle.definitions.specs.Build.{Result, refusal, accepted, too_big, any_short, allocated, answer_of_model, root_of, answer_of_root, answer_in_file, answer, fitted, written, build, told, result_area}
 use Rattle.builder.specs.Root.{Measure, flats_of, scope_at, answer_at, forbidden_of, size_of, measure_of, measured_as, answered_as, used_in, bytes_in, fitted_in}
-use Rattle.builder.specs.declared.extent.measure.Measured as measured
-use Rattle.builder.specs.declared.extent.measure.Measured.TheVariants.{Refused, Sized}
-use Rattle.builder.specs.declared.answer.Answered as answered
-use Rattle.builder.specs.declared.answer.Answered.TheVariants as is
+use Rattle.std.specs.Prelude as std
+use Rattle.std.specs.Prelude.{Ok, Err}
+use Rattle.builder.specs.Refusals.{number_of}
+use Rattle.builder.specs.declared.refusal.Refusal.{Refusal}
+use Rattle.builder.specs.declared.extent.measure.Extent.{Extent}
 
 -- ---- a model measured: refusals 6 to 9, or its sizes
 
@@ -49,50 +50,53 @@ sized_by false false false false z y r e = (cc, refl, refl)
 
 module _ (f : File) (m : ℕ) where
   -- refused
-  pub measured_refused : (x : measured.Measured) (k : ℕ) → x ≡ Refused k → measured_as x ≡ measure_of f m → answer_of_model f m ≡ refusal k
+  pub measured_refused : (r : Refusal) → measured_as (Err r) ≡ measure_of f m → answer_of_model f m ≡ refusal (number_of r)
   unfolding measure_of forbidden_of size_of measured_as answer_of_model allocated
-  measured_refused x k e h = refused_by (cyclic f m) (self_listed f m) (overfull f m) (too_big f m (flats_of f m)) _ k _ (sym h ∙ ap measured_as e)
+  measured_refused r h = refused_by (cyclic f m) (self_listed f m) (overfull f m) (too_big f m (flats_of f m)) _ (number_of r) _ (sym h)
 
   -- sized
-  pub measured_sized : (x : measured.Measured) (i q n : ℕ) → x ≡ Sized i q n → measured_as x ≡ measure_of f m
-      → (i ≡ instances f (length f.models) m) × (q ≡ length (flats_of f m)) × (n ≡ sum_of flat_size (flats_of f m)) × (too_big f m (flats_of f m) ≡ false)
+  pub measured_sized : (e : Extent) → measured_as (Ok e) ≡ measure_of f m
+      → (e.instances ≡ instances f (length f.models) m) × (e.stmts ≡ length (flats_of f m)) × (e.nodes ≡ sum_of flat_size (flats_of f m)) × (too_big f m (flats_of f m) ≡ false)
       × (answer_of_model f m ≡ cond (any_short (scope_at f m) (flats_of f m)) (refusal 10) (accepted (answer_at f m)))
   unfolding measure_of forbidden_of size_of measured_as answer_of_model allocated
-  measured_sized x i q n e h =
-      let (z, big, r) = sized_by (cyclic f m) (self_listed f m) (overfull f m) (too_big f m (flats_of f m)) _ _ _ (sym h ∙ ap measured_as e) in
+  measured_sized e h =
+      let (z, big, r) = sized_by (cyclic f m) (self_listed f m) (overfull f m) (too_big f m (flats_of f m)) _ _ _ (sym h) in
       (ap (λ (y : Measure). y.instances) z, ap (λ (y : Measure). y.stmts) z, ap (λ (y : Measure). y.nodes) z, big, r)
 
 -- ---- an answer: a refusal, or the bytes used of an area
 
-pub given_refused : (k : ℕ) (b : List ℕ) (r : Result Answer) → r ≡ refusal k → answered_as (is.Refused k) b ≡ bytes_in r
+pub given_refused : (k : Refusal) (b : List ℕ) (r : Result Answer) → r ≡ refusal (number_of k) → answered_as (Err k) b ≡ bytes_in r
 unfolding answered_as bytes_in
 given_refused k b r e = sym (ap bytes_in e)
 
-pub used_refused : (k : ℕ) → used_in (is.Refused k) ≤ 55384
+pub used_refused : (k : Refusal) → used_in (Err k) ≤ 55384
 unfolding used_in
 used_refused k = omega arith
 
 -- handed over
-pub hands_refused : (room : ℕ) (a : answered.Answered) (k : ℕ) (b : List ℕ) → a ≡ is.Refused k → fitted_in room (answered_as a b) ≡ refusal k
-unfolding answered_as fitted_in
-hands_refused room a k b e = ap (λ (x : answered.Answered). fitted_in room (answered_as x b)) e
+abbrev Answered : Type 0
+Answered = std.Result ℕ Refusal
 
-pub hands_used : (room : ℕ) (a : answered.Answered) (n : ℕ) (b : List ℕ) → a ≡ is.Used n → fitted_in room (answered_as a b) ≡ fitted room (take n b)
+pub hands_refused : (room : ℕ) (a : Answered) (k : Refusal) (b : List ℕ) → a ≡ Err k → fitted_in room (answered_as a b) ≡ refusal (number_of k)
 unfolding answered_as fitted_in
-hands_used room a n b e = ap (λ (x : answered.Answered). fitted_in room (answered_as x b)) e
+hands_refused room a k b e = ap (λ (x : Answered). fitted_in room (answered_as x b)) e
 
-pub used_is : (a : answered.Answered) (n : ℕ) → a ≡ is.Used n → used_in a ≡ n
+pub hands_used : (room : ℕ) (a : Answered) (n : ℕ) (b : List ℕ) → a ≡ Ok n → fitted_in room (answered_as a b) ≡ fitted room (take n b)
+unfolding answered_as fitted_in
+hands_used room a n b e = ap (λ (x : Answered). fitted_in room (answered_as x b)) e
+
+pub used_is : (a : Answered) (n : ℕ) → a ≡ Ok n → used_in a ≡ n
 unfolding used_in
 used_is a n e = ap used_in e
 
 -- at the front of an area
-given_front : (a : answered.Answered) (ys rest : List ℕ) → used_in a ≤ length ys → answered_as a (ys ++ rest) ≡ answered_as a ys
+given_front : (a : Answered) (ys rest : List ℕ) → used_in a ≤ length ys → answered_as a (ys ++ rest) ≡ answered_as a ys
 unfolding answered_as used_in
-given_front (is.Refused k) ys rest h = refl
-given_front (is.Used n) ys rest h = ap accepted (take-append-le n ys rest h)
+given_front (Err k) ys rest h = refl
+given_front (Ok n) ys rest h = ap accepted (take-append-le n ys rest h)
 
 -- and kept there
-pub given_within : (area ys last : List ℕ) (a : answered.Answered) (r : ℕ) (b : Result (List ℕ)) → 55384 ≤ length area
+pub given_within : (area ys last : List ℕ) (a : Answered) (r : ℕ) (b : Result (List ℕ)) → 55384 ≤ length area
     → (answered_as a ys ≡ b) × (used_in a ≤ 55384) → length ys ≡ 55384
     → (r ≡ told (fitted_in (length (ys ++ drop 55384 area)) (answered_as a (ys ++ drop 55384 area))))
     × (last ≡ result_area (length (ys ++ drop 55384 area)) (fitted_in (length (ys ++ drop 55384 area)) (answered_as a (ys ++ drop 55384 area))))

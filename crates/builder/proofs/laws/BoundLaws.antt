@@ -3,19 +3,20 @@ use mathlib.Core.Path.{◌≡◌, refl, sym, ap, ◌∙◌}
 use mathlib.Core.Logic.{◌⊎◌, inl, inr}
 use mathlib.Core.Bool.{Bool, true, false, cond}
 use mathlib.Core.List.{List, [], ◌∷◌, ◌++◌}
-use Prim.Native.Nat.{ℕ, zero, suc, ◌+◌, ◌-◌, ◌^◌, ◌≤◌, ◌<◌}
+use Prim.Native.Nat.{ℕ, zero, suc, ◌+◌, ◌-◌, ◌/◌, ◌%◌, ◌^◌, ◌≤◌, ◌<◌}
 use native.Mathlib.Omega.{arith}
 use native.Mathlib.Numerals.{add-one}
 use borrow.Author.Tests.{eq-eqb, ne_eqb}
-use lib.Dec.{T, eqb}
-use lib.Ieee.{Float, nan, inf, fin, binary64, of_bits, to_bits, is_nan, ne}
+use lib.Dec.{eqb}
+use lib.Ieee.{Float, binary64, of_bits, to_bits, is_nan}
 use lib.Ieee.Bits.{to_bits-of_bits}
-use lib.Ieee.Compare.{differs_from_itself, nan_differs}
-use lib.ListN.{length, take, get_or}
-use lib.Seq.{take_all, take-suc}
+use lib.ListN.{length, take, drop, get_or}
+use lib.Seq.{take_all, take-suc, drop-drop}
+use Rattle.std.specs.Int.{w64, to_le_bytes}
+use Rattle.functions.specs.Lists.{each}
 use Rattle.functions.proofs.Lists.{clash}
 use Rattle.ast.specs.Tree.{Unknown, Domain, unstated, range, named}
-use Rattle.ast.specs.Words.{word_of, float_from, low, high, bytes_of}
+use Rattle.ast.specs.Words.{word_of, float_from, low, high, bytes4, bytes_of}
 use Rattle.ast.specs.Bytes.{put}
 use Rattle.ast.specs.Records.{domain_of, unknown_of}
 use Rattle.ast.specs.Numbers.{number_of, DomainRead}
@@ -37,17 +38,7 @@ use Rattle.builder.proofs.laws.Open.{model_record, unknown_record, names_long}
 use Rattle.builder.proofs.laws.OpenRecords.{unknown_is, model_is}
 use Rattle.area.proofs.Puts.{put_more}
 
--- ---- a NaN is what differs from itself
-
-pub is_nan_lem : (x : Float) → ne x x ≡ true → is_nan x ≡ true
-unfolding is_nan
-is_nan_lem x e = let t : T (ne x x) = rw e tt in rw (differs_from_itself x t) refl
-
-pub no_nan : (x : Float) → ne x x ≡ false → is_nan x ≡ false
-unfolding is_nan
-no_nan nan e = clash (cc nan_differs)
-no_nan (inf s) e = refl
-no_nan (fin s m d) e = refl
+-- ---- the bits of a number
 
 -- the bits of a number are back
 number_back : (b : ℕ) → b < 2 ^ 64 → is_nan (number_of b) ≡ false → to_bits binary64 (number_of b) ≡ b
@@ -165,13 +156,31 @@ module _ (f : List ℕ) (s : Sections) where
 -- ---- the bits of a bound, as the code finds them
 
 module _ (f : List ℕ) (s : Sections) (u k : ℕ) (x : Float) where
-  pub nan_bits : (r : ℕ) → ne x x ≡ true → r ≡ float_from (get_or (contents_in f s).unknowns (u - 1) []) k → r ≡ bound_bits f s u k x
+  pub nan_bits : (r : ℕ) → is_nan x ≡ true → r ≡ float_from (get_or (contents_in f s).unknowns (u - 1) []) k → r ≡ bound_bits f s u k x
   unfolding bound_bits
-  nan_bits r t e = rw (is_nan_lem x t) e
+  nan_bits r t e = rw t e
 
-  pub number_bits : ne x x ≡ false → to_bits binary64 x ≡ bound_bits f s u k x
+  pub number_bits : is_nan x ≡ false → to_bits binary64 x ≡ bound_bits f s u k x
   unfolding bound_bits
-  number_bits t = rw (no_nan x t) refl
+  number_bits t = rw t refl
+
+-- the bytes of a number are those of its two words
+bits_bytes : (x : ℕ) → x < 2 ^ 64 → to_le_bytes w64 x ≡ bytes_of (low x ∷ high x ∷ [])
+unfolding bytes_of bytes4 low high each
+bits_bytes x h =
+    let a : x % 4294967296 % 256 ≡ x % 256 = omega arith in
+    let b : x % 4294967296 / 256 % 256 ≡ x / 256 % 256 = omega arith in
+    let c : x % 4294967296 / 65536 % 256 ≡ x / 65536 % 256 = omega arith in
+    let d : x % 4294967296 / 16777216 ≡ x / 16777216 % 256 = omega arith in
+    let e : x / 4294967296 / 256 % 256 ≡ x / 1099511627776 % 256 = omega arith in
+    let f : x / 4294967296 / 65536 % 256 ≡ x / 281474976710656 % 256 = omega arith in
+    let g : x / 4294967296 / 16777216 ≡ x / 72057594037927936 % 256 = omega arith in
+    rw (a, b, c, d, e, f, g) refl
+
+-- written into a part as long
+pub bits_put : (x : ℕ) (d bytes : List ℕ) (p n : ℕ) → x < 2 ^ 64 → bytes ≡ to_le_bytes w64 x → n ≡ 8 → take p d ++ (bytes ++ drop n (drop p d)) ≡ put d p (bytes_of (low x ∷ high x ∷ []))
+unfolding put bytes_of bytes4 each
+bits_put x d bytes p n h e l = rw (e ∙ bits_bytes x h, l, drop-drop 8 p d) refl
 
 -- two numbers written one behind the other
 pub both_put : (f : List ℕ) (s : Sections) (r : ℕ) (x : declared.Bounds) (d d₁ d₂ : List ℕ) (p l u : ℕ) → l ≡ bound_bits f s r 4 x.lower → u ≡ bound_bits f s r 6 x.upper → p ≤ length d
@@ -235,16 +244,16 @@ module _ (f : List ℕ) (s : Sections) (o : Open f s) (m : ℕ) (h : m < s.count
   unfolding declared_bounds
   decided_none i e d = record { within = omega arith; bounds = λ b. d b ∙ rw e (last_none (file_in f s).names name b) }
 
-  module _ (i first w : ℕ) (p : 0 < i) (l : i ≤ word_of (model_record f s m) 2) (e : first ≡ word_of (model_record f s m) 1) (g : w ≡ word_of (unknown_record f s (first + i - 1)) 0) (d : DecidedBy i) where
+  module _ (i first w : ℕ) (p : 0 < i) (l : i ≤ word_of (model_record f s m) 2) (e : first ≡ word_of (model_record f s m) 1) (g : w ≡ word_of (unknown_record f s (first + (i - 1))) 0) (d : DecidedBy i) where
     -- unknown i - 1 of the model
     last : Unknown
-    last = unknown_of (contents_in f s).deps (unknown_record f s (first + i - 1))
+    last = unknown_of (contents_in f s).deps (unknown_record f s (first + (i - 1)))
 
     one_more : take i (model_at (file_in f s) m).unknowns ≡ take (i - 1) (model_at (file_in f s) m).unknowns ++ last ∷ []
     unfolding last
     one_more =
         let n : suc (i - 1) ≡ i = omega arith in
-        let k : word_of (model_record f s m) 1 + (i - 1) ≡ first + i - 1 = omega arith in
+        let k : word_of (model_record f s m) 1 + (i - 1) ≡ first + (i - 1) = omega arith in
         let j : i - 1 < word_of (model_record f s m) 2 = omega arith in
         let none = unknown_of [] [] in
         ap (λ (x : ℕ). take x (model_at (file_in f s) m).unknowns) (sym n)
@@ -261,12 +270,13 @@ module _ (f : List ℕ) (s : Sections) (o : Open f s) (m : ℕ) (h : m < s.count
         d b ∙ ap (last_bounds (file_in f s).names name b) one_more ∙ last_behind (file_in f s).names name b (take (i - 1) (model_at (file_in f s) m).unknowns) last
         ∙ ap (λ (x : ℕ). cond (eqb (suc x) name) (domain_bounds (file_in f s).names last.name last.domain) (last_bounds (file_in f s).names name b (take (i - 1) (model_at (file_in f s) m).unknowns))) its_name
 
-    pub decided_found : w + 1 ≡ name → LastDeclared f s m name (first + i)
+    pub decided_found : w + 1 ≡ name → LastDeclared f s m name (first + (i - 1) + 1)
     unfolding declared_bounds unknown_bounds last unknown_of
     decided_found k =
         let t : eqb (suc w) name ≡ true = eq-eqb (suc w) name (sym (add-one w) ∙ k) in
-        let z : eqb (first + i) 0 ≡ false = ne_eqb (first + i) 0 (λ q. omega arith) in
-        record { within = omega (arith, (model_is f s o m h).unknowns_within); bounds = λ b. decided_here b ∙ rw (t, z) refl }
+        let z : eqb (first + (i - 1) + 1) 0 ≡ false = ne_eqb (first + (i - 1) + 1) 0 (λ q. omega arith) in
+        let u : first + (i - 1) + 1 - 1 ≡ first + (i - 1) = omega arith in
+        record { within = omega (arith, (model_is f s o m h).unknowns_within); bounds = λ b. decided_here b ∙ rw (t, z, u) refl }
 
     pub decided_next : (w + 1 ≡ name → ⊥) → DecidedBy (i - 1)
     decided_next k b =

@@ -101,7 +101,3 @@ module _ (f : List ℕ) (s : Sections) (o : Open f s) (t : List ℕ) (h : Callee
   -- an entry is at most the count of models
   pub entry_below : get_or t q 0 ≤ s.counts.models
   entry_below = omega (arith, h.callee q l, callee_below (file_in f s) (stmt_of (contents_in f s).nodes (get_or (contents_in f s).stmts q [])), (long f s o).file_models)
-
-  -- and so at most 32
-  pub entry_few : get_or t q 0 ≤ 32
-  entry_few = omega (arith, entry_below, o.laid.within.models)

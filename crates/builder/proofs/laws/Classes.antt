@@ -1,81 +1,59 @@
--- Classes of names: where the code keeps each text that decides something, and what a text's class decides.
+-- Classes of names: the class that a chain over the texts finds, and what a text's class decides.
 use mathlib.Core.Path.{◌≡◌, refl, sym, ◌∙◌, ap}
-use mathlib.Core.List.{List, [], ◌∷◌}
+use mathlib.Core.List.{List, [], ◌∷◌, map}
 use mathlib.Core.Bool.{Bool, true, false, cond, ◌&&◌, ◌||◌}
-use Prim.Native.Nat.{ℕ, suc, ◌+◌, ◌-◌, ◌≤◌, ◌<◌}
+use Prim.Native.Nat.{ℕ, suc, ◌+◌}
 use native.Mathlib.Omega.{arith}
-use borrow.Author.Tests.{leb-true}
 use lib.Dec.{eqb, leb, ltb}
-use lib.ListN.{length, take, drop, get_or}
+use lib.ListN.{length, length-map}
+use denote.Ref.{Bor}
+use denote.Param.Members.{Mut}
+use Rattle.std.specs.Prelude.{Option, Some, None, MatchOption}
+use Rattle.std.specs.Fn.{Called}
+use Rattle.std.specs.Iterator.{FindsPosition}
+use Rattle.std.specs.List.{position_from}
+use Rattle.std.specs.Slice.Iter.{iter_rest}
+use Rattle.std.proofs.Common.{Iter}
+use Rattle.std.proofs.iter.Yields.{fronts}
+use Rattle.std.proofs.lemmas.Iterator.{YieldsList-from_slice}
+use Rattle.std.proofs.lemmas.Iterator.Adapters.{position_from-zero}
+use Rattle.std.proofs.lemmas.Iterator.Search.{position_from_yields_List}
 use Rattle.functions.specs.Lists.{text, same_text, one_of, all}
-use Rattle.functions.proofs.Lists.{clash, and_both, drop_here, drop_past, every, every_from}
+use Rattle.functions.proofs.Lists.{clash, and_both, every}
 use Rattle.functions.proofs.Texts.{same_text_equal, equal_same_text}
 use Rattle.definitions.specs.Names.{text_of, spells, reserved, built_ins, is_time, is_reserved, is_built_in, is_non_negative, is_real}
 use Rattle.builder.specs.Tables.{deciding, class_from, class_of}
-use Rattle.builder.specs.Stored.{stored_texts, stored_places}
-
--- ---- where each text stands
-
-unfoldable placed : ℕ → List ℕ → Bool
-placed i x =
-    same_text x (take (get_or stored_places (i + 1) 0 - get_or stored_places i 0) (drop (get_or stored_places i 0) stored_texts))
-    && leb (get_or stored_places i 0) (get_or stored_places (i + 1) 0) && leb (get_or stored_places (i + 1) 0) 67
-
-every_placed : every placed 0 deciding ≡ true
-unfolding every placed stored_texts stored_places deciding text same_text
-every_placed = refl
-
--- text i: between its places, and these in order
-pub record Placed (i : ℕ) : Type 0 where
-  pub word : get_or deciding i [] ≡ take (get_or stored_places (i + 1) 0 - get_or stored_places i 0) (drop (get_or stored_places i 0) stored_texts)
-  pub rises : get_or stored_places i 0 ≤ get_or stored_places (i + 1) 0
-  pub within : get_or stored_places (i + 1) 0 ≤ 67
 
 length_deciding : length deciding ≡ 18
 unfolding deciding
 length_deciding = refl
 
-pub text_placed : (i : ℕ) → i < 18 → Placed i
-unfolding placed
-text_placed i h =
-    let e : placed (0 + i) (get_or deciding i []) ≡ true = every_from placed deciding [] 0 every_placed i (omega (arith, length_deciding)) in
-    let z : 0 + i ≡ i = omega arith in
-    let g = rw z at e in
-    let outer = and_both _ _ g in
-    let inner = and_both _ _ outer.0 in
-    record { word = same_text_equal _ _ inner.0; rises = leb-true _ _ inner.1; within = leb-true _ _ outer.1 }
+-- ---- the class by a chain over the texts
 
--- the same of two lists that are the text and the places: what reading text i of them needs and gives
-length_texts : length stored_texts ≡ 67
-unfolding stored_texts text
-length_texts = refl
-
-length_places : length stored_places ≡ 19
-unfolding stored_places
-length_places = refl
-
-module _ (ts ps : List ℕ) (i : ℕ) (q : (ts ≡ stored_texts) × (ps ≡ stored_places) × (i < 18)) where
-  pub text_read : i + 1 < length ps
-  text_read = omega (arith, ap length q.1, length_places, q.2)
-
-  pub text_asked : (get_or ps i 0 ≤ get_or ps (i + 1) 0) × (get_or ps (i + 1) 0 ≤ length ts)
-  text_asked = let p = text_placed i q.2 in rw (q.0, q.1, length_texts) (p.rises, p.within)
-
-  pub text_word : take (get_or ps (i + 1) 0 - get_or ps i 0) (drop (get_or ps i 0) ts) ≡ get_or deciding i []
-  text_word = rw (q.0, q.1) (sym (text_placed i q.2).word)
-
--- ---- the class in a loop's terms
-
-module _ (x : List ℕ) (i : ℕ) where
-  -- the class by text i and those behind it
-  pub class_here : i < 18 → class_from i (drop i deciding) x ≡ cond (same_text x (get_or deciding i [])) i (class_from (i + 1) (drop (i + 1) deciding) x)
+module _ (x : List ℕ) where
+  class_along : (bs : List (Bor (List ℕ))) (i : ℕ) → MatchOption (position_from (λ b. same_text x b.now) i bs) (class_from i (map (λ b. b.now) bs) x ≡ i + length bs) (λ k. class_from i (map (λ b. b.now) bs) x ≡ k)
   unfolding class_from
-  class_here h = ap (λ (ys : List (List ℕ)). class_from i ys x) (drop_here deciding [] i (omega (arith, length_deciding)))
+  class_along [] i = let z : i ≡ i + 0 = omega arith in z
+  class_along (b ∷ bs) i = let z : i + 1 + length bs ≡ i + suc (length bs) = omega arith in go (same_text x b.now) (rw z at (class_along bs (i + 1)))
+    where
+      go : (w : Bool) → MatchOption (position_from (λ b. same_text x b.now) (i + 1) bs) (class_from (i + 1) (map (λ b. b.now) bs) x ≡ i + suc (length bs)) (λ k. class_from (i + 1) (map (λ b. b.now) bs) x ≡ k)
+          → MatchOption (cond w (Some i) (position_from (λ b. same_text x b.now) (i + 1) bs)) (cond w i (class_from (i + 1) (map (λ b. b.now) bs) x) ≡ i + suc (length bs)) (λ k. cond w i (class_from (i + 1) (map (λ b. b.now) bs) x) ≡ k)
+      go true m = refl
+      go false m = m
 
-  -- behind the last text
-  pub class_end : 18 ≤ i → class_from i (drop i deciding) x ≡ i
-  unfolding class_from
-  class_end h = ap (λ (ys : List (List ℕ)). class_from i ys x) (drop_past deciding i (omega (arith, length_deciding)))
+  pub class_found : {F : Type 0} {g : Mut F (Bor (Bor (List ℕ)) × Unit {0}) Bool} {f : F} {s u : Iter (Bor (List ℕ))} {r : Option ℕ}
+      → ((b : Bor (Bor (List ℕ))) (w : Bool) (q : F) → Called g f (b, tt) w q → (q ≡ f) × (w ≡ same_text x b.now.now)) → (bs : List (Bor (List ℕ))) (v : ℕ) (Gives : ℕ → Type 0)
+      → iter_rest s ≡ bs → map (λ b. b.now) bs ≡ deciding → FindsPosition fronts g s f r u → MatchOption r (v ≡ 18) Gives → ((k : ℕ) → Gives k → v ≡ k) → v ≡ class_of x
+  unfolding class_of
+  class_found {F} {g} {f} {s} {u} {r} calls bs v Gives e d ran given gives =
+      let t = λ (b : Bor (List ℕ)). same_text x b.now in
+      let z : r ≡ position_from t 0 bs = position_from_yields_List t u f r ran (YieldsList-from_slice bs e) calls ∙ position_from-zero t bs in
+      let l : length bs ≡ 18 = sym (length-map bs (λ b. b.now)) ∙ ap length d ∙ length_deciding in
+      go r (rw (d, l, ← z) at (class_along bs 0)) given
+    where
+      go : (o : Option ℕ) → MatchOption o (class_from 0 deciding x ≡ 0 + 18) (λ k. class_from 0 deciding x ≡ k) → MatchOption o (v ≡ 18) Gives → v ≡ class_from 0 deciding x
+      go None m y = y ∙ sym m
+      go (Some k) m y = gives k y ∙ sym m
 
 -- ---- what a class decides
 

@@ -27,9 +27,9 @@ use Rattle.ast.proofs.Filling.{levels_same}
 use Rattle.ast.proofs.Opened.{ranges}
 use Rattle.definitions.specs.Flatten.{replacements, model_named, model_at, sub_flats, stmt_flats, flatten}
 use Rattle.builder.specs.Tables.{Callees}
-use Rattle.builder.specs.Descent.{brought_at, RowsIn, RowsAt, ExprAt, ModelCall}
+use Rattle.builder.specs.Descent.{flat_at, brought_at, replaced_by, RowsIn, RowsAt, RowsKept, Linked, ExprAt, ModelCall}
 use Rattle.builder.proofs.laws.Flattening.{map_each, flats_found}
-use Rattle.builder.proofs.laws.OpenStmts.{nodes_from_lem, nodes_few, names_few, called_none, called_some}
+use Rattle.builder.proofs.laws.OpenStmts.{nodes_from_lem, nodes_few, names_few, called_none, called_some, submodel_call}
 use Rattle.builder.proofs.laws.OpenRecords.{passes, model_is}
 use Rattle.builder.proofs.laws.Amounts.{at_most_add}
 use Rattle.definitions.proofs.Counts.{or_false}
@@ -41,10 +41,10 @@ or_true : (a b : Bool) → (a || b) ≡ true → (a ≡ true) ⊎ (b ≡ true)
 or_true true b e = inl refl
 or_true false b e = inr e
 
-pub either_zero : (a b : ℕ) → (eqb a 0 || eqb b 0) ≡ true → (a ≡ 0) ⊎ (b ≡ 0)
+either_zero : (a b : ℕ) → (eqb a 0 || eqb b 0) ≡ true → (a ≡ 0) ⊎ (b ≡ 0)
 either_zero a b e = ⊎_elim (λ h. inl (eqb-true a 0 h)) (λ h. inr (eqb-true b 0 h)) (or_true (eqb a 0) (eqb b 0) e)
 
-pub neither_zero : (a b : ℕ) → (eqb a 0 || eqb b 0) ≡ false → (a ≡ 0 → ⊥) × (b ≡ 0 → ⊥)
+neither_zero : (a b : ℕ) → (eqb a 0 || eqb b 0) ≡ false → (a ≡ 0 → ⊥) × (b ≡ 0 → ⊥)
 neither_zero a b e = let (f, g) = or_false (eqb a 0) (eqb b 0) e in (eqb-false a 0 f, eqb-false b 0 g)
 
 -- ---- rows
@@ -68,7 +68,7 @@ readable f s o rows level r i j e h =
     record { ready = ready f s o rows r.fit; deep = r.deep; long = r.long; within = rw e h.0; expr = rw (e, nodes_from_lem f s o) h.1 }
 
 -- a call of model m, known by its number
-pub calls_model : (f : List ℕ) (s : Sections) → Open f s → (m call j : ℕ) → m < s.counts.models → call ≡ j
+calls_model : (f : List ℕ) (s : Sections) → Open f s → (m call j : ℕ) → m < s.counts.models → call ≡ j
     → (j < s.counts.nodes) × (kind_at (contents_in f s).nodes j ≡ 5) → ModelCall f s m call
 calls_model f s o m call j l e h = record { opened = o; model = l; within = rw e h.0; kind = rw e h.1 }
 
@@ -79,7 +79,7 @@ expr_at_lem f s i j e h = record { within = rw e h.0; expr = rw e h.1 }
 pub kept_at : (a b : List ℕ) (n j : ℕ) → take n a ≡ take n b → j < n → get_or a j 0 ≡ get_or b j 0
 kept_at a b n j e h = sym (get_or-take n a j 0 h) ∙ ap (λ (x : List ℕ). get_or x j 0) e ∙ get_or-take n b j 0 h
 
-pub kept_less : (a b : List ℕ) (n m : ℕ) → m ≤ n → take n a ≡ take n b → take m a ≡ take m b
+kept_less : (a b : List ℕ) (n m : ℕ) → m ≤ n → take n a ≡ take n b → take m a ≡ take m b
 kept_less a b n m h e = sym (take-take m n a h) ∙ ap (take m) e ∙ take-take m n b h
 
 module _ (ns : List (List ℕ)) (rows rows' : List ℕ) (level : ℕ) (kept : take (256 * level) rows' ≡ take (256 * level) rows) where
@@ -163,7 +163,7 @@ module _ (f : List ℕ) (s : Sections) (o : Open f s) (q : ℕ) (l : q < s.count
 
   module _ (callees : List ℕ) (t : Callees f s callees) (c : ℕ) (e : c ≡ get_or callees q 0) where
     -- nothing, where its model is missing or the depth is used up
-    pub brought_none : (d : ℕ) → (c ≡ 0) ⊎ (d ≡ 0) → map (through_flat levels) (stmt_flats file (λ j. flatten file d j) (stmt_of ns (get_or (contents_in f s).stmts q []))) ≡ []
+    brought_none : (d : ℕ) → (c ≡ 0) ⊎ (d ≡ 0) → map (through_flat levels) (stmt_flats file (λ j. flatten file d j) (stmt_of ns (get_or (contents_in f s).stmts q []))) ≡ []
     brought_none d h = is_submodel (λ j. flatten file d j) ∙ ⊎_elim (λ z. sub_missing (λ j. flatten file d j) _ (called_none f s o q l callees t c e k z)) (λ z. sub_empty (λ j. flatten file d j) (model_named file (name_at ns top)) (no_depth d z)) h
 
     -- its model's flattened statements, one level deeper
@@ -175,13 +175,50 @@ module _ (f : List ℕ) (s : Sections) (o : Open f s) (q : ℕ) (l : q < s.count
         ∙ flats_found file sub levels _ _ _ _ (c - 1) (called_some f s o q l callees t c e k ne).0
 
     -- read with a new row
-    pub deeper : (rows rows' : List ℕ) (level d call : ℕ) → (c ≡ 0 → ⊥) → levels ≡ levels_of ns rows level → call ≡ right_top (get_or (contents_in f s).stmts q [])
+    deeper : (rows rows' : List ℕ) (level d call : ℕ) → (c ≡ 0 → ⊥) → levels ≡ levels_of ns rows level → call ≡ right_top (get_or (contents_in f s).stmts q [])
         → take (256 * level) rows' ≡ take (256 * level) rows
         → ((n : ℕ) → by_table ns (take 256 (drop (256 * level) rows')) n ≡ replacements (model_at file (c - 1)).unknowns (args_before ns call (op_at ns call) (size_at ns call - 1)) n)
         → map (through_flat (levels_of ns rows' (level + 1))) (flatten file d (c - 1)) ≡ map (through_flat levels) (stmt_flats file (λ j. flatten file d j) (stmt_of ns (get_or (contents_in f s).stmts q [])))
     deeper rows rows' level d call ne el et kept by =
         let g : levels_of ns rows' (level + 1) ≡ replacements (model_at file (c - 1)).unknowns (args_before ns top (op_at ns top) (size_at ns top - 1)) ∷ levels = levels_more ns rows rows' level kept _ (rw et at by) ∙ rw el refl in
         ap (λ (x : List Replacements). map (through_flat x) (flatten file d (c - 1))) g ∙ sym (brought (λ j. flatten file d j) ne)
+
+-- ---- from a level into the next
+
+-- the rows of the levels that are left, before and after a row is new at this one
+module _ (f : List ℕ) (s : Sections) (rows : List ℕ) (level k : ℕ) (r : RowsAt f s rows (level + k + 1)) where
+  pub rows_first : RowsAt f s rows (level + 1)
+  rows_first = record { deep = omega (arith, r.deep); long = omega (arith, r.long); fit = r.fit }
+
+  module _ (rows' : List ℕ) (kept : RowsKept f s level rows rows') where
+    pub rows_deeper : RowsAt f s rows' (level + 1 + k)
+    rows_deeper = record { deep = omega (arith, r.deep); long = omega (arith, r.long, kept.0); fit = kept.2 }
+
+    pub rows_kept : (rows'' : List ℕ) → RowsKept f s (level + 1) rows' rows'' → RowsKept f s level rows rows''
+    rows_kept rows'' g = (g.0 ∙ kept.0, kept_less _ _ (256 * (level + 1)) (256 * level) (omega arith) g.1 ∙ kept.1, g.2)
+
+-- what submodel statement q brings in at a level, by the table of calls and to a depth of k more models
+module _ (f : List ℕ) (s : Sections) (callees : List ℕ) (linked : Linked f s callees) (q : ℕ) (l : q < s.counts.stmts)
+    (kind : kind_of_stmt (get_or (contents_in f s).stmts q []) ≡ 3) (rows : List ℕ) (level k : ℕ) where
+  pub call_none : (eqb (get_or callees q 0) 0 || eqb k 0) ≡ true → brought_at f s rows level (λ j. flatten (file_in f s) k j) q ≡ []
+  call_none e = brought_none f s linked.opened q l kind (levels_of (contents_in f s).nodes rows level) callees linked.callees _ refl k (either_zero (get_or callees q 0) k e)
+
+  module _ (called : (eqb (get_or callees q 0) 0 || eqb k 0) ≡ false) where
+    call_some : get_or callees q 0 ≡ 0 → ⊥
+    call_some = (neither_zero (get_or callees q 0) k called).0
+
+    pub call_below : get_or callees q 0 - 1 < s.counts.models
+    call_below = (called_some f s linked.opened q l callees linked.callees _ refl kind call_some).1
+
+    module _ (call : ℕ) (top : call ≡ right_top (get_or (contents_in f s).stmts q [])) where
+      pub call_is : ModelCall f s (get_or callees q 0 - 1) call
+      call_is = calls_model f s linked.opened _ _ _ call_below top (submodel_call f s linked.opened q l kind)
+
+      pub call_deeper : (rows' : List ℕ)
+          → RowsKept f s level rows rows' × ((n : ℕ) → by_table (contents_in f s).nodes (take 256 (drop (256 * level) rows')) n ≡ replaced_by f s (get_or callees q 0 - 1) call n)
+          → flat_at f s rows' (level + 1) k (get_or callees q 0 - 1) ≡ brought_at f s rows level (λ j. flatten (file_in f s) k j) q
+      call_deeper rows' g =
+          deeper f s linked.opened q l kind (levels_of (contents_in f s).nodes rows level) callees linked.callees _ refl rows rows' level k call call_some refl top g.0.1 g.1
 
 -- ---- what a statement of its own brings in
 

@@ -1,58 +1,63 @@
--- A statement's fate by its role's number, case by case, and the states that are left in the queue.
-use mathlib.Core.Path.{◌≡◌, refl, sym, ap, ◌∙◌}
-use mathlib.Core.Bool.{true, false}
-use mathlib.Core.List.{List, []}
-use Prim.Native.Nat.{ℕ, ◌+◌, ◌-◌, ◌/◌, ◌%◌, ◌≤◌, ◌<◌}
+-- The fate of statement i by its role, case by case, and the states that are still queued behind it.
+use mathlib.Core.Path.{◌≡◌, refl, sym, ◌∙◌}
+use mathlib.Core.Bool.{Bool, true, false}
+use mathlib.Core.List.{List, [], ◌∷◌, map}
+use Prim.Native.Nat.{ℕ, ◌+◌, ◌-◌}
 use native.Mathlib.Omega.{arith}
-use borrow.Author.Tests.{eq-eqb, ne_eqb}
-use lib.ListN.{length, take, drop, get_or}
-use lib.Seq.{length-take-le, get_or-take, drop-drop}
-use Rattle.functions.specs.Lists.{member}
-use Rattle.functions.proofs.Lists.{drop_here, drop_past}
-use Rattle.builder.specs.Fating.{left_in, fate_in, queue_in}
+use lib.ListN.{length, take, drop, get_or, get_or-map}
+use Rattle.std.proofs.lemmas.List.{drop-map, take_rest}
+use Rattle.std.specs.List.{list_any}
+use Rattle.definitions.specs.Roles.{free}
+use Rattle.definitions.specs.Allocate.{is_rate_of, rate_fate}
+use Rattle.definitions.specs.Answer.{fate_number, fate_variable}
+use Rattle.builder.specs.declared.allocation.roles.Role.{Role}
+use Rattle.builder.specs.declared.allocation.roles.Role.TheVariants.{Neither, Initial, Rate}
+use Rattle.builder.specs.contracts.allocation.roles.RolePartialEq.TheImpl.{ghosts}
+use Rattle.builder.specs.Allocating.{role_as}
+use Rattle.builder.specs.Fating.{left_in, fate_in, fate_pair, queue_in}
+use Rattle.builder.proofs.laws.RoleLoops.{any_rate}
 
--- ---- a statement that is left
+module _ (roles : List Role) (i : ℕ) (queue : List ℕ) where
+  abbrev pub numbers : ℕ × ℕ
+  numbers = fate_pair (fate_in queue (get_or (map role_as roles) i free) (drop (i + 1) (map role_as roles)))
 
-module _ (states : List ℕ) (queued paired role : ℕ) (long : queued ≤ length states) (none : role ≡ 0) where
-  cut : length (take queued states) ≡ queued
-  cut = length-take-le queued states long
+  abbrev pub behind : List ℕ
+  behind = queue_in queue (get_or (map role_as roles) i free)
 
-  -- with a state in the queue
-  pub left_held : paired < queued → (later : List ℕ) → fate_in (drop paired (take queued states)) role later ≡ (2, get_or states paired 0)
-  unfolding fate_in left_in
-  left_held h later =
-      rw (eq-eqb role 0 none) (ap left_in (drop_here (take queued states) 0 paired (omega (arith, cut))) ∙ ap (λ (v : ℕ). (2, v)) (get_or-take queued states paired 0 h))
+  role_here : (r : Role) → get_or roles i Neither ≡ r → get_or (map role_as roles) i free ≡ role_as r
+  unfolding role_as
+  role_here r e = get_or-map role_as roles i Neither ∙ rw e refl
 
-  pub queue_more : drop (paired + 1) (take queued states) ≡ queue_in (drop paired (take queued states)) role
-  unfolding queue_in
-  queue_more = rw (eq-eqb role 0 none) (sym (drop-drop 1 paired (take queued states)))
+  -- neither, with a state in the queue or with none
+  pub neither_held : get_or roles i Neither ≡ Neither → (v w : ℕ) (rest : List ℕ) → w ≡ v → queue ≡ v ∷ rest → (numbers ≡ (2, w)) × (behind ≡ rest)
+  unfolding role_as fate_in left_in queue_in fate_number fate_variable
+  neither_held e v w rest g q = let r = role_here Neither e in (rw (r, q, g) refl, rw (r, q) refl)
 
-  -- with none
-  pub left_over_lem : queued ≤ paired → (later : List ℕ) → fate_in (drop paired (take queued states)) role later ≡ (4, 0)
-  unfolding fate_in left_in
-  left_over_lem h later = rw (eq-eqb role 0 none) (ap left_in (drop_past (take queued states) paired (omega (arith, cut))))
+  pub neither_over : get_or roles i Neither ≡ Neither → length queue ≡ 0 → (numbers ≡ (4, 0)) × (behind ≡ queue)
+  unfolding role_as fate_in left_in queue_in fate_number fate_variable
+  neither_over e l = let r = role_here Neither e in go queue l refl
+    where
+      go : (q : List ℕ) → length q ≡ 0 → queue ≡ q → (numbers ≡ (4, 0)) × (behind ≡ queue)
+      go [] l g = (rw (role_here Neither e, g) refl, rw (role_here Neither e, g) refl)
+      go (v ∷ q) l g = absurd (omega arith)
 
-  pub queue_out : queued ≤ paired → drop paired (take queued states) ≡ queue_in (drop paired (take queued states)) role
-  unfolding queue_in
-  queue_out h =
-      let e : drop paired (take queued states) ≡ [] = drop_past (take queued states) paired (omega (arith, cut)) in
-      rw (eq-eqb role 0 none, e) refl
+  -- an initial condition
+  pub initial_is : (v w : ℕ) → w ≡ v → get_or roles i Neither ≡ Initial v → (numbers ≡ (1, w)) × (behind ≡ queue)
+  unfolding role_as fate_in queue_in fate_number fate_variable
+  initial_is v w g e = let r = role_here (Initial v) e in (rw (r, g) refl, rw r refl)
 
--- ---- one with a role
+  -- a rate equation, with one of its variable behind it or with none
+  module _ (v w : ℕ) (g : w ≡ v) (e : get_or roles i Neither ≡ Rate v) (b : Bool) (later : b ≡ list_any (λ r. ghosts.eq r (Rate v)) (take (length roles - (i + 1)) (drop (i + 1) roles))) where
+    rate_is : (numbers ≡ fate_pair (rate_fate b v)) × (behind ≡ queue)
+    unfolding role_as fate_in queue_in
+    rate_is =
+        let r = role_here (Rate v) e in
+        (rw (r, later, take_rest roles (i + 1), any_rate v (drop (i + 1) roles), drop-map) refl, rw r refl)
 
-module _ (queue : List ℕ) (role : ℕ) (some : role ≡ 0 → ⊥) where
-  pub queue_same : queue ≡ queue_in queue role
-  unfolding queue_in
-  queue_same = rw (ne_eqb role 0 some) refl
+    pub replaced_is : b ≡ true → (numbers ≡ (3, w)) × (behind ≡ queue)
+    unfolding rate_fate fate_number fate_variable
+    replaced_is t = rw (t, ← g) at rate_is
 
-  pub is_initial : role % 2 ≡ 1 → (later : List ℕ) → fate_in queue role later ≡ (1, (role - 1) / 2)
-  unfolding fate_in
-  is_initial h later = rw (ne_eqb role 0 some, eq-eqb (role % 2) 1 h) refl
-
-  pub is_replaced : (role % 2 ≡ 1 → ⊥) → (later : List ℕ) → member role later ≡ true → fate_in queue role later ≡ (3, (role - 1) / 2)
-  unfolding fate_in
-  is_replaced h later e = rw (ne_eqb role 0 some, ne_eqb (role % 2) 1 h, e) refl
-
-  pub is_held : (role % 2 ≡ 1 → ⊥) → (later : List ℕ) → member role later ≡ false → fate_in queue role later ≡ (2, (role - 1) / 2)
-  unfolding fate_in
-  is_held h later e = rw (ne_eqb role 0 some, ne_eqb (role % 2) 1 h, e) refl
+    pub held_is : b ≡ false → (numbers ≡ (2, w)) × (behind ≡ queue)
+    unfolding rate_fate fate_number fate_variable
+    held_is t = rw (t, ← g) at rate_is

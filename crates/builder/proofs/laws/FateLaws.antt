@@ -1,11 +1,11 @@
--- Fates by numbers are the fates: of roles, of the states that lack an equation, and of records that hold them.
+-- What the code's tables say of fates is what the definitions say: the states that lack an equation, and the records that hold fates.
 use mathlib.Core.Path.{◌≡◌, refl, sym, ap, ap₂, ◌∙◌}
 use mathlib.Core.Bool.{Bool, true, false, cond, not, ◌&&◌, ◌||◌}
 use mathlib.Core.List.{List, [], ◌∷◌, ◌++◌, map, append-nil, append_assoc}
 use mathlib.Core.Option.{Option, some}
 use Prim.Native.Nat.{ℕ, zero, suc, ◌+◌, ◌-◌, ◌*◌, ◌/◌, ◌%◌, ◌<◌}
 use native.Mathlib.Omega.{arith}
-use borrow.Author.Tests.{eqb-true, eqb-false, eq-eqb, ne_eqb}
+use Rattle.std.proofs.lemmas.Bool.Decides.{nat_tests}
 use lib.Dec.{eqb}
 use lib.ListN.{length, take, get_or}
 use Rattle.functions.specs.Lists.{any, keep, place, place_from, member, times, flag, plus_one}
@@ -16,101 +16,13 @@ use Rattle.definitions.specs.Variables.{Variable, at, is_state}
 use Rattle.definitions.specs.Roles.{Role, starts, rates, free}
 use Rattle.definitions.specs.Allocate.{Fate, initial, held, replaced, left_over, is_rate_of, is_free, rate_fate, fates_of, numbers_from, lacking, left_count, paired_states, is_held_by, is_initial_of, held_by, conditions}
 use Rattle.definitions.specs.Answer.{fate_number, fate_variable, flat_words, flat_records}
-use Rattle.builder.specs.Tables.{role_number, lacks_in, lacking_in}
-use Rattle.builder.specs.Fating.{left_in, fate_in, queue_in, fates_in, with_fate, fated, is_fated}
+use Rattle.builder.specs.Tables.{lacks_in, lacking_in}
+use Rattle.builder.specs.Fating.{fate_pair, with_fate, fated, is_fated}
 
 -- ---- tests of numbers
 
-eqb_turn : (a b : ℕ) → eqb a b ≡ eqb b a
-eqb_turn a b = go (eqb b a) refl
-  where
-    go : (t : Bool) → eqb b a ≡ t → eqb a b ≡ t
-    go true e = eq-eqb a b (sym (eqb-true b a e))
-    go false e = ne_eqb a b (λ g. eqb-false b a e (sym g))
-
--- two tests that say the same of numbers
-eqb_by : (a b c d : ℕ) → (a ≡ b → c ≡ d) → (c ≡ d → a ≡ b) → eqb a b ≡ eqb c d
-eqb_by a b c d f g = go (eqb c d) refl
-  where
-    go : (t : Bool) → eqb c d ≡ t → eqb a b ≡ t
-    go true e = eq-eqb a b (g (eqb-true c d e))
-    go false e = ne_eqb a b (λ h. eqb-false c d e (f h))
-
--- ---- roles
-
--- a rate equation of v by its number
-rate_number_lem : (v : ℕ) (r : Role) → eqb (2 * v + 2) (role_number r) ≡ is_rate_of v r
-unfolding role_number is_rate_of
-rate_number_lem v (starts u) = ne_eqb (2 * v + 2) (2 * u + 1) (λ e. omega arith)
-rate_number_lem v (rates u) = eqb_by (2 * v + 2) (2 * u + 2) v u (λ e. omega arith) (λ e. omega arith)
-rate_number_lem v free = ne_eqb (2 * v + 2) 0 (λ e. omega arith)
-
--- whether a rate equation goes to v
-pub any_rate : (v : ℕ) (rs : List Role) → any (is_rate_of v) rs ≡ member (2 * v + 2) (map role_number rs)
-unfolding any member
-any_rate v [] = refl
-any_rate v (r ∷ rs) = ap₂ ◌||◌ (sym (rate_number_lem v r)) (any_rate v rs)
-
--- how many statements are left
-pub left_number : (rs : List Role) → times (eqb 0) (map role_number rs) ≡ left_count rs
-unfolding times left_count keep is_free flag role_number
-left_number [] = refl
-left_number (starts v ∷ rs) = omega (arith, left_number rs, ap flag (ne_eqb 0 (2 * v + 1) (λ e. omega arith)))
-left_number (rates v ∷ rs) = omega (arith, left_number rs, ap flag (ne_eqb 0 (2 * v + 2) (λ e. omega arith)))
-left_number (free ∷ rs) = omega (arith, left_number rs)
-
--- ---- fates of roles
-
--- a fate as its two numbers
-abbrev pub fate_pair : Fate → ℕ × ℕ
-fate_pair x = (fate_number x, fate_variable x)
-
--- fate and queue behind it, by the role
-start_fate : (queue : List ℕ) (v : ℕ) (later : List ℕ) → (fate_in queue (role_number (starts v)) later ≡ (1, v)) × (queue_in queue (role_number (starts v)) ≡ queue)
-unfolding fate_in queue_in role_number
-start_fate queue v later =
-    let z : eqb (2 * v + 1) 0 ≡ false = ne_eqb (2 * v + 1) 0 (λ e. omega arith) in
-    let o : eqb ((2 * v + 1) % 2) 1 ≡ true = eq-eqb ((2 * v + 1) % 2) 1 (omega arith) in
-    let h : (2 * v + 1 - 1) / 2 ≡ v = omega arith in
-    (rw (z, o, h) refl, rw z refl)
-
-rate_fate_lem : (queue : List ℕ) (v : ℕ) (rs : List Role)
-    → (fate_in queue (role_number (rates v)) (map role_number rs) ≡ fate_pair (rate_fate (any (is_rate_of v) rs) v)) × (queue_in queue (role_number (rates v)) ≡ queue)
-unfolding fate_in queue_in role_number rate_fate fate_number fate_variable
-rate_fate_lem queue v rs =
-    let z : eqb (2 * v + 2) 0 ≡ false = ne_eqb (2 * v + 2) 0 (λ e. omega arith) in
-    let o : eqb ((2 * v + 2) % 2) 1 ≡ false = ne_eqb ((2 * v + 2) % 2) 1 (λ e. omega arith) in
-    let h : (2 * v + 2 - 1) / 2 ≡ v = omega arith in
-    (rw (z, o, h, any_rate v rs) (by (member (2 * v + 2) (map role_number rs))), rw z refl)
-  where
-    by : (t : Bool) → cond t (3, v) (2, v) ≡ fate_pair (rate_fate t v)
-    by true = refl
-    by false = refl
-
-free_over : (later : List ℕ) → (fate_in [] (role_number free) later ≡ (4, 0)) × (queue_in [] (role_number free) ≡ [])
-unfolding fate_in queue_in role_number left_in
-free_over later = (refl, refl)
-
-free_held : (v : ℕ) (queue later : List ℕ) → (fate_in (v ∷ queue) (role_number free) later ≡ (2, v)) × (queue_in (v ∷ queue) (role_number free) ≡ queue)
-unfolding fate_in queue_in role_number left_in
-free_held v queue later = (refl, refl)
-
--- The fates of numbered roles are the numbers of the roles' fates.
-pub fates_numbered : (queue : List ℕ) (rs : List Role) → map fate_pair (fates_of queue rs) ≡ fates_in queue (map role_number rs)
-unfolding fates_of fates_in fate_number fate_variable
-fates_numbered queue [] = refl
-fates_numbered queue (starts v ∷ rs) =
-    let (a, b) = start_fate queue v (map role_number rs) in
-    rw (a, b) (ap (λ (xs : List (ℕ × ℕ)). (1, v) ∷ xs) (fates_numbered queue rs))
-fates_numbered queue (rates v ∷ rs) =
-    let (a, b) = rate_fate_lem queue v rs in
-    rw (a, b) (ap (λ (xs : List (ℕ × ℕ)). fate_pair (rate_fate (any (is_rate_of v) rs) v) ∷ xs) (fates_numbered queue rs))
-fates_numbered [] (free ∷ rs) =
-    let (a, b) = free_over (map role_number rs) in
-    rw (a, b) (ap (λ (xs : List (ℕ × ℕ)). (4, 0) ∷ xs) (fates_numbered [] rs))
-fates_numbered (v ∷ queue) (free ∷ rs) =
-    let (a, b) = free_held v queue (map role_number rs) in
-    rw (a, b) (ap (λ (xs : List (ℕ × ℕ)). (2, v) ∷ xs) (fates_numbered queue rs))
+pub eqb_turn : (a b : ℕ) → eqb a b ≡ eqb b a
+eqb_turn a b = grind (arith, nat_tests)
 
 -- ---- the states that lack an equation
 
@@ -138,30 +50,21 @@ module _ (p : ℕ → Bool) where
       by false e = rw (e, append-nil) refl
 
   -- the code's list, where it tests the same
-  lacking_passing : (roles states : List ℕ) (n : ℕ) → ((v : ℕ) → v < n → lacks_in roles states v ≡ p v) → lacking_in roles states n ≡ passing n
+  lacking_passing : (roles : List Role) (states : List ℕ) (n : ℕ) → ((v : ℕ) → v < n → lacks_in roles states v ≡ p v) → lacking_in roles states n ≡ passing n
   unfolding lacking_in passing
   lacking_passing roles states zero h = refl
   lacking_passing roles states (suc n) h =
       ap₂ ◌++◌ (lacking_passing roles states n (λ v l. h v (omega arith))) (ap (λ (t : Bool). cond t (n ∷ []) []) (h n (omega arith)))
 
--- The states that lack an equation, by the table and the numbered roles.
-pub lacking_numbered : (vs : List Variable) (rs : List Role) (states : List ℕ) → Beginning vs states → lacking_in (map role_number rs) states (length vs) ≡ lacking vs rs
+-- The states that lack an equation, by the table.
+pub lacking_tabled : (vs : List Variable) (rs : List Role) (states : List ℕ) → Beginning vs states → lacking_in rs states (length vs) ≡ lacking vs rs
 unfolding lacking lacks_in passing
-lacking_numbered vs rs states b =
+lacking_tabled vs rs states b =
     let z : 0 + length vs ≡ length vs = omega arith in
-    lacking_passing test (map role_number rs) states (length vs) same ∙ sym (passing_keep test vs 0 ∙ ap (passing test) z)
+    lacking_passing test rs states (length vs) (λ v h. rw (b.states v h) refl) ∙ sym (passing_keep test vs 0 ∙ ap (passing test) z)
   where
     test : ℕ → Bool
     test v = is_state (at vs v) && not (any (is_rate_of v) rs)
-
-    same : (v : ℕ) → v < length vs → lacks_in (map role_number rs) states v ≡ test v
-    same v h = rw (b.states v h, any_rate v rs) refl
-
--- The queue: all of them where as many statements are left, else none.
-pub queue_numbered : (vs : List Variable) (rs : List Role) (states : List ℕ) → Beginning vs states
-    → cond (eqb (times (eqb 0) (map role_number rs)) (length (lacking_in (map role_number rs) states (length vs)))) (lacking_in (map role_number rs) states (length vs)) [] ≡ paired_states vs rs
-unfolding paired_states
-queue_numbered vs rs states b = rw (lacking_numbered vs rs states b, left_number rs) refl
 
 -- ---- records that hold fates
 

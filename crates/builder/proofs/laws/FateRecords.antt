@@ -1,6 +1,6 @@
 -- Records of the area with their fates written in: one record, and a whole section record by record.
 use mathlib.Core.Path.{◌≡◌, refl, sym, ap, ap₂, ◌∙◌}
-use mathlib.Core.List.{List, [], ◌∷◌, ◌++◌, append_assoc}
+use mathlib.Core.List.{List, [], ◌∷◌, ◌++◌, map, append_assoc}
 use Prim.Native.Nat.{ℕ, zero, suc, ◌+◌, ◌-◌, ◌*◌, ◌/◌, ◌%◌, ◌≤◌, ◌<◌}
 use native.Mathlib.Omega.{arith}
 use native.Mathlib.Nat.{suc-mul}
@@ -13,7 +13,9 @@ use Rattle.ast.specs.Encode.{encode}
 use Rattle.ast.proofs.Fronts.{drop_front, word_behind, put_behind}
 use Rattle.ast.proofs.Encodes.{length_bytes, each_append}
 use Rattle.functions.specs.Lists.{each}
-use Rattle.builder.specs.Fating.{fate_in, queue_in, fates_in, with_fate, fated}
+use Rattle.definitions.specs.Roles.{Role, starts, rates, free}
+use Rattle.definitions.specs.Allocate.{fates_of}
+use Rattle.builder.specs.Fating.{left_in, fate_in, queue_in, fate_pair, with_fate, fated}
 use Rattle.area.proofs.Puts.{itself}
 
 -- ---- words of bytes
@@ -179,42 +181,46 @@ module _ (d d' : List ℕ) (p : ℕ) (x : ℕ × ℕ) (room : p + 32 ≤ length 
       ∙ ap (front d) (sym (append_assoc (take p d) one (encode (fated (section 8 m (p + 32) d) xs))))
       ∙ sym (put_behind d before (encode (fated (section 8 m (p + 32) d) xs)) d' (p + 32) (sym length_before) is_front))
 
--- ---- the statements from number i on, with p states paired
+-- ---- the statements from number i on, with the states that are still queued
 
-module _ (n base : ℕ) (queue roles : List ℕ) where
+fates_more : (queue : List ℕ) (r : Role) (rs : List Role) → fates_of queue (r ∷ rs) ≡ fate_in queue r rs ∷ fates_of (queue_in queue r) rs
+unfolding fates_of fate_in left_in queue_in
+fates_more queue (starts v) rs = refl
+fates_more queue (rates v) rs = refl
+fates_more [] free rs = refl
+fates_more (v ∷ queue) free rs = refl
+
+module _ (n base : ℕ) (roles : List Role) where
   -- the area once the rest is written
-  unfoldable pub rest : List ℕ → ℕ → ℕ → List ℕ
-  rest d i p = put d (base + 32 * i) (encode (fated (section 8 (n - i) (base + 32 * i) d) (fates_in (drop p queue) (drop i (take n roles)))))
+  unfoldable pub rest : List ℕ → ℕ → List ℕ → List ℕ
+  rest d i queue = put d (base + 32 * i) (encode (fated (section 8 (n - i) (base + 32 * i) d) (map fate_pair (fates_of queue (drop i roles)))))
 
-  pub rest_all : (d : List ℕ) → rest d 0 0 ≡ put d base (encode (fated (section 8 n base d) (fates_in queue (take n roles))))
+  pub rest_all : (d queue : List ℕ) → rest d 0 queue ≡ put d base (encode (fated (section 8 n base d) (map fate_pair (fates_of queue roles))))
   unfolding rest
-  rest_all d =
+  rest_all d queue =
       let e : base + 32 * 0 ≡ base = omega arith in
       let g : n - 0 ≡ n = omega arith in
       rw (e, g) refl
 
-  pub rest_none : (d : List ℕ) (i p : ℕ) → n ≤ i → rest d i p ≡ d
+  pub rest_none : (d : List ℕ) (i : ℕ) (queue : List ℕ) → n ≤ i → rest d i queue ≡ d
   unfolding rest section records fated encode each put
-  rest_none d i p h =
+  rest_none d i queue h =
       let e : n - i ≡ 0 = omega arith in
       let z : base + 32 * i + 0 ≡ base + 32 * i = omega arith in
       rw (e, z) (lib.ListN.take-append-drop (base + 32 * i) d)
 
-  fates_here : (p r i : ℕ) → i < n → i < length (take n roles) → drop r queue ≡ queue_in (drop p queue) (get_or roles i 0)
-      → fates_in (drop p queue) (drop i (take n roles)) ≡ fate_in (drop p queue) (get_or roles i 0) (drop (i + 1) (take n roles)) ∷ fates_in (drop r queue) (drop (i + 1) (take n roles))
-  unfolding fates_in
-  fates_here p r i h l g = ap (fates_in (drop p queue)) (drop_here (take n roles) 0 i l) ∙ rw (get_or-take n roles i 0 h, g) refl
+  fates_here : (queue : List ℕ) (i : ℕ) → i < length roles → fates_of queue (drop i roles) ≡ fate_in queue (get_or roles i free) (drop (i + 1) roles) ∷ fates_of (queue_in queue (get_or roles i free)) (drop (i + 1) roles)
+  fates_here queue i l = ap (fates_of queue) (drop_here roles free i l) ∙ fates_more queue _ _
 
-  pub rest_more : (d d' : List ℕ) (i p r : ℕ) → i < n → n ≤ length roles → base + 32 * n ≤ length d
-      → d' ≡ put d (base + 32 * i) (bytes_of (with_fate (get_or (section 8 n base d) i []) (fate_in (drop p queue) (get_or roles i 0) (drop (i + 1) (take n roles)))))
-      → drop r queue ≡ queue_in (drop p queue) (get_or roles i 0)
-      → rest d i p ≡ rest d' (i + 1) r
+  pub rest_more : (d d' : List ℕ) (i : ℕ) (queue queue' : List ℕ) → i < n → length roles ≡ n → base + 32 * n ≤ length d
+      → d' ≡ put d (base + 32 * i) (bytes_of (with_fate (get_or (section 8 n base d) i []) (fate_pair (fate_in queue (get_or roles i free) (drop (i + 1) roles)))))
+      → queue' ≡ queue_in queue (get_or roles i free)
+      → rest d i queue ≡ rest d' (i + 1) queue'
   unfolding rest
-  rest_more d d' i p r h long room e g =
+  rest_more d d' i queue queue' h long room e g =
       let m : n - i ≡ suc (n - (i + 1)) = omega arith in
       let k : base + 32 * i + 32 ≡ base + 32 * (i + 1) = omega arith in
-      let l : i < length (take n roles) = omega (arith, length-take-le n roles long) in
-      let fs = fates_here p r i h l g in
+      let fs = fates_here queue i (omega arith) in
       let room' : base + 32 * i + 32 ≤ length d = omega arith in
-      let e' : d' ≡ put d (base + 32 * i) (bytes_of (with_fate (record_from d (base + 32 * i)) (fate_in (drop p queue) (get_or roles i 0) (drop (i + 1) (take n roles))))) = rw (record_at n base i d h) at e in
-      rw (m, fs, ← k) (fated_step d d' (base + 32 * i) _ room' e' (n - (i + 1)) _)
+      let e' : d' ≡ put d (base + 32 * i) (bytes_of (with_fate (record_from d (base + 32 * i)) (fate_pair (fate_in queue (get_or roles i free) (drop (i + 1) roles))))) = rw (record_at n base i d h) at e in
+      rw (m, fs, ← k, g) (fated_step d d' (base + 32 * i) _ room' e' (n - (i + 1)) _)

@@ -1,16 +1,12 @@
--- Models found by a test, number after number, and the model that a statement calls.
-use mathlib.Core.Path.{◌≡◌, refl, sym, ap, ◌∙◌}
+-- The tests that a model is found by, and the model that a statement calls.
+use mathlib.Core.Path.{◌≡◌, refl, ap}
 use mathlib.Core.List.{List}
-use mathlib.Core.Bool.{Bool, true, false, cond}
-use mathlib.Core.Option.{none, some}
-use Prim.Native.Nat.{ℕ, ◌+◌, ◌≤◌, ◌<◌}
+use mathlib.Core.Bool.{Bool, true, false}
+use Prim.Native.Nat.{ℕ, ◌≤◌, ◌<◌}
 use native.Mathlib.Omega.{arith}
-use native.Mathlib.Numerals.{add-one}
 use borrow.Author.Tests.{eqb-false}
 use lib.Dec.{eqb}
-use lib.ListN.{drop}
-use Rattle.functions.specs.Lists.{place_from, place, plus_one, same_text}
-use Rattle.functions.proofs.Lists.{drop_here, drop_past}
+use Rattle.functions.specs.Lists.{place, plus_one, same_text}
 use Rattle.ast.specs.Tree.{Model, File}
 use Rattle.ast.specs.Words.{word_of}
 use Rattle.ast.specs.Nodes.{name_at}
@@ -18,7 +14,7 @@ use Rattle.ast.specs.Records.{kind_of_stmt, stmt_of}
 use Rattle.ast.specs.declared.sections.Sections.{Sections}
 use Rattle.ast.specs.Opens.{Open, contents_in, file_in}
 use Rattle.definitions.specs.Names.{text_of, spells}
-use Rattle.definitions.specs.Flatten.{no_model, model_at, model_named}
+use Rattle.definitions.specs.Flatten.{model_at, model_named}
 use Rattle.definitions.specs.Build.{root_of}
 use Rattle.builder.specs.Tables.{callee_of}
 use Rattle.builder.proofs.laws.Open.{model_record, stmt_record, models_long, model_name_is}
@@ -26,32 +22,9 @@ use Rattle.builder.proofs.laws.OpenRecords.{stmt_is}
 use Rattle.definitions.proofs.ListLaws.{place_small}
 use Rattle.definitions.proofs.StmtKinds.{stmt_submodel}
 
--- ---- the first model that passes, plus 1
+-- ---- the tests: a root name's bytes, and a name's number
 
 module _ (f : List ℕ) (s : Sections) where
-  -- the models from number m on, by model m and those behind it
-  module _ (p : Model → Bool) (m : ℕ) where
-    find_here : m < s.counts.models → place_from m p (drop m (file_in f s).models) ≡ cond (p (model_at (file_in f s) m)) (some m) (place_from (m + 1) p (drop (m + 1) (file_in f s).models))
-    unfolding place_from model_at
-    find_here h =
-        ap (place_from m p) (drop_here (file_in f s).models no_model m (omega (arith, models_long f s)))
-        ∙ rw (sym (add-one m)) refl
-
-    -- where model m passes, it is the first, and where it does not, the search goes on behind it
-    pub find_yes : m < s.counts.models → p (model_at (file_in f s) m) ≡ true → plus_one (place_from m p (drop m (file_in f s).models)) ≡ m + 1
-    unfolding plus_one
-    find_yes h e = ap plus_one (find_here h) ∙ rw e (sym (add-one m))
-
-    pub find_no : m < s.counts.models → p (model_at (file_in f s) m) ≡ false → place_from m p (drop m (file_in f s).models) ≡ place_from (m + 1) p (drop (m + 1) (file_in f s).models)
-    find_no h e = find_here h ∙ rw e refl
-
-    -- behind the last model there is none
-    pub find_end : s.counts.models ≤ m → place_from m p (drop m (file_in f s).models) ≡ none
-    unfolding place_from
-    find_end h = ap (place_from m p) (drop_past (file_in f s).models m (omega (arith, models_long f s)))
-
-  -- ---- the tests: a root name's bytes, and a name's number
-
   abbrev pub is_root_name : List ℕ → Model → Bool
   is_root_name root m = spells (file_in f s).names root m.name
 

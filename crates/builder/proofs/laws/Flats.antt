@@ -1,18 +1,20 @@
 -- The statements of an answer's area by number: what each asks for by its words, and loops over all of them.
 use mathlib.Core.Path.{◌≡◌, refl, sym, ap, ◌∙◌}
 use mathlib.Core.Logic.{⊎_elim}
-use mathlib.Core.Bool.{Bool, true, false, ◌&&◌, ◌||◌}
-use mathlib.Core.List.{List, [], ◌∷◌, map}
+use mathlib.Core.Bool.{Bool, true, false, ◌&&◌}
+use mathlib.Core.List.{List, [], ◌∷◌, ◌++◌, map, map-append, map-map}
 use Prim.Native.Nat.{ℕ, zero, suc, ◌+◌, ◌-◌, ◌*◌, ◌≤◌, ◌<◌}
 use native.Mathlib.Omega.{arith}
+use native.Mathlib.Numerals.{add-one}
 use borrow.Author.Tests.{ne_eqb}
 use lib.Dec.{eqb}
 use lib.ListN
-use lib.ListN.{length, take, drop, get_or, length-map}
+use lib.ListN.{length, take, get_or, set, length-map}
 use lib.Ieee.{Float, eq}
-use lib.Seq.{length-take-le, get_or-take, ext_get_or}
+use lib.Seq.{take-suc-set}
+use Rattle.std.specs.List.{list_any, range_with_len}
+use Rattle.std.proofs.lemmas.List.FromFn.{fill_by_all, map-range_with_len_more}
 use Rattle.functions.specs.Lists.{any, flag}
-use Rattle.functions.proofs.Lists.{drop_here, drop_past}
 use Rattle.ast.specs.Tree.{Flat, equation, rate}
 use Rattle.ast.specs.Words.{word_of, span_from}
 use Rattle.ast.specs.Nodes.{name_at, bits_at, tree_at}
@@ -21,11 +23,14 @@ use Rattle.ast.proofs.Fields.{length_section}
 use Rattle.definitions.specs.Roles.{same_float}
 use Rattle.area.specs.Sections.{stmts_at, area_nodes, area_stmts, area_stmt, area_vars, column}
 use Rattle.area.specs.declared.sections.Sizes.{Sizes}
+use Rattle.std.specs.declared.option.Option as answer
+use Rattle.std.specs.declared.option.Option.TheVariants.{None, Some}
+use Rattle.builder.specs.declared.allocation.roles.Role.{Role}
+use Rattle.builder.specs.declared.allocation.roles.Role.TheVariants.{Neither, Initial, Rate}
 use Rattle.builder.specs.declared.allocation.roles.Start.{Start}
-use Rattle.builder.specs.declared.allocation.roles.Start.TheVariants.{Nothing, Short, Number}
-use Rattle.builder.specs.Allocating.{flat_at, flat_in, flats_in, Flattened, states_in, rates_in, entry_by, short_by, start_number, rate_number, role_by, found_start, start_at, is_short, StartFits}
+use Rattle.builder.specs.declared.allocation.roles.Start.TheVariants.{Short, Number}
+use Rattle.builder.specs.Allocating.{flat_at, flat_in, flats_in, Flattened, states_in, rates_in, entry_by, short_by, role_as, start_role_by, rate_role_by, role_by, found_start, start_at, is_short, StartFits}
 use Rattle.definitions.proofs.ListLaws.{flag_one, get_d_map}
-use Rattle.builder.proofs.laws.Filled.{Filled}
 use Rattle.builder.proofs.laws.LeftSides.{entry_none, entry_some, found_start_lem, short_start}
 
 -- ---- an answer for a left side, case by case
@@ -36,39 +41,46 @@ unfolding number_of same_float
 same_float_lem a b = refl
 
 -- the variable and the argument of an answer with a number
-pub number_fits : (z : Sizes) (s : Start) (v a : ℕ) → s ≡ Number v a → StartFits z s → (v < z.vars) × (1 ≤ a) × (a < z.nodes)
+pub number_fits : (z : Sizes) (s : answer.Option Start) (x : Start) (v a : ℕ) → s ≡ Some x → x ≡ Number v a → StartFits z s → (v < z.vars) × (1 ≤ a) × (a < z.nodes)
 unfolding StartFits
-number_fits z s v a e f = rw e at f
+number_fits z s x v a e g f = rw (e, g) at f
 
-module _ (ns : List (List ℕ)) (lower : Float) (f : ℕ) (s : Start) where
-  -- a number that is time's lower bound, or another
-  module _ (v a : ℕ) (e : s ≡ Number v a) where
-    -- an initial condition
-    pub role_lower : eq (number_of (bits_at ns (a - 1))) lower ≡ true → start_number lower (found_start ns f s) ≡ 2 * v + 1
-    unfolding start_number found_start
-    role_lower h = rw (e, h) refl
+module _ (ns : List (List ℕ)) (lower : Float) (f : ℕ) (s : answer.Option Start) where
+  module _ (x : Start) (e : s ≡ Some x) where
+    -- a number that is time's lower bound, or another
+    module _ (v a : ℕ) (g : x ≡ Number v a) where
+      -- an initial condition
+      pub role_lower : eq (number_of (bits_at ns (a - 1))) lower ≡ true → role_as (Initial v) ≡ start_role_by lower (found_start ns f s)
+      unfolding role_as start_role_by found_start
+      role_lower h = rw (e, g, h) refl
 
-    -- no role
-    pub role_wrong : eq (number_of (bits_at ns (a - 1))) lower ≡ false → start_number lower (found_start ns f s) ≡ 0
-    unfolding start_number found_start
-    role_wrong h = rw (e, h) refl
+      -- no role
+      pub role_wrong : eq (number_of (bits_at ns (a - 1))) lower ≡ false → role_as Neither ≡ start_role_by lower (found_start ns f s)
+      unfolding role_as start_role_by found_start
+      role_wrong h = rw (e, g, h) refl
 
-  -- one too short has no role
-  pub role_short : s ≡ Short → start_number lower (found_start ns f s) ≡ 0
-  unfolding start_number found_start
-  role_short e = rw e refl
+    -- one too short has no role
+    pub role_short : x ≡ Short → role_as Neither ≡ start_role_by lower (found_start ns f s)
+    unfolding role_as start_role_by found_start
+    role_short g = rw (e, g) refl
 
   -- nothing of the kind has no role
-  pub role_nothing : s ≡ Nothing → start_number lower (found_start ns f s) ≡ 0
-  unfolding start_number found_start
+  pub role_nothing : s ≡ None → role_as Neither ≡ start_role_by lower (found_start ns f s)
+  unfolding role_as start_role_by found_start
   role_nothing e = rw e refl
 
 -- ---- statement i
 
-map_at : (g : Flat → ℕ) (l : List Flat) (d : Flat) (i : ℕ) → i < length l → get_or (map g l) i 0 ≡ g (get_or l i d)
-map_at g [] d i h = absurd (omega arith)
-map_at g (x ∷ l) d zero h = refl
-map_at g (x ∷ l) d (suc i) h = map_at g l d i (omega arith)
+-- a table's first entries, where one more is filled in
+pub one_filled : {A B : Type 0} (f : A → B) (g : ℕ → B) (xs : List A) (i : ℕ) (x : A) → i < length xs → f x ≡ g i → map f (take i xs) ≡ map g (range_with_len 0 i) → map f (take (i + 1) (set xs i x)) ≡ map g (range_with_len 0 (i + 1))
+one_filled f g xs i x h e p =
+    let t : take (i + 1) (set xs i x) ≡ take i xs ++ (x ∷ []) = rw add-one (take-suc-set xs i x h) in
+    rw (t, map-append, p, e) (sym (map-range_with_len_more g 0 i i (omega arith)))
+
+any_map : {A B : Type 0} (p : B → Bool) (f : A → B) (xs : List A) → any p (map f xs) ≡ list_any (λ x. p (f x)) xs
+unfolding any
+any_map p f [] = refl
+any_map p f (x ∷ xs) = rw (any_map p f xs) refl
 
 module _ (b : List ℕ) (z : Sizes) where
   -- there are as many as the sizes say
@@ -86,22 +98,17 @@ module _ (b : List ℕ) (z : Sizes) where
   unfolding flats_in flat_in
   flat_here i h = get_d_map (flat_at (area_nodes b z)) (area_stmts b z) i [] (flat_in b z i) (omega (arith, length_section 8 z.stmts (stmts_at z) b))
 
-  -- the statements from i on
-  pub any_here : (p : Flat → Bool) (i : ℕ) → i < z.stmts → any p (drop i (flats_in b z)) ≡ (p (flat_in b z i) || any p (drop (i + 1) (flats_in b z)))
-  unfolding any
-  any_here p i h = ap (any p) (drop_here (flats_in b z) (flat_at (area_nodes b z) []) i (omega (arith, flats_count))) ∙ rw (flat_at_lem i) refl
+  -- all of them, by number
+  pub flats_by : flats_in b z ≡ map (flat_in b z) (range_with_len 0 z.stmts)
+  flats_by = fill_by_all (flat_in b z) (flats_in b z) z.stmts (flat_at (area_nodes b z) []) flats_count (λ k h. flat_at_lem k)
 
-  -- there are none behind the last
-  pub any_past : (p : Flat → Bool) (i : ℕ) → z.stmts ≤ i → any p (drop i (flats_in b z)) ≡ false
-  unfolding any
-  any_past p i h = ap (any p) (drop_past (flats_in b z) i (omega (arith, flats_count)))
+  -- what a function gives of each of them
+  pub map_by : {B : Type 0} (g : Flat → B) → map (λ i. g (flat_in b z i)) (range_with_len 0 z.stmts) ≡ map g (flats_in b z)
+  map_by g = rw flats_by (sym (map-map g (flat_in b z) (range_with_len 0 z.stmts)))
 
-  -- a table filled up to the last statement
-  pub map_filled : (g : Flat → ℕ) (n : ℕ) (t : List ℕ) → z.stmts ≤ 256 → z.stmts ≤ n → Filled 256 (λ k. g (flat_in b z k)) n t → take z.stmts t ≡ map g (flats_in b z)
-  map_filled g n t h l f =
-      let k : length (take z.stmts t) ≡ z.stmts = length-take-le z.stmts t (omega (arith, f.long)) in
-      ext_get_or 0 (take z.stmts t) (map g (flats_in b z)) (k ∙ sym (length-map (flats_in b z) g ∙ flats_count))
-      (λ i m. get_or-take z.stmts t i 0 (omega arith) ∙ f.entry i (omega arith) ∙ sym (map_at g (flats_in b z) (flat_at (area_nodes b z) []) i (omega (arith, flats_count)) ∙ ap g (flat_at_lem i)))
+  -- whether one of them passes a test
+  pub any_by : (p : Flat → Bool) → list_any (λ i. p (flat_in b z i)) (range_with_len 0 z.stmts) ≡ any p (flats_in b z)
+  any_by p = rw flats_by (sym (any_map p (flat_in b z) (range_with_len 0 z.stmts)))
 
   -- a rate equation may go to variable v where its record says that it is a state and time-dependent
   pub rate_at : (v : ℕ) → eqb (get_or (rates_in b z) v 0) 1 ≡ eqb (get_or (states_in b z) v 0) 1 && eqb (get_or (column 7 (area_vars b z)) v 0) 1
@@ -142,11 +149,11 @@ module _ (b : List ℕ) (z : Sizes) where
 
       -- its role
       pub role_equation : (rates : List ℕ) (lower : Float)
-          → role_by numbers indexes rates lower (flat_in b z i) ≡ start_number lower (found_start (area_nodes b z) (name_at (area_nodes b z) (word_of (area_stmt b z i) 2)) (start_at (area_nodes b z) numbers indexes (word_of (area_stmt b z i) 2)))
+          → role_by numbers indexes rates lower (flat_in b z i) ≡ start_role_by lower (found_start (area_nodes b z) (name_at (area_nodes b z) (word_of (area_stmt b z i) 2)) (start_at (area_nodes b z) numbers indexes (word_of (area_stmt b z i) 2)))
       unfolding role_by
       role_equation rates lower =
           let t = o.left i h e in
-          ap (role_by numbers indexes rates lower) (flat_equation i e) ∙ ap (start_number lower) (sym (found_start_lem names (area_nodes b z) z.nodes o.nodes numbers indexes (word_of (area_stmt b z i) 2) t.0 t.1))
+          ap (role_by numbers indexes rates lower) (flat_equation i e) ∙ ap (start_role_by lower) (sym (found_start_lem names (area_nodes b z) z.nodes o.nodes numbers indexes (word_of (area_stmt b z i) 2) t.0 t.1))
 
     -- a rate equation of name f
     module _ (ne : word_of (area_stmt b z i) 0 ≡ 1 → ⊥) where
@@ -155,23 +162,23 @@ module _ (b : List ℕ) (z : Sizes) where
       unfolding short_by
       short_rate = ap (short_by numbers indexes) (flat_rate i ne)
 
-      module _ (rates : List ℕ) (lower : Float) (f : ℕ) (g : f ≡ word_of (area_stmt b z i) 1) where
-        role_rate : role_by numbers indexes rates lower (flat_in b z i) ≡ rate_number rates (entry_by numbers f)
+      module _ (table : List ℕ) (lower : Float) (f : ℕ) (g : f ≡ word_of (area_stmt b z i) 1) where
+        role_rate : role_by numbers indexes table lower (flat_in b z i) ≡ rate_role_by table (entry_by numbers f)
         unfolding role_by
-        role_rate = ap (role_by numbers indexes rates lower) (flat_rate i ne) ∙ rw g refl
+        role_rate = ap (role_by numbers indexes table lower) (flat_rate i ne) ∙ rw g refl
 
         -- of a name that is no variable's
-        pub rate_unknown : get_or numbers f 0 ≡ 0 → role_by numbers indexes rates lower (flat_in b z i) ≡ 0
-        unfolding rate_number
-        rate_unknown p = role_rate ∙ rw (entry_none _ _ p) refl
+        pub rate_unknown : (1 ≤ get_or numbers f 0 → ⊥) → role_as Neither ≡ role_by numbers indexes table lower (flat_in b z i)
+        unfolding role_as rate_role_by
+        rate_unknown p = sym (role_rate ∙ rw (entry_none numbers f p) refl)
 
-        module _ (p : get_or numbers f 0 ≡ 0 → ⊥) where
+        module _ (v : ℕ) (p : (1 ≤ get_or numbers f 0) × (v ≡ get_or numbers f 0 - 1)) where
           -- of a variable that it may go to
-          pub rate_goes : eqb (get_or rates (get_or numbers f 0 - 1) 0) 1 ≡ true → role_by numbers indexes rates lower (flat_in b z i) ≡ 2 * get_or numbers f 0
-          unfolding rate_number
-          rate_goes q = role_rate ∙ rw (entry_some _ _ p, q) (omega arith)
+          pub rate_goes : eqb (get_or table v 0) 1 ≡ true → role_as (Rate v) ≡ role_by numbers indexes table lower (flat_in b z i)
+          unfolding role_as rate_role_by
+          rate_goes q = sym (role_rate ∙ rw (entry_some numbers f v p, q) refl)
 
           -- of another variable
-          pub rate_stays : eqb (get_or rates (get_or numbers f 0 - 1) 0) 1 ≡ false → role_by numbers indexes rates lower (flat_in b z i) ≡ 0
-          unfolding rate_number
-          rate_stays q = role_rate ∙ rw (entry_some _ _ p, q) refl
+          pub rate_stays : eqb (get_or table v 0) 1 ≡ false → role_as Neither ≡ role_by numbers indexes table lower (flat_in b z i)
+          unfolding role_as rate_role_by
+          rate_stays q = sym (role_rate ∙ rw (entry_some numbers f v p, q) refl)

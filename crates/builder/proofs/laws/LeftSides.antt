@@ -19,8 +19,10 @@ use Rattle.ast.proofs.Trees.{by_kind, tree_name, tree_number, tree_binary, tree_
 use Rattle.ast.proofs.Sizes.{count_before}
 use Rattle.definitions.specs.Roles.{arg_at, number_in}
 use Rattle.area.specs.declared.sections.Sizes.{Sizes}
+use Rattle.std.specs.declared.option.Option as answer
+use Rattle.std.specs.declared.option.Option.TheVariants.{None, Some}
 use Rattle.builder.specs.declared.allocation.roles.Start.{Start}
-use Rattle.builder.specs.declared.allocation.roles.Start.TheVariants.{Nothing, Short, Number}
+use Rattle.builder.specs.declared.allocation.roles.Start.TheVariants.{Short, Number}
 use Rattle.builder.specs.Allocating.{less_one, entry_by, Numbered, start_by, few_for, short_call_by, short_left_by, arg_node, found_start, at_arg, at_index, at_variable, start_at, is_short, StartFits, CallFits}
 
 -- ---- the node of an argument, from the last argument back
@@ -108,18 +110,18 @@ module _ (names : ℕ) (ns : List (List ℕ)) (n : ℕ) (ok : nodes_fit names ns
 -- ---- entries of a table, by the code's number
 
 -- an entry of 0 stands for none
-pub entry_none : (t : List ℕ) (n : ℕ) → get_or t n 0 ≡ 0 → entry_by t n ≡ none
+pub entry_none : (t : List ℕ) (n : ℕ) → (1 ≤ get_or t n 0 → ⊥) → entry_by t n ≡ none
 unfolding entry_by less_one
-entry_none t n e = rw e refl
+entry_none t n ne = let e : get_or t n 0 ≡ 0 = omega arith in rw e refl
 
 -- another entry stands for one less
-pub entry_some : (t : List ℕ) (n : ℕ) → (get_or t n 0 ≡ 0 → ⊥) → entry_by t n ≡ some (get_or t n 0 - 1)
+pub entry_some : (t : List ℕ) (n v : ℕ) → (1 ≤ get_or t n 0) × (v ≡ get_or t n 0 - 1) → entry_by t n ≡ some v
 unfolding entry_by less_one
-entry_some t n ne = let e : get_or t n 0 ≡ suc (get_or t n 0 - 1) = omega arith in ap less_one e
+entry_some t n v p = let e : get_or t n 0 ≡ suc v = omega arith in ap less_one e
 
 -- the variable of a name's entry has a record
-pub entry_below : {b : List ℕ} {z : Sizes} {numbers : List ℕ} → Numbered b z numbers → (f : ℕ) → f < 256 → (get_or numbers f 0 ≡ 0 → ⊥) → get_or numbers f 0 - 1 < z.vars
-entry_below t f h ne = omega (arith, t.entries f h, ne)
+pub entry_below : {b : List ℕ} {z : Sizes} {numbers : List ℕ} → Numbered b z numbers → (f v : ℕ) → f < 256 → (1 ≤ get_or numbers f 0) × (v ≡ get_or numbers f 0 - 1) → v < z.vars
+entry_below t f v h p = omega (arith, t.entries f h)
 
 -- ---- a call at node i
 
@@ -144,47 +146,48 @@ module _ (names : ℕ) (ns : List (List ℕ)) (n : ℕ) (ok : nodes_fit names ns
 
 module _ (ns : List (List ℕ)) (numbers indexes : List ℕ) (i : ℕ) where
   -- no call
-  pub start_other : (kind_at ns i ≡ 5 → ⊥) → start_at ns numbers indexes i ≡ Nothing
+  pub start_other : (kind_at ns i ≡ 5 → ⊥) → start_at ns numbers indexes i ≡ None
   unfolding start_at
   start_other ne = rw (ne_eqb _ _ ne) refl
 
   -- a call by name f
   module _ (e : kind_at ns i ≡ 5) (f : ℕ) (g : f ≡ name_at ns i) where
     -- that is no variable's
-    pub start_unknown : get_or numbers f 0 ≡ 0 → start_at ns numbers indexes i ≡ Nothing
+    pub start_unknown : (1 ≤ get_or numbers f 0 → ⊥) → start_at ns numbers indexes i ≡ None
     unfolding start_at at_variable
     start_unknown h = rw (e, ← g, entry_none _ _ h) refl
 
-    -- that is a variable's, with entry w of the time indexes
-    module _ (p : get_or numbers f 0 ≡ 0 → ⊥) (w : ℕ) (u : w ≡ get_or indexes (get_or numbers f 0 - 1) 0) where
+    -- that is variable v's, with entry w of the time indexes
+    module _ (v : ℕ) (p : (1 ≤ get_or numbers f 0) × (v ≡ get_or numbers f 0 - 1)) (w : ℕ) (u : w ≡ get_or indexes v 0) where
       -- without a time index
-      pub start_untimed : w ≡ 0 → start_at ns numbers indexes i ≡ Nothing
+      pub start_untimed : (1 ≤ w → ⊥) → start_at ns numbers indexes i ≡ None
       unfolding start_at at_variable at_index
-      start_untimed h = rw (e, ← g, entry_some _ _ p, entry_none _ _ (sym u ∙ h)) refl
+      start_untimed h = let x = entry_some numbers f v p in rw (e, ← g, x, entry_none indexes v (rw u at h)) refl
 
-      -- with n arguments
-      module _ (q : w ≡ 0 → ⊥) (n : ℕ) (m : n ≡ op_at ns i) where
-        some_index : entry_by indexes (get_or numbers f 0 - 1) ≡ some (w - 1)
-        some_index = rw u (entry_some _ _ (λ h. q (u ∙ h)))
+      -- with time index k and n arguments
+      module _ (k : ℕ) (q : (1 ≤ w) × (k ≡ w - 1)) (n : ℕ) (m : n ≡ op_at ns i) where
+        by_index : start_at ns numbers indexes i ≡ at_index ns i v (some k)
+        unfolding start_at at_variable
+        by_index = let x = entry_some numbers f v p in rw (e, ← g, x, entry_some indexes v k (rw u at q)) refl
 
         -- too few
-        pub start_short : n ≤ w - 1 → start_at ns numbers indexes i ≡ Short
-        unfolding start_at at_variable at_index
-        start_short h = rw (e, ← g, entry_some _ _ p, some_index, ← m, le-leb _ _ h) refl
+        pub start_short : n ≤ k → start_at ns numbers indexes i ≡ Some Short
+        unfolding at_index
+        start_short h = by_index ∙ rw (← m, le-leb _ _ h) refl
 
-        -- enough: the argument in time's place, at node a, whose expression is of kind k
-        module _ (h : w - 1 < n) (a : ℕ) (x : a ≡ arg_node ns (w - 1) i (op_at ns i)) (k : ℕ) (y : k ≡ kind_at ns (a - 1)) where
-          start_arg : start_at ns numbers indexes i ≡ at_arg ns (get_or numbers f 0 - 1) a
-          unfolding start_at at_variable at_index
-          start_arg = let l : w - 1 < op_at ns i = omega arith in rw (e, ← g, entry_some _ _ p, some_index, lt-leb _ _ l, ← x) refl
+        -- enough: the argument in time's place, at node a, whose expression is of kind d
+        module _ (h : k < n) (a : ℕ) (x : a ≡ arg_node ns k i (op_at ns i)) (d : ℕ) (y : d ≡ kind_at ns (a - 1)) where
+          start_arg : start_at ns numbers indexes i ≡ at_arg ns v a
+          unfolding at_index
+          start_arg = by_index ∙ rw (x, ← m, lt-leb _ _ h) refl
 
           -- a number
-          pub start_number_lem : k ≡ 2 → start_at ns numbers indexes i ≡ Number (get_or numbers f 0 - 1) a
+          pub start_number_lem : d ≡ 2 → start_at ns numbers indexes i ≡ Some (Number v a)
           unfolding at_arg
           start_number_lem z = start_arg ∙ rw (eq-eqb _ _ (sym y ∙ z)) refl
 
           -- no number
-          pub start_no_number : (k ≡ 2 → ⊥) → start_at ns numbers indexes i ≡ Nothing
+          pub start_no_number : (d ≡ 2 → ⊥) → start_at ns numbers indexes i ≡ None
           unfolding at_arg
           start_no_number z = start_arg ∙ rw (ne_eqb _ _ (λ q. z (y ∙ q))) refl
 
@@ -305,10 +308,10 @@ module _ (names : ℕ) (ns : List (List ℕ)) (n : ℕ) (ok : nodes_fit names ns
   unfolding CallFits start_at
   start_calls = go (eqb (kind_at ns i) 5) refl
     where
-      any_answer : name_at ns i < 256 → (s : Start) → CallFits ns i s
-      any_answer m Nothing = tt
-      any_answer m Short = tt
-      any_answer m (Number v a) = m
+      any_answer : name_at ns i < 256 → (s : answer.Option Start) → CallFits ns i s
+      any_answer m None = tt
+      any_answer m (Some Short) = tt
+      any_answer m (Some (Number v a)) = m
 
       go : (b : Bool) → eqb (kind_at ns i) 5 ≡ b → CallFits ns i (start_at ns numbers indexes i)
       go false e = rw e tt

@@ -5,7 +5,7 @@ use mathlib.Core.List.{List, map}
 use Prim.Native.Nat.{ℕ, ◌+◌, ◌≤◌, ◌<◌}
 use native.Mathlib.Omega.{arith}
 use borrow.Author.Tests.{lt-ltb, le-ltb, ltb-true, ltb-false, eq-eqb, ne_eqb}
-use lib.Dec.{ltb}
+use lib.Dec.{ltb, eqb}
 use lib.ListN.{length}
 use Rattle.functions.specs.Lists.{sum_of}
 use Rattle.ast.specs.Tree.{File, flat_size}
@@ -14,11 +14,15 @@ use Rattle.ast.specs.Rows.{levels_of, at_most}
 use Rattle.definitions.specs.Numbers.{model_cycle, self_listed_unknown, argument_beyond, over_most}
 use Rattle.definitions.specs.Flatten.{flatten, instances, cyclic, self_listed, overfull}
 use Rattle.definitions.specs.Build.{Result, refusal, accepted, too_big}
-use Rattle.builder.specs.Root.{Measure, forbidden_of, size_of, measure_of, measured_as}
+use Rattle.builder.specs.Root.{Measure, forbidden_of, forbidden_as, size_of, measure_of, measured_as}
 use Rattle.builder.specs.Extents.{Extended}
 use Rattle.builder.specs.declared.extent.counts.FlatExtent.{FlatExtent}
-use Rattle.builder.specs.declared.extent.measure.Measured.{Measured}
-use Rattle.builder.specs.declared.extent.measure.Measured.TheVariants.{Refused, Sized}
+use Rattle.std.specs.Prelude as std
+use Rattle.std.specs.Prelude.{Ok, Err}
+use Rattle.builder.specs.Refusals.{number_of}
+use Rattle.builder.specs.declared.refusal.Refusal.{Refusal}
+use Rattle.builder.specs.declared.refusal.Refusal.TheVariants.{NoRoot, ModelCycle, SelfListedUnknown, ArgumentBeyond, OverMost, ShortLeftSide}
+use Rattle.builder.specs.declared.extent.measure.Extent.{Extent}
 use Rattle.definitions.proofs.ListLaws.{or_either}
 use Rattle.definitions.proofs.Counts.{or_false}
 use Rattle.builder.proofs.laws.Flattening.{map_none}
@@ -45,13 +49,22 @@ module _ (f : File) (m : ℕ) where
 
   -- ---- one of them, or the sizes
 
-  pub measured_forbidden : (n : ℕ) → n ≡ forbidden_of f m → (n ≡ 0 → ⊥) → measured_as (Refused n) ≡ measure_of f m
-  unfolding measure_of measured_as
-  measured_forbidden n e h = rw (← e, ne_eqb n 0 h) refl
+  -- no refusal has the number 0
+  numbered : (r : Refusal) → eqb (number_of r) 0 ≡ false
+  numbered NoRoot = refl
+  numbered ModelCycle = refl
+  numbered SelfListedUnknown = refl
+  numbered ArgumentBeyond = refl
+  numbered OverMost = refl
+  numbered ShortLeftSide = refl
 
-  pub measured_size : (n : ℕ) (r : Measured) → n ≡ forbidden_of f m → n ≡ 0 → measured_as r ≡ size_of f m → measured_as r ≡ measure_of f m
-  unfolding measure_of
-  measured_size n r e h g = rw (← e, eq-eqb n 0 h) g
+  pub measured_forbidden : (r : Refusal) → forbidden_as (Err r) ≡ forbidden_of f m → measured_as (Err r) ≡ measure_of f m
+  unfolding measure_of measured_as forbidden_as
+  measured_forbidden r e = rw (← e, numbered r) refl
+
+  pub measured_size : (x : _) (r : std.Result Extent Refusal) → forbidden_as (Ok x) ≡ forbidden_of f m → measured_as r ≡ size_of f m → measured_as r ≡ measure_of f m
+  unfolding measure_of forbidden_as
+  measured_size x r e g = rw (← e) g
 
 -- ---- counts that stop just above their mosts
 
@@ -73,19 +86,19 @@ nothing = record { stmts = 0; nodes = 0 }
 abbrev sizing : ℕ → ℕ → ℕ → Result Measure
 sizing i q n = cond (ltb 1024 i || ltb 1024 n || ltb 256 q) (refusal over_most) (accepted (record { instances = i; stmts = q; nodes = n }))
 
-over_first : (i q n : ℕ) → 1024 < i → measured_as (Refused over_most) ≡ sizing i q n
+over_first : (i q n : ℕ) → 1024 < i → measured_as (Err OverMost) ≡ sizing i q n
 unfolding measured_as
 over_first i q n h = rw (lt-ltb 1024 i h) refl
 
-over_second : (i q n : ℕ) → 256 < q → measured_as (Refused over_most) ≡ sizing i q n
+over_second : (i q n : ℕ) → 256 < q → measured_as (Err OverMost) ≡ sizing i q n
 unfolding measured_as
 over_second i q n h = rw (lt-ltb 256 q h, or-true (ltb 1024 i || ltb 1024 n)) refl
 
-over_third : (i q n : ℕ) → 1024 < n → measured_as (Refused over_most) ≡ sizing i q n
+over_third : (i q n : ℕ) → 1024 < n → measured_as (Err OverMost) ≡ sizing i q n
 unfolding measured_as
 over_third i q n h = rw (lt-ltb 1024 n h, or-true (ltb 1024 i)) refl
 
-over_none : (i q n : ℕ) → i ≤ 1024 → q ≤ 256 → n ≤ 1024 → measured_as (Sized i q n) ≡ sizing i q n
+over_none : (i q n : ℕ) → i ≤ 1024 → q ≤ 256 → n ≤ 1024 → measured_as (Ok (record { instances = i; stmts = q; nodes = n })) ≡ sizing i q n
 unfolding measured_as
 over_none i q n hi hq hn = rw (le-ltb 1024 i hi, le-ltb 256 q hq, le-ltb 1024 n hn) refl
 
@@ -96,7 +109,7 @@ module _ (f : File) (m k : ℕ) (ek : length f.models ≡ k) where
   size_at_lem = ap (λ (d : ℕ). sizing (instances f d m) (length (flatten f d m)) (sum_of flat_size (flatten f d m))) (sym ek)
 
   module _ (i : ℕ) (ei : i ≡ at_most 1025 (instances f k m)) where
-    pub over_instances : 1024 < i → measured_as (Refused over_most) ≡ size_of f m
+    pub over_instances : 1024 < i → measured_as (Err OverMost) ≡ size_of f m
     over_instances h = over_first (instances f k m) (length (flatten f k m)) (sum_of flat_size (flatten f k m)) (at_most_over 1024 i _ ei h) ∙ size_at_lem
 
     -- the statements are read at level 0, where nothing is replaced
@@ -107,14 +120,14 @@ module _ (f : File) (m k : ℕ) (ek : length f.models ≡ k) where
           let y = extended_same nothing e _ _ (map_none (flatten f k m)) x in
           (y.stmts ∙ ap (at_most 257) (omega arith), y.nodes ∙ ap (at_most 1025) (omega arith))
 
-      pub over_flat : ltb 256 e.stmts || ltb 1024 e.nodes ≡ true → measured_as (Refused over_most) ≡ size_of f m
+      pub over_flat : ltb 256 e.stmts || ltb 1024 e.nodes ≡ true → measured_as (Err OverMost) ≡ size_of f m
       over_flat h =
           or_either (ltb 256 e.stmts) (ltb 1024 e.nodes) h
           (λ g. over_second (instances f k m) (length (flatten f k m)) (sum_of flat_size (flatten f k m)) (at_most_over 256 e.stmts _ plain.0 (ltb-true 256 e.stmts g)))
           (λ g. over_third (instances f k m) (length (flatten f k m)) (sum_of flat_size (flatten f k m)) (at_most_over 1024 e.nodes _ plain.1 (ltb-true 1024 e.nodes g)))
           ∙ size_at_lem
 
-      pub sized : i ≤ 1024 → ltb 256 e.stmts || ltb 1024 e.nodes ≡ false → measured_as (Sized i e.stmts e.nodes) ≡ size_of f m
+      pub sized : i ≤ 1024 → ltb 256 e.stmts || ltb 1024 e.nodes ≡ false → measured_as (Ok (record { instances = i; stmts = e.stmts; nodes = e.nodes })) ≡ size_of f m
       sized hi h =
           let (gq, gn) = or_false (ltb 256 e.stmts) (ltb 1024 e.nodes) h in
           let hq : e.stmts ≤ 256 = ltb-false 256 e.stmts gq in

@@ -87,11 +87,3 @@ module _ (f : List ℕ) (s : Sections) (o : Open f s) where
     called_some ne =
         let e = plus_some _ c called ne in
         (e, named_below _ (c - 1) e)
-
-    pub called_within : c ≤ s.counts.models
-    unfolding plus_one
-    called_within = within (model_named (file_in f s) (name_at (contents_in f s).nodes (right_top (stmt_record f s q)))) refl called
-      where
-        within : (x : Option ℕ) → model_named (file_in f s) (name_at (contents_in f s).nodes (right_top (stmt_record f s q))) ≡ x → plus_one x ≡ c → c ≤ s.counts.models
-        within none a b = omega arith
-        within (some m) a b = omega (arith, named_below _ m a)

@@ -1,7 +1,16 @@
--- The refusals 6, 7 and 8 in the code's terms: models reached from the last down, unknowns that list themselves, arguments beyond.
+-- The refusals 6, 7 and 8 in the code's terms: models reached, unknowns that list themselves, arguments beyond.
 use mathlib.Core.Path.{◌≡◌, refl, sym, ap, ◌∙◌}
-use mathlib.Core.Bool.{Bool, true, false, not, ◌&&◌, ◌||◌, or-true, or-false}
-use mathlib.Core.List.{List, []}
+use mathlib.Core.Bool.{Bool, true, false, not, ◌&&◌, ◌||◌, or-true, or-false, or_comm}
+use mathlib.Core.List.{List, [], ◌∷◌, ◌++◌}
+use denote.Param.Members.{Mut}
+use Rattle.std.specs.Fn.{Called}
+use Rattle.std.specs.Iterator.{ChecksAny}
+use Rattle.std.specs.List.{list_any, range_with_len}
+use Rattle.std.proofs.iter.Yields.{nat_range_steps}
+use Rattle.std.proofs.lemmas.Iterator.{YieldsList-from_range}
+use Rattle.std.proofs.lemmas.Iterator.Search.{any_from_yields_List}
+use Rattle.std.proofs.lemmas.List.Folds.{list_any-append}
+use Rattle.std.specs.declared.ops.Range.{Range}
 use mathlib.Core.Option.{Option, none, some}
 use Prim.Native.Nat.{ℕ, zero, suc, ◌+◌, ◌-◌, ◌*◌, ◌≤◌, ◌<◌}
 use native.Mathlib.Omega.{arith}
@@ -27,24 +36,25 @@ use Rattle.builder.proofs.laws.Calling.{call_is, entry_below}
 use Rattle.builder.proofs.laws.Rounds.{reaching_flag}
 use Rattle.definitions.proofs.StmtKinds.{stmt_submodel}
 
--- ---- the models reached, from the last down
+-- ---- whether any model reached passes, by a chain over the models' numbers
 
-module _ (f : File) (root : ℕ) (p : ℕ → Bool) where
-  -- by the last model and those before it
-  pub reached_turn : (m : ℕ) → 0 < m → any_reached f root p m ≡ ((eqb (m - 1) root || reached f root (m - 1)) && p (m - 1) || any_reached f root p (m - 1))
+range_last : (a n : ℕ) → range_with_len a (suc n) ≡ range_with_len a n ++ (a + n) ∷ []
+range_last a zero = let z : a ≡ a + 0 = omega arith in ap (λ (k : ℕ). k ∷ []) z
+range_last a (suc n) = let z : a + 1 + n ≡ a + suc n = omega arith in ap (λ (xs : List ℕ). a ∷ xs) (range_last (a + 1) n ∙ ap (λ (k : ℕ). range_with_len (a + 1) n ++ k ∷ []) z)
+
+-- the code's test of model m is t, the definitions' p
+module _ (f : File) (root : ℕ) (t p : ℕ → Bool) where
+  reached_along : (n : ℕ) → ((m : ℕ) → m < n → t m ≡ p m) → list_any (λ m. (eqb m root || reached f root m) && t m) (range_with_len 0 n) ≡ any_reached f root p n
   unfolding any_reached
-  reached_turn zero h = absurd (omega arith)
-  reached_turn (suc m) h = rw (sub-one (suc m)) refl
+  reached_along zero h = refl
+  reached_along (suc n) h =
+      let z : 0 + n ≡ n = omega arith in
+      let test = λ (m : ℕ). (eqb m root || reached f root m) && t m in
+      ap (list_any test) (range_last 0 n) ∙ list_any-append test (range_with_len 0 n) _ ∙ or_comm (list_any test (range_with_len 0 n)) _ ∙ rw (z, or-false (test n), h n (omega arith), reached_along n (λ m l. h m (omega arith)))
 
-  -- the same with the tests that the code makes
-  pub reached_by : (m : ℕ) (x y : Bool) → 0 < m → x ≡ (eqb (m - 1) root || reached f root (m - 1)) → y ≡ p (m - 1) → any_reached f root p m ≡ (x && y || any_reached f root p (m - 1))
-  reached_by m x y h e g = reached_turn m h ∙ rw (← e, ← g)
-
-  -- no model is left
-  pub reached_done : (m : ℕ) → m ≤ 0 → any_reached f root p m ≡ false
-  unfolding any_reached
-  reached_done zero h = refl
-  reached_done (suc m) h = absurd (omega arith)
+  pub reached_over : {F : Type 0} {g : Mut F (ℕ × Unit {0}) Bool} {c : F} {from to : Range ℕ} {r : Bool} (n : ℕ) → n ≡ length f.models → from ≡ record { start = 0; end = n } → ChecksAny nat_range_steps g from c r to
+      → ((m : ℕ) (w : Bool) (q : F) → Called g c (m, tt) w q → (q ≡ c) × (w ≡ ((eqb m root || reached f root m) && t m))) → ((m : ℕ) → m < n → t m ≡ p m) → r ≡ any_reached f root p (length f.models)
+  reached_over {F} {g} {c} {from} {to} {r} n l e ran calls h = any_from_yields_List _ to c r ran (YieldsList-from_range 0 n n e (omega arith)) calls ∙ reached_along n h ∙ ap (any_reached f root p) l
 
 -- ---- what the table of models reached says
 
@@ -53,12 +63,6 @@ module _ (f : List ℕ) (s : Sections) (o : Open f s) (t : List ℕ) (h : Reachi
   pub reached_flag : (a b : ℕ) → a < s.counts.models → b < s.counts.models → eqb (get_or t (32 * a + b) 0) 1 ≡ reached (file_in f s) a b
   unfolding reached
   reached_flag a b ha hb = reaching_flag (file_in f s) _ _ t h a b ha hb ∙ ap (λ (k : ℕ). reaches (submodels (file_in f s)) k a b) (sym (long f s o).file_models)
-
-  -- whether a is reached from itself
-  pub itself_flag : (a : ℕ) → a < s.counts.models → eqb (get_or t (33 * a) 0) 1 ≡ reached (file_in f s) a a
-  itself_flag a ha =
-      let e : 33 * a ≡ 32 * a + a = omega arith in
-      ap (λ (k : ℕ). eqb (get_or t k 0) 1) e ∙ reached_flag a a ha ha
 
 -- ---- an unknown that lists itself, by the table of classes
 

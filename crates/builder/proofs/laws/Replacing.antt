@@ -7,12 +7,11 @@ use native.Mathlib.Nat.{zero-add}
 use native.Mathlib.Omega.{arith}
 use borrow.Author.Tests.{eqb-true, eqb-false, eq-eqb, ne_eqb, leb-true, ltb-true, ltb-false}
 use lib.Dec.{eqb, ltb}
-use lib.ListN.{length, take, drop, get_or, set, replicate, length-set, length-append, length-take, length-drop, length-replicate, replicate-append-replicate, get_or-append, get_or-eq_default}
+use lib.ListN.{length, take, drop, get_or, set, replicate, length-set, length-append, length-take, length-drop, length-replicate, get_or-append, get_or-eq_default}
 use lib.Seq.{get_or-set_same, get_or-set_other, get_or-append-add, get_or-take, get_or-drop, length-take-le, take_at, drop_at}
 use Rattle.ast.specs.Tree.{Expr, Unknown}
 use Rattle.ast.specs.Subst.{Replacements}
 use Rattle.ast.specs.Words.{word_of}
-use Rattle.ast.specs.Bytes.{front}
 use Rattle.ast.specs.Nodes.{kind_at, name_at, op_at, size_at, is_expr, args_fit, tree_at, args_before}
 use Rattle.ast.specs.Levels.{by_table}
 use Rattle.ast.specs.Records.{unknown_count, first_unknown, unknown_of}
@@ -23,11 +22,9 @@ use Rattle.ast.proofs.Fitting.{node_ok, LastArg, last_arg}
 use Rattle.ast.proofs.Trees.{args_more, args_none}
 use Rattle.ast.proofs.Sizes.{count_before}
 use Rattle.ast.proofs.Filling.{rows_fit_set}
-use Rattle.ast.proofs.Fronts.{length_front}
 use Rattle.definitions.specs.Flatten.{unknown_name, replaced_name, replacements, model_at}
 use Rattle.builder.specs.Descent.{replaced_by, RowsIn, RowIn, RowsKept}
 use Rattle.builder.specs.Overlay.{over, replacing}
-use Rattle.area.proofs.HandedOut.{take_step, written_whole}
 use Rattle.builder.proofs.laws.OpenRecords.{passes, unknown_is, model_is}
 use Rattle.builder.proofs.laws.OpenStmts.{names_few}
 
@@ -228,13 +225,6 @@ module _ (f : List ℕ) (s : Sections) (m call : ℕ) where
 
 -- ---- a row cleared
 
-pub zeros_more : (row : List ℕ) (i : ℕ) → i < length row → take i row ≡ replicate i 0 → take (i + 1) (set row i 0) ≡ replicate (i + 1) 0
-zeros_more row i h e = take_step row i 0 h e ∙ replicate-append-replicate i 1 0
-
-pub zeros_front : (row row' : List ℕ) (n : ℕ) → take n row' ≡ replicate n 0 → drop n row' ≡ drop n row → row' ≡ front row (replicate n 0)
-unfolding front
-zeros_front row row' n e g = rw (length-replicate {A = ℕ} n 0) (written_whole row' (replicate n 0) (drop n row) n e g)
-
 module _ (P : ℕ → Type 0) (none : P 0) where
   all_append : (xs ys : List ℕ) → ((j : ℕ) → P (get_or xs j 0)) → ((j : ℕ) → P (get_or ys j 0)) → (j : ℕ) → P (get_or (xs ++ ys) j 0)
   all_append [] ys h g j = g j
@@ -259,18 +249,14 @@ module _ (names : ℕ) (row : List ℕ) (long : length row ≡ 256) (bare : Bare
       go true e = rw (zero-add n) at (bare 0 n p (ltb-true n 256 e))
       go false e = get_or-eq_default row 0 (omega (arith, ltb-false n 256 e))
 
-  bare_cleared : (e : List ℕ) → length e ≡ names → ((n : ℕ) → get_or e n 0 ≡ 0) → (n : ℕ) → get_or (front row e) n 0 ≡ 0
-  unfolding front
-  bare_cleared e l h =
-      all_append (λ (t : ℕ). t ≡ 0) refl e (drop (length e) row) h (λ j. rw (get_or-drop (length e) row j 0) (bare_behind (length e + j) (omega arith)))
+  bare_cleared : (e : List ℕ) → ((n : ℕ) → get_or e n 0 ≡ 0) → (n : ℕ) → get_or (e ++ drop names row) n 0 ≡ 0
+  bare_cleared e h = all_append (λ (t : ℕ). t ≡ 0) refl e (drop names row) h (λ j. rw (get_or-drop names row j 0) (bare_behind (names + j) (omega arith)))
 
 -- once the names of a row are cleared, all of it is
-pub cleared : (f : List ℕ) (s : Sections) (row row' : List ℕ) → Open f s → length row ≡ 256 → RowsIn f s row → row' ≡ front row (replicate s.counts.names 0)
-    → (length row' ≡ 256) × ((n : ℕ) → get_or row' n 0 ≡ 0)
-cleared f s row row' o l i e =
-    let z : List ℕ = replicate s.counts.names 0 in
-    let h : length z ≡ s.counts.names = length-replicate s.counts.names 0 in
-    rw e (length_front row z (omega (arith, names_few f s o)) ∙ l, bare_cleared s.counts.names row l i.bare z h (none_at s.counts.names))
+pub cleared : (f : List ℕ) (s : Sections) (row zeros : List ℕ) → Open f s → length row ≡ 256 → RowsIn f s row → zeros ≡ replicate (length (take s.counts.names row)) 0
+    → (length (zeros ++ drop s.counts.names row) ≡ 256) × ((n : ℕ) → get_or (zeros ++ drop s.counts.names row) n 0 ≡ 0)
+cleared f s row zeros o l i e =
+    rw e (simp (length-append, length-replicate, length-take, length-drop) (omega (arith, names_few f s o)), bare_cleared s.counts.names row l i.bare _ (none_at (length (take s.counts.names row))))
 
 -- ---- a row lent out of the rows of all levels
 
@@ -303,14 +289,6 @@ module _ (f : List ℕ) (s : Sections) (rows : List ℕ) (level : ℕ) (within :
 
   none_fits : Fits 0
   none_fits p = absurd (omega arith)
-
-  -- a level's row by itself
-  pub row_taken : (w : ℕ) → w ≡ 256 → RowsIn f s (take w (drop (256 * level) rows))
-  row_taken w e =
-      rw e record {
-        fit = all_take Fits none_fits 256 (drop (256 * level) rows) (all_drop Fits none_fits (256 * level) rows within.fit);
-        bare = bare_take s.counts.names 1 (drop (256 * level) rows) (bare_drop s.counts.names level rows within.bare);
-      }
 
   rows_joined : (ys : List ℕ) → length (take (256 * level) rows) ≡ 256 * level → length ys ≡ 256 → RowsIn f s ys → RowsIn f s (take (256 * level) rows ++ (ys ++ drop 256 (drop (256 * level) rows)))
   rows_joined ys l long own =

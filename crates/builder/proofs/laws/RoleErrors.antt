@@ -16,12 +16,15 @@ use Rattle.definitions.specs.Numbers.{name_not_found, wrong_start, rate_invalid}
 use Rattle.definitions.specs.Variables.{Error, error}
 use Rattle.definitions.specs.Roles as roles
 use Rattle.ast.specs.Numbers.{number_of}
-use Rattle.area.specs.Listing.{found_as, Lists, Room}
+use Rattle.area.specs.Listing.{kind_number, found_as, Lists, Room}
 use Rattle.area.specs.declared.errors.Found.{Found}
-use Rattle.area.specs.declared.errors.Found.TheVariants as is
+use Rattle.area.specs.declared.errors.ErrorKind.{ErrorKind}
+use Rattle.std.specs.Prelude as rust
 use Rattle.area.specs.declared.sections.Sizes.{Sizes}
+use Rattle.std.specs.declared.option.Option as answer
+use Rattle.std.specs.declared.option.Option.TheVariants.{None, Some}
 use Rattle.builder.specs.declared.allocation.roles.Start.{Start}
-use Rattle.builder.specs.declared.allocation.roles.Start.TheVariants.{Nothing, Short, Number}
+use Rattle.builder.specs.declared.allocation.roles.Start.TheVariants.{Short, Number}
 use Rattle.builder.specs.Allocating.{flat_in, flats_in, Flattened, entry_by, start_by, start_errors_by, rate_errors_by, role_errors_by, found_start, start_at, CallFits}
 use Rattle.area.specs.Sections.{area_nodes, area_stmt}
 use Rattle.builder.proofs.laws.LeftSides.{entry_none, entry_some, found_start_lem}
@@ -32,41 +35,43 @@ use Rattle.definitions.proofs.ErrorCount.{length_unless}
 -- ---- what a test finds
 
 -- an error with the span from word k of a record on
-pub found_spanned : (r : List ℕ) (k kind a b n m : ℕ) → a ≡ word_of r k → b ≡ word_of r (suc k) → n ≡ m → found_as (is.Error kind a b n) ≡ error kind (span_from r k) m ∷ []
+pub found_spanned : (r : List ℕ) (k : ℕ) (kind : ErrorKind) (a b n m : ℕ) → a ≡ word_of r k → b ≡ word_of r (suc k) → n ≡ m
+    → found_as (rust.Some (record { kind = kind; from = a; to = b; name = n })) ≡ error (kind_number kind) (span_from r k) m ∷ []
 unfolding found_as span_from
 found_spanned r k kind a b n m e g h = rw (e, g, h) refl
 
 module _ (b : Bool) (e : Error) where
   -- nothing where the test passes
-  pub found_none : b ≡ true → found_as is.Nothing ≡ unless b e
+  pub found_none : b ≡ true → found_as rust.None ≡ unless b e
   unfolding found_as unless
   found_none h = rw h refl
 
   -- the error where it fails
-  pub found_error : (x : Found) → b ≡ false → found_as x ≡ e ∷ [] → found_as x ≡ unless b e
+  pub found_error : (x : rust.Option Found) → b ≡ false → found_as x ≡ e ∷ [] → found_as x ≡ unless b e
   unfolding unless
   found_error x h g = rw h g
 
 -- ---- by the answer for a left side
 
 -- the name of the call of an answer with a number
-pub number_calls : (ns : List (List ℕ)) (i : ℕ) (s : Start) (v a : ℕ) → s ≡ Number v a → CallFits ns i s → name_at ns i < 256
+pub number_calls : (ns : List (List ℕ)) (i : ℕ) (s : answer.Option Start) (x : Start) (v a : ℕ) → s ≡ Some x → x ≡ Number v a → CallFits ns i s → name_at ns i < 256
 unfolding CallFits
-number_calls ns i s v a e f = rw e at f
+number_calls ns i s x v a e g f = rw (e, g) at f
 
-module _ (ns : List (List ℕ)) (lower : Float) (f : ℕ) (s : Start) where
-  -- a number is an error unless it is time's lower bound
-  pub errors_number : (v a : ℕ) → s ≡ Number v a → start_errors_by lower (found_start ns f s) ≡ unless (eq (number_of (bits_at ns (a - 1))) lower) (error wrong_start (span_at ns a) (suc f))
-  unfolding start_errors_by found_start
-  errors_number v a e = rw e refl
+module _ (ns : List (List ℕ)) (lower : Float) (f : ℕ) (s : answer.Option Start) where
+  module _ (x : Start) (e : s ≡ Some x) where
+    -- a number is an error unless it is time's lower bound
+    pub errors_number : (v a : ℕ) → x ≡ Number v a → start_errors_by lower (found_start ns f s) ≡ unless (eq (number_of (bits_at ns (a - 1))) lower) (error wrong_start (span_at ns a) (suc f))
+    unfolding start_errors_by found_start
+    errors_number v a g = rw (e, g) refl
 
-  -- one too short has none
-  pub errors_short : s ≡ Short → start_errors_by lower (found_start ns f s) ≡ []
-  unfolding start_errors_by found_start
-  errors_short e = rw e refl
+    -- one too short has none
+    pub errors_short : x ≡ Short → start_errors_by lower (found_start ns f s) ≡ []
+    unfolding start_errors_by found_start
+    errors_short g = rw (e, g) refl
 
   -- nothing of the kind has none
-  pub errors_nothing : s ≡ Nothing → start_errors_by lower (found_start ns f s) ≡ []
+  pub errors_nothing : s ≡ None → start_errors_by lower (found_start ns f s) ≡ []
   unfolding start_errors_by found_start
   errors_nothing e = rw e refl
 
@@ -77,14 +82,14 @@ module _ (numbers rates : List ℕ) (s : Span) (n f : ℕ) (g : f ≡ n) where
   one_more = omega arith
 
   -- a name that is no variable's
-  pub errors_unknown : get_or numbers f 0 ≡ 0 → error name_not_found s (1 + f) ∷ [] ≡ rate_errors_by rates n s (entry_by numbers n)
+  pub errors_unknown : (1 ≤ get_or numbers f 0 → ⊥) → error name_not_found s (1 + f) ∷ [] ≡ rate_errors_by rates n s (entry_by numbers n)
   unfolding rate_errors_by
   errors_unknown e = rw (entry_none numbers n (rw (← g) e), one_more) refl
 
-  -- a variable's name is an error unless the equation may go to the variable
-  pub errors_known : (get_or numbers f 0 ≡ 0 → ⊥) → unless (eqb (get_or rates (get_or numbers f 0 - 1) 0) 1) (error rate_invalid s (1 + f)) ≡ rate_errors_by rates n s (entry_by numbers n)
+  -- a variable's name is an error unless the equation may go to variable v
+  pub errors_known : (v : ℕ) → (1 ≤ get_or numbers f 0) × (v ≡ get_or numbers f 0 - 1) → unless (eqb (get_or rates v 0) 1) (error rate_invalid s (1 + f)) ≡ rate_errors_by rates n s (entry_by numbers n)
   unfolding rate_errors_by
-  errors_known e = rw (entry_some numbers n (rw (← g) e), one_more, g) refl
+  errors_known v e = rw (entry_some numbers n v (rw g at e), one_more) refl
 
 -- ---- of statement i
 
@@ -131,7 +136,7 @@ module _ (b : List ℕ) (z : Sizes) (g : Flat → List Error) (d d' : List ℕ) 
         (x.long, omega (arith, x.few))
 
     -- listed behind those before
-    pub statement_goes : (x : Found) → found_as x ≡ g (flat_in b z i) → (d'' : List ℕ) (r' : ℕ) → Lists d' r (found_as x) r' d'' → Lists d n (each g (take (i + 1) (flats_in b z))) r' d''
+    pub statement_goes : (x : rust.Option Found) → found_as x ≡ g (flat_in b z i) → (d'' : List ℕ) (r' : ℕ) → Lists d' r (found_as x) r' d'' → Lists d n (each g (take (i + 1) (flats_in b z))) r' d''
     statement_goes x e d'' r' q = run_goes g (flats_in b z) (flat_in b z i) i there (flat_here b z i h) d d' d'' n r r' p (rw e at q)
 
   -- up to the last they are all

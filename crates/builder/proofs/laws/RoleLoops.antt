@@ -1,70 +1,67 @@
--- Loops over the roles of statements: whether one is among them, how many are none, and the states that none goes to.
-use mathlib.Core.Path.{◌≡◌, refl, sym, ap, ◌∙◌}
-use mathlib.Core.Bool.{Bool, true, false, cond, ◌||◌}
-use mathlib.Core.List.{List, [], ◌∷◌, ◌++◌, append-nil}
-use Prim.Native.Nat.{ℕ, ◌+◌, ◌%◌, ◌≤◌, ◌<◌}
+-- The code's roles of statements: whether a rate equation of a variable is among them, how many are neither, and the states that none goes to.
+use mathlib.Core.Path.{◌≡◌, refl, sym}
+use mathlib.Core.Bool.{Bool, true, false, cond}
+use mathlib.Core.List.{List, [], ◌∷◌, ◌++◌, map, append-nil}
+use Prim.Native.Nat.{ℕ, zero, suc, ◌+◌, ◌≤◌}
 use native.Mathlib.Omega.{arith}
 use native.Mathlib.Numerals.{add-one}
-use lib.Dec.{eqb}
-use lib.ListN.{length, take, drop, get_or, set, length-set}
-use lib.Seq.{length-take-le, get_or-take, take-suc-set}
-use Rattle.functions.specs.Lists.{any, member, times, flag}
-use Rattle.functions.proofs.Lists.{drop_here, drop_past}
+use lib.ListN.{length, length-append}
+use Rattle.std.specs.List.{list_any, count_by}
+use Rattle.std.proofs.lemmas.List.Recursion.{is_count_by}
+use Rattle.functions.specs.Lists.{any, keep}
+use Rattle.definitions.specs.Roles as definitions
+use Rattle.definitions.specs.Allocate.{is_rate_of, is_free, left_count}
+use Rattle.builder.specs.declared.allocation.roles.Role.{Role}
+use Rattle.builder.specs.declared.allocation.roles.Role.TheVariants.{Neither, Initial, Rate}
+use Rattle.builder.specs.contracts.allocation.roles.RolePartialEq.TheImpl.{ghosts}
+use Rattle.builder.specs.Allocating.{role_as}
 use Rattle.builder.specs.Tables.{lacks_in, lacking_in}
+use Rattle.builder.proofs.laws.FateLaws.{eqb_turn}
 
-module _ (xs : List ℕ) (n : ℕ) (long : n ≤ length xs) where
-  cut : length (take n xs) ≡ n
-  cut = length-take-le n xs long
+-- ---- among the roles
 
-  pub member_here : (x i : ℕ) → i < n → member x (drop i (take n xs)) ≡ (eqb x (get_or xs i 0) || member x (drop (i + 1) (take n xs)))
-  unfolding member any
-  member_here x i h = ap (any (eqb x)) (drop_here (take n xs) 0 i (omega (arith, cut))) ∙ rw (get_or-take n xs i 0 h) refl
+-- a rate equation of v
+is_rate : (v : ℕ) (r : Role) → ghosts.eq r (Rate v) ≡ is_rate_of v (role_as r)
+unfolding is_rate_of role_as
+is_rate v Neither = refl
+is_rate v (Initial u) = refl
+is_rate v (Rate u) = eqb_turn u v
 
-  pub member_end : (x i : ℕ) → n ≤ i → member x (drop i (take n xs)) ≡ false
-  unfolding member any
-  member_end x i h = ap (any (eqb x)) (drop_past (take n xs) i (omega (arith, cut)))
+pub any_rate : (v : ℕ) (rs : List Role) → list_any (λ r. ghosts.eq r (Rate v)) rs ≡ any (is_rate_of v) (map role_as rs)
+unfolding any
+any_rate v [] = refl
+any_rate v (r ∷ rs) = rw (is_rate v r, any_rate v rs) refl
 
-  pub times_here : (p : ℕ → Bool) (i : ℕ) → i < n → times p (drop i (take n xs)) ≡ flag (p (get_or xs i 0)) + times p (drop (i + 1) (take n xs))
-  unfolding times
-  times_here p i h = ap (times p) (drop_here (take n xs) 0 i (omega (arith, cut))) ∙ rw (get_or-take n xs i 0 h) refl
+-- how many are neither
+pub neither_count : (rs : List Role) → count_by (λ r. ghosts.eq r Neither) rs ≡ left_count (map role_as rs)
+unfolding left_count keep is_free role_as
+neither_count rs = sym (is_count_by (λ xs. left_count (map role_as xs)) (λ r. ghosts.eq r Neither) refl step rs)
+  where
+    step : (r : Role) (xs : List Role) → left_count (map role_as (r ∷ xs)) ≡ cond (ghosts.eq r Neither) (1 + left_count (map role_as xs)) (left_count (map role_as xs))
+    step Neither xs = omega arith
+    step (Initial v) xs = refl
+    step (Rate v) xs = refl
 
-  pub times_end : (p : ℕ → Bool) (i : ℕ) → n ≤ i → times p (drop i (take n xs)) ≡ 0
-  unfolding times
-  times_end p i h = ap (times p) (drop_past (take n xs) i (omega (arith, cut)))
+-- ---- the states that lack an equation
 
--- ---- the states that lack an equation, one more looked at
-
--- Those below v, from the front of a queue.
-pub record Queued (roles states : List ℕ) (v count : ℕ) (queue : List ℕ) : Type 0 where
-  pub few : count ≤ v
-  pub long : length queue ≡ 129
-  pub are : take count queue ≡ lacking_in roles states v
-
-module _ (roles states : List ℕ) where
+module _ (roles : List definitions.Role) (states : List ℕ) where
   lacking_more : (v : ℕ) → lacking_in roles states (v + 1) ≡ lacking_in roles states v ++ cond (lacks_in roles states v) (v ∷ []) []
   unfolding lacking_in
   lacking_more v = rw add-one refl
 
-  kept_out : (v : ℕ) → lacks_in roles states v ≡ false → lacking_in roles states (v + 1) ≡ lacking_in roles states v
-  kept_out v e = lacking_more v ∙ rw e (append-nil (lacking_in roles states v))
+  -- variable v is one more of them, or not
+  pub lacking_with : (v : ℕ) → lacks_in roles states v ≡ true → lacking_in roles states (v + 1) ≡ lacking_in roles states v ++ (v ∷ [])
+  lacking_with v e = rw e at (lacking_more v)
 
-  taken_in : (v k : ℕ) (xs : List ℕ) → lacks_in roles states v ≡ true → k < length xs → take k xs ≡ lacking_in roles states v → take (k + 1) (set xs k v) ≡ lacking_in roles states (v + 1)
-  taken_in v k xs e h g =
-      let s : take (k + 1) (set xs k v) ≡ take k xs ++ (v ∷ []) = rw add-one (take-suc-set xs k v h) in
-      s ∙ rw g (sym (lacking_more v ∙ rw e refl))
+  pub lacking_without : (v : ℕ) → lacks_in roles states v ≡ false → lacking_in roles states (v + 1) ≡ lacking_in roles states v
+  lacking_without v e = rw (e, append-nil) at (lacking_more v)
 
-  -- none below 0
-  pub queued_none : (count : ℕ) (queue : List ℕ) → count ≡ 0 → length queue ≡ 129 → Queued roles states 0 count queue
+  -- no more of them than variables
+  pub lacking_few : (n : ℕ) → length (lacking_in roles states n) ≤ n
   unfolding lacking_in
-  queued_none count queue e l = record { few = omega arith; long = l; are = rw e refl }
-
-  module _ (v count : ℕ) (queue : List ℕ) (q : Queued roles states v count queue) (t : Bool) (e : t ≡ lacks_in roles states v) where
-    -- variable v lacks one
-    pub queued_in : v < 129 → t ≡ true → Queued roles states (v + 1) (count + 1) (set queue count (v % 4294967296))
-    queued_in h g =
-        let m : v % 4294967296 ≡ v = omega arith in
-        record { few = omega (arith, q.few); long = simp length-set q.long; are = rw m (taken_in v count queue (sym e ∙ g) (omega (arith, q.few, q.long)) q.are) }
-
-    -- or not
-    pub queued_out : t ≡ false → Queued roles states (v + 1) count queue
-    queued_out g = record { few = omega (arith, q.few); long = q.long; are = q.are ∙ sym (kept_out v (sym e ∙ g)) }
+  lacking_few zero = omega arith
+  lacking_few (suc n) = go (lacks_in roles states n) (lacking_few n)
+    where
+      go : (b : Bool) → length (lacking_in roles states n) ≤ n → length (lacking_in roles states n ++ cond b (n ∷ []) []) ≤ suc n
+      go true l = simp length-append (omega arith)
+      go false l = simp length-append (omega arith)

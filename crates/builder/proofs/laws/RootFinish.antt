@@ -60,7 +60,7 @@ module _ (f : List ℕ) (s : Sections) (classes callees numbers : List ℕ) (m i
   allocate_needs b u = ((s.counts.names, unfated_flattened f s m z _ b k.is_open k.sizes u), numbered f s m classes numbers z k _ _ b u unheld)
 
   module _ (b b₁ : List ℕ) (u : Unfated (file_in f s) m z b) (left states : ℕ)
-      (e : (left ≡ times (eqb 0) (roles_by b z numbers time.lower)) × (states ≡ length (lacking_by b z numbers time.lower)) × (b₁ ≡ put b (stmts_at z) (encode (fated_by b z numbers time.lower)))) where
+      (e : (left ≡ left_count (roles_by b z numbers time.lower)) × (states ≡ length (lacking_by b z numbers time.lower)) × (b₁ ≡ put b (stmts_at z) (encode (fated_by b z numbers time.lower)))) where
     pub left_is : left ≡ left_count (roles_at (file_in f s) m)
     left_is = e.0 ∙ left_tie f s m classes numbers z k time.lower lower b u
 

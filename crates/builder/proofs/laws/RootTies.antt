@@ -13,13 +13,14 @@ use Rattle.ast.specs.Tree.{Flat, equation, rate, flat_size}
 use Rattle.ast.specs.Opens.{file_in}
 use Rattle.ast.specs.declared.sections.Sections.{Sections}
 use Rattle.definitions.specs.Flatten.{model_at}
-use Rattle.definitions.specs.Roles.{role_of, role_errors}
-use Rattle.definitions.specs.Allocate.{Fate, paired_states, lacking, left_count, starting_errors}
+use Rattle.definitions.specs.Roles.{Role, role_of, role_errors}
+use Rattle.definitions.specs.Allocate.{Fate, fates_of, paired_states, lacking, left_count, starting_errors}
 use Rattle.definitions.specs.Answer.{flat_words, flat_records, variable_records}
 use Rattle.definitions.specs.Build.{answer_from}
 use Rattle.area.specs.Sections.{area_nodes, area_stmts, area_vars, column}
 use Rattle.area.specs.declared.sections.Sizes.{Sizes}
-use Rattle.builder.specs.Tables.{role_number, lacking_in}
+use Rattle.builder.specs.Tables.{lacking_in}
+use Rattle.builder.specs.Fating.{fate_pair}
 use Rattle.builder.specs.Unfated.{unfated_words, unfated}
 use Rattle.builder.specs.Fating as fating
 use Rattle.builder.specs.Allocating.{flats_in, names_in, states_in, indexes_in, rates_in, role_errors_by, Flattened}
@@ -27,7 +28,7 @@ use Rattle.builder.specs.Starting.{starting_in, Righted}
 use Rattle.builder.specs.VarRecords.{held_from}
 use Rattle.builder.specs.Root.{flats_of, scope_at, time_at, roles_at, fates_at, answer_at, Known, Unfated, Fated, Held, roles_by, lacking_by, queue_by, fated_by, errors_by}
 use Rattle.builder.proofs.laws.Allocations.{roles_same, all_errors_same}
-use Rattle.builder.proofs.laws.FateLaws.{left_number, lacking_numbered, queue_numbered, fates_numbered, fated_flats, record_pair, fate_pair, held_in_lem, conditions_in}
+use Rattle.builder.proofs.laws.FateLaws.{lacking_tabled, fated_flats, record_pair, held_in_lem, conditions_in}
 use Rattle.builder.proofs.laws.FlatsBack.{nodes_read, unfated_stmts, fated_stmts, unfated_flats, unfated_flattened, fated_flats as fated-read, fated_flattened, fates_count, right_sides}
 use Rattle.builder.proofs.laws.StartingTies.{records_pairs, starting_tie}
 use Rattle.builder.proofs.laws.VarAnswers.{held_are}
@@ -53,30 +54,27 @@ module _ (f : List ℕ) (s : Sections) (m : ℕ) (classes numbers : List ℕ) (z
     formed : Flattened (length (scope_at (file_in f s) m).names) b z
     formed = rw (scope_names f s m) (unfated_flattened f s m z _ b k.is_open k.sizes u)
 
-    roles_tie : roles_by b z numbers lower ≡ map role_number (roles_at (file_in f s) m)
+    roles_tie : roles_by b z numbers lower ≡ roles_at (file_in f s) m
     unfolding roles_by
     roles_tie =
         roles_same (scope_at (file_in f s) m) (time_at (file_in f s) m) numbers (indexes_in b z) (rates_in b z) lower (agree f s m classes numbers z k _ _ b u (unheld_columns (scope_at (file_in f s) m).vars) lower el) b z formed
-        ∙ ap (map (λ q. role_number (role_of (scope_at (file_in f s) m) (time_at (file_in f s) m) q))) (unfated_flats f s m z _ b k.is_open k.sizes u)
-        ∙ sym (map-map role_number (role_of (scope_at (file_in f s) m) (time_at (file_in f s) m)) (flats_of (file_in f s) m))
+        ∙ ap (map (role_of (scope_at (file_in f s) m) (time_at (file_in f s) m))) (unfated_flats f s m z _ b k.is_open k.sizes u)
 
-    pub left_tie : times (eqb 0) (roles_by b z numbers lower) ≡ left_count (roles_at (file_in f s) m)
-    left_tie = ap (times (eqb 0)) roles_tie ∙ left_number (roles_at (file_in f s) m)
+    pub left_tie : left_count (roles_by b z numbers lower) ≡ left_count (roles_at (file_in f s) m)
+    left_tie = ap left_count roles_tie
 
     lacking_tie : lacking_by b z numbers lower ≡ lacking (scope_at (file_in f s) m).vars (roles_at (file_in f s) m)
     unfolding lacking_by
     lacking_tie =
-        ap₂ (λ (l : List ℕ) (n : ℕ). lacking_in l (states_in b z) n) roles_tie k.sizes.vars
-        ∙ lacking_numbered (scope_at (file_in f s) m).vars (roles_at (file_in f s) m) (states_in b z) (begins f s m classes numbers z k _ _ b u (unheld_columns (scope_at (file_in f s) m).vars))
+        ap₂ (λ (l : List Role) (n : ℕ). lacking_in l (states_in b z) n) roles_tie k.sizes.vars
+        ∙ lacking_tabled (scope_at (file_in f s) m).vars (roles_at (file_in f s) m) (states_in b z) (begins f s m classes numbers z k _ _ b u (unheld_columns (scope_at (file_in f s) m).vars))
 
     pub states_tie : length (lacking_by b z numbers lower) ≡ length (lacking (scope_at (file_in f s) m).vars (roles_at (file_in f s) m))
     states_tie = ap length lacking_tie
 
     queue_tie : queue_by b z numbers lower ≡ paired_states (scope_at (file_in f s) m).vars (roles_at (file_in f s) m)
-    unfolding queue_by lacking_by
-    queue_tie =
-        ap₂ (λ (l : List ℕ) (n : ℕ). cond (eqb (times (eqb 0) l) (length (lacking_in l (states_in b z) n))) (lacking_in l (states_in b z) n) []) roles_tie k.sizes.vars
-        ∙ queue_numbered (scope_at (file_in f s) m).vars (roles_at (file_in f s) m) (states_in b z) (begins f s m classes numbers z k _ _ b u (unheld_columns (scope_at (file_in f s) m).vars))
+    unfolding queue_by paired_states
+    queue_tie = rw (lacking_tie, roles_tie) refl
 
     -- the records with their fates
     pub fated_tie : fated_by b z numbers lower ≡ flat_records 0 (flats_of (file_in f s) m) (fates_at (file_in f s) m)
@@ -84,9 +82,8 @@ module _ (f : List ℕ) (s : Sections) (m : ℕ) (classes numbers : List ℕ) (z
     fated_tie =
         let qs = flats_of (file_in f s) m in
         let fs = fates_at (file_in f s) m in
-        let x : fating.fates_in (queue_by b z numbers lower) (roles_by b z numbers lower) ≡ map fate_pair fs =
-        ap₂ (λ (q r : List ℕ). fating.fates_in q r) queue_tie roles_tie ∙ sym (fates_numbered (paired_states (scope_at (file_in f s) m).vars (roles_at (file_in f s) m)) (roles_at (file_in f s) m)) in
-        ap₂ fating.fated (unfated_stmts (file_in f s) m z _ b k.sizes u) x
+        let x : fates_of (queue_by b z numbers lower) (roles_by b z numbers lower) ≡ fs = ap₂ fates_of queue_tie roles_tie in
+        ap₂ fating.fated (unfated_stmts (file_in f s) m z _ b k.sizes u) (ap (map fate_pair) x)
         ∙ fated_flats 0 (unfated 0 qs) qs fs (same_six 0 qs fs (fates_count (file_in f s) m)) (fates_count (file_in f s) m)
 
   -- ---- with the fates

@@ -7,11 +7,9 @@ use Prim.Native.Nat.{ℕ, ◌+◌, ◌-◌, ◌*◌, ◌≤◌, ◌<◌}
 use native.Mathlib.Omega.{arith}
 use native.Mathlib.Numerals.{add-one}
 use native.Mathlib.Nat.{eq-or-lt_of_le}
-use native.Mathlib.Decide.{ℕ_discrete}
 use lib.Dec.{eqb}
-use lib.ListN.{length, take, get_or, set, length-set, replicate, length-replicate, get_or-replicate}
-use lib.Seq.{take-suc, take_all, get_or-set_same, get_or-set_other}
-use borrow.Author.Tests.{eq-eqb, ne_eqb}
+use lib.ListN.{length, take, get_or, replicate, length-replicate, get_or-replicate}
+use lib.Seq.{take-suc, take_all}
 use Rattle.functions.specs.Lists.{any, each, reaches, flag}
 use Rattle.ast.specs.Tree.{Stmt, File}
 use Rattle.definitions.specs.Flatten.{model_at, stmt_models, submodels}
@@ -56,42 +54,6 @@ flag_or true true = refl
 flag_or true false = refl
 flag_or false true = refl
 flag_or false false = refl
-
--- ---- the entries of one row
-
-module _ (a : ℕ) (was : List ℕ) where
-  -- none is set yet
-  pub added_none : (p : ℕ → Bool) → Added 0 a p was was
-  added_none p = record { size = refl; row = λ y h. absurd (omega arith); before = λ z h. refl; behind = λ z h. refl }
-
-  -- one more
-  pub added_more : (p : ℕ → Bool) (b v : ℕ) (t : List ℕ) → 32 * a + b < length was → v ≡ cond (p b) 1 (get_or t (32 * a + b) 0) → Added b a p was t → Added (b + 1) a p was (set t (32 * a + b) v)
-  added_more p b v t m e s = record {
-    size = length-set t (32 * a + b) v ∙ s.size;
-    row = λ y h. ⊎_elim (λ z. here y z) (λ z. earlier y z) (up_to y b h);
-    before = λ z h. get_or-set_other t (32 * a + b) z v 0 (λ g. omega arith) ∙ s.before z h;
-    behind = λ z h. get_or-set_other t (32 * a + b) z v 0 (λ g. omega arith) ∙ s.behind z (omega arith);
-  }
-    where
-      here : (y : ℕ) → y ≡ b → get_or (set t (32 * a + b) v) (32 * a + y) 0 ≡ cond (p y) 1 (get_or was (32 * a + y) 0)
-      here y z = rw z (get_or-set_same t (32 * a + b) v 0 (omega (arith, s.size)) ∙ e ∙ ap (λ (x : ℕ). cond (p b) 1 x) (s.behind (32 * a + b) (omega arith)))
-
-      earlier : (y : ℕ) → y < b → get_or (set t (32 * a + b) v) (32 * a + y) 0 ≡ cond (p y) 1 (get_or was (32 * a + y) 0)
-      earlier y z = get_or-set_other t (32 * a + b) (32 * a + y) v 0 (λ g. omega arith) ∙ s.row y z
-
-  -- model c itself comes last
-  pub added_last : (n c : ℕ) (old t : List ℕ) → c < n → 32 * a + n ≤ length was → Added n a (λ y. eqb (get_or old (32 * c + y) 0) 1) was t → Added n a (λ y. onward old y c) was (set t (32 * a + c) 1)
-  unfolding onward
-  added_last n c old t l m s = record {
-    size = length-set t (32 * a + c) 1 ∙ s.size;
-    row = λ y h. go y h (ℕ_discrete c y);
-    before = λ z h. get_or-set_other t (32 * a + c) z 1 0 (λ g. omega arith) ∙ s.before z h;
-    behind = λ z h. get_or-set_other t (32 * a + c) z 1 0 (λ g. omega arith) ∙ s.behind z h;
-  }
-    where
-      go : (y : ℕ) → y < n → Dec (c ≡ y) → get_or (set t (32 * a + c) 1) (32 * a + y) 0 ≡ cond (eqb c y || eqb (get_or old (32 * c + y) 0) 1) 1 (get_or was (32 * a + y) 0)
-      go y h (yes z) = rw (eq-eqb c y z, ← z) (get_or-set_same t (32 * a + c) 1 0 (omega (arith, s.size)))
-      go y h (no z) = rw (ne_eqb c y z) (get_or-set_other t (32 * a + c) (32 * a + y) 1 0 (λ g. z (omega arith)) ∙ s.row y h)
 
 module _ (f : File) where
   -- one step on from model a, statement by statement

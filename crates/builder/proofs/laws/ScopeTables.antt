@@ -12,7 +12,7 @@ use lib.Dec.{eqb, leb}
 use lib.ListN.{length, take, drop, get_or, set, length-set, length-append}
 use lib.Seq.{take-suc, take_all, get_or-set_same, get_or-set_other}
 use Rattle.functions.specs.Lists.{any, place_from, place, plus_one, text, same_text, member, flag, each, sum_of, to_list}
-use Rattle.functions.proofs.Lists.{clash, drop_here, drop_past}
+use Rattle.functions.proofs.Lists.{clash}
 use Rattle.ast.specs.Tree.{Unknown}
 use Rattle.ast.specs.Words.{word_of}
 use Rattle.ast.specs.Records.{unknown_of}
@@ -23,39 +23,17 @@ use Rattle.definitions.specs.Names.{text_of, spells, is_time, is_reserved, time_
 use Rattle.definitions.specs.Variables.{Variable, declare, variable_names, number_of, kept_deps, variable, variables_of, no_variable, at}
 use Rattle.definitions.specs.Check.{Scope, lookup}
 use Rattle.definitions.specs.Flatten.{model_at, scope_of}
-use Rattle.builder.specs.Tables.{class_of, Classes, Marks, kept_in, entry_of, VarsOf}
+use Rattle.builder.specs.Tables.{Classes, Marks, kept_in, entry_of, VarsOf}
 use Rattle.builder.specs.Checking.{scope_in, unknown_in}
 use Rattle.builder.proofs.laws.Classes.{class_time, class_reserved}
-use Rattle.builder.proofs.laws.Amounts.{sum_next}
 use Rattle.builder.proofs.laws.PutWords.{each_fits, of_named}
 use Rattle.definitions.proofs.ListLaws.{any_append, place_below}
 
--- ---- the first name that is t
+-- ---- whether name n is t
 
-module _ (names : List (List ℕ)) (cs : List ℕ) (h : Classes names cs) (n : ℕ) where
-  abbrev pub time_from : Option ℕ
-  time_from = place_from n (same_text (text "t")) (drop n names)
-
-  time_test : n < length names → same_text (text "t") (get_or names n []) ≡ eqb (get_or cs n 0) 0
-  unfolding is_time spells text_of
-  time_test l = rw (h.class n l) (sym (class_time names n))
-
-  time_here : n < length names → time_from ≡ cond (eqb (get_or cs n 0) 0) (some n) (place_from (n + 1) (same_text (text "t")) (drop (n + 1) names))
-  unfolding place_from
-  time_here l =
-      let e = time_test l in
-      ap (place_from n (same_text (text "t"))) (drop_here names [] n l) ∙ rw (e, sym (add-one n)) refl
-
-  pub time_yes : n < length names → eqb (get_or cs n 0) 0 ≡ true → plus_one time_from ≡ n + 1
-  unfolding plus_one
-  time_yes l e = ap plus_one (time_here l) ∙ rw e (sym (add-one n))
-
-  pub time_no : n < length names → eqb (get_or cs n 0) 0 ≡ false → time_from ≡ place_from (n + 1) (same_text (text "t")) (drop (n + 1) names)
-  time_no l e = time_here l ∙ rw e refl
-
-  pub time_end : length names ≤ n → plus_one time_from ≡ 0
-  unfolding place_from plus_one
-  time_end l = ap (λ (xs : List (List ℕ)). plus_one (place_from n (same_text (text "t")) xs)) (drop_past names n l)
+pub time_test : (names : List (List ℕ)) (cs : List ℕ) → Classes names cs → (n : ℕ) → n < length names → same_text (text "t") (get_or names n []) ≡ eqb (get_or cs n 0) 0
+unfolding is_time spells text_of
+time_test names cs h n l = rw (h.class n l) (sym (class_time names n))
 
 -- ---- the names of variables, one unknown more
 
@@ -68,10 +46,14 @@ module _ (names : List (List ℕ)) where
   declare_last [] vs u = refl
   declare_last (w ∷ us) vs u = declare_last us _ u
 
-  member_more : (y : ℕ) (vs : List ℕ) (u : Unknown) (b : Bool) → is_reserved names u.name ≡ b → member y (one_more vs u) ≡ cond b (member y vs) (member y vs || eqb y (suc u.name))
+  -- a reserved name adds none
+  more_reserved : (vs : List ℕ) (u : Unknown) → is_reserved names u.name ≡ true → one_more vs u ≡ vs
+  more_reserved vs u e = rw e refl
+
+  -- another is one of them
+  more_member : (y : ℕ) (vs : List ℕ) (u : Unknown) → is_reserved names u.name ≡ false → member y (one_more vs u) ≡ (member y vs || eqb y (suc u.name))
   unfolding member any
-  member_more y vs u true e = rw e refl
-  member_more y vs u false e = rw e (go (member (suc u.name) vs) refl)
+  more_member y vs u e = rw e (go (member (suc u.name) vs) refl)
     where
       go : (d : Bool) → member (suc u.name) vs ≡ d → member y (cond d vs (vs ++ suc u.name ∷ [])) ≡ (member y vs || eqb y (suc u.name))
       go true q = same (eqb y (suc u.name)) refl
@@ -81,51 +63,18 @@ module _ (names : List (List ℕ)) where
           same false z = sym (or-false (member y vs))
       go false q = any_append (eqb y) vs (suc u.name ∷ []) ∙ ap (λ (x : Bool). any (eqb y) vs || x) (or-false (eqb y (suc u.name)))
 
-  -- the marks, with the name of one unknown more
-  pub marks_more : (n : ℕ) (vs t : List ℕ) (u : Unknown) (x : ℕ) (b : Bool) → x ≡ u.name → x < n → n ≤ 256 → b ≡ is_reserved names x → Marks n vs t → Marks n (one_more vs u) (set t x (cond b (get_or t x 0) 1))
+  -- the marks, with its name
+  marks_more : (n : ℕ) (vs t : List ℕ) (u : Unknown) → u.name < n → n ≤ 256 → is_reserved names u.name ≡ false → Marks n vs t → Marks n (one_more vs u) (set t u.name 1)
   unfolding flag
-  marks_more n vs t u x b ex l w eb m = record { long = simp length-set m.long; mark = λ k h. go k h (ℕ_discrete k x) }
+  marks_more n vs t u l w e m = record { long = simp length-set m.long; mark = λ k h. rw (more_member (suc k) vs u e) (go k h (ℕ_discrete k u.name)) }
     where
-      er : is_reserved names u.name ≡ b
-      er = ap (is_reserved names) (sym ex) ∙ sym eb
-
-      at_x : (d : Bool) → member (suc x) (one_more vs u) ≡ cond d (member (suc x) vs) (member (suc x) vs || eqb (suc x) (suc u.name)) → cond d (get_or t x 0) 1 ≡ flag (member (suc x) (one_more vs u))
-      at_x true e = rw e (m.mark x l)
-      at_x false e =
-          let z : eqb (suc x) (suc u.name) ≡ true = eq-eqb _ _ (ap suc ex) in
-          rw (e, z, or-true (member (suc x) vs)) refl
-
-      off : (k : ℕ) → (k ≡ x → ⊥) → (d : Bool) → member (suc k) (one_more vs u) ≡ cond d (member (suc k) vs) (member (suc k) vs || eqb (suc k) (suc u.name)) → member (suc k) vs ≡ member (suc k) (one_more vs u)
-      off k q true e = sym e
-      off k q false e =
-          let z : eqb (suc k) (suc u.name) ≡ false = ne_eqb _ _ (λ (p : suc k ≡ suc u.name). q (omega (arith, ex, p))) in
-          sym (e ∙ rw (z, or-false (member (suc k) vs)) refl)
-
-      go : (k : ℕ) → k < n → Dec (k ≡ x) → get_or (set t x (cond b (get_or t x 0) 1)) k 0 ≡ flag (member (suc k) (one_more vs u))
-      go k h (yes q) = rw q (get_or-set_same t x _ 0 (omega (arith, m.long)) ∙ at_x b (member_more (suc x) vs u b er))
-      go k h (no q) = get_or-set_other t x k _ 0 q ∙ m.mark k h ∙ ap flag (off k q b (member_more (suc k) vs u b er))
-
--- ---- dependents that have an entry
-
-pub flag_small : (b : Bool) → flag b ≤ 1
-unfolding flag
-flag_small true = omega arith
-flag_small false = omega arith
-
-module _ (t ds : List ℕ) where
-  pub kept_none : 0 ≡ kept_in t (take 0 ds)
-  unfolding kept_in sum_of
-  kept_none = refl
-
-  pub kept_next : (i x r total : ℕ) → i < length ds → x ≡ get_or ds i 0 → r ≡ flag (not (eqb (get_or t x 0) 0)) → total ≡ kept_in t (take i ds) → total + r ≡ kept_in t (take (i + 1) ds)
-  unfolding kept_in
-  kept_next i x r total h ex er et =
-      let s = sum_next (λ d. flag (not (eqb (get_or t d 0) 0))) ds i 0 h in
-      let q : r ≡ flag (not (eqb (get_or t (get_or ds i 0) 0) 0)) = er ∙ ap (λ (d : ℕ). flag (not (eqb (get_or t d 0) 0))) ex in
-      omega (arith, s, q, et)
-
-  pub kept_all : (i : ℕ) → length ds ≤ i → kept_in t (take i ds) ≡ kept_in t ds
-  kept_all i h = ap (kept_in t) (take_all i ds h)
+      go : (k : ℕ) → k < n → Dec (k ≡ u.name) → get_or (set t u.name 1) k 0 ≡ flag (member (suc k) vs || eqb (suc k) (suc u.name))
+      go k h (yes q) =
+          let z : eqb (suc k) (suc u.name) ≡ true = eq-eqb _ _ (ap suc q) in
+          rw (z, or-true (member (suc k) vs), q) (get_or-set_same t u.name 1 0 (omega (arith, m.long)))
+      go k h (no q) =
+          let z : eqb (suc k) (suc u.name) ≡ false = ne_eqb _ _ (λ (p : suc k ≡ suc u.name). q (omega (arith, p))) in
+          rw (z, or-false (member (suc k) vs)) (get_or-set_other t u.name k 1 0 q ∙ m.mark k h)
 
 -- ---- marks, from t's on
 
@@ -161,16 +110,20 @@ module _ (n x : ℕ) (t : List ℕ) (long : length t ≡ 256) (e : (k : ℕ) →
 
 -- ---- marks with the unknown at place i, u, whose name is x
 
-module _ (names : List (List ℕ)) (cs : List ℕ) (h : Classes names cs) (us : List Unknown) (vs : List ℕ) (u : Unknown) (i : ℕ) (l : i < length us) (e : get_or us i u ≡ u) where
+module _ (names : List (List ℕ)) (cs : List ℕ) (h : Classes names cs) (us : List Unknown) (vs : List ℕ) (u : Unknown) (i : ℕ) (l : i < length us) (e : get_or us i u ≡ u)
+    (n x : ℕ) (b : Bool) (t : List ℕ) (en : length names ≡ n) (ex : x ≡ u.name) (lx : x < n) (eb : b ≡ leb (get_or cs x 0) 5) (m : Marks n (declare names vs (take i us)) t) where
   declare_next : declare names vs (take (i + 1) us) ≡ one_more names (declare names vs (take i us)) u
   declare_next = rw (add-one, take-suc us i u, e) (declare_last names (take i us) vs u)
 
-  pub marks_next : (n x v : ℕ) (b : Bool) (t : List ℕ) → length names ≡ n → n ≤ 256 → x ≡ u.name → x < n → b ≡ leb (get_or cs x 0) 5 → v ≡ cond b (get_or t x 0) 1
-      → Marks n (declare names vs (take i us)) t → Marks n (declare names vs (take (i + 1) us)) (set t x v)
-  marks_next n x v b t en w ex lx eb ev m =
-      let c : get_or cs x 0 ≡ class_of (text_of names x) = h.class x (omega (arith, en, lx)) in
-      let r : b ≡ is_reserved names x = eb ∙ ap (λ (k : ℕ). leb k 5) c ∙ class_reserved names x in
-      rw (declare_next, ev) (marks_more names n (declare names vs (take i us)) t u x b ex lx w r m)
+  reserved_is : is_reserved names u.name ≡ b
+  reserved_is = ap (is_reserved names) (sym ex) ∙ sym (class_reserved names x) ∙ ap (λ (k : ℕ). leb k 5) (sym (h.class x (omega (arith, en, lx)))) ∙ sym eb
+
+  -- its name is reserved, or it is not
+  pub marks_kept : b ≡ true → Marks n (declare names vs (take (i + 1) us)) t
+  marks_kept y = rw (declare_next, more_reserved names (declare names vs (take i us)) u (reserved_is ∙ y)) m
+
+  pub marks_next : n ≤ 256 → b ≡ false → Marks n (declare names vs (take (i + 1) us)) (set t x 1)
+  marks_next w y = rw (declare_next, ex) (marks_more names n (declare names vs (take i us)) t u (omega (arith, ex, lx)) w (reserved_is ∙ y) m)
 
 -- all of them
 pub marks_all : (names : List (List ℕ)) (us : List Unknown) (n i : ℕ) (t : List ℕ) → length us ≤ i → Marks n (declare names (time_name names ∷ []) (take i us)) t → Marks n (variable_names names us) t
@@ -234,29 +187,41 @@ module _ {n : ℕ} {vs : List ℕ} {us : List Unknown} {t : List ℕ} (m : Count
       let b = deps_length ds (λ j l. g (suc j) (omega arith)) in
       length-append (to_list (number_of vs d)) _ ∙ omega (arith, a, b)
 
-  module _ (u : Unknown) (x v kept : ℕ) (ex : x ≡ u.name) (lx : x < n) (w : n ≤ 256) (ek : kept ≡ kept_in t u.deps) (g : (j : ℕ) → j < length u.deps → get_or u.deps j 0 < n) (ev : v ≡ cond (eqb (get_or t x 0) 0) 0 (get_or t x 0 + kept)) where
-    at_x : (b : Bool) → member (suc x) vs ≡ b → v ≡ entry_by vs (us ++ u ∷ []) x
-    at_x true e =
-        let a : get_or t x 0 ≡ suc (length (kept_deps vs us (suc x))) = m.entry x lx ∙ rw e refl in
-        let z : eqb (get_or t x 0) 0 ≡ false = ne_eqb (get_or t x 0) 0 (λ (p : get_or t x 0 ≡ 0). omega (arith, a, p)) in
-        let y : eqb (suc u.name) (suc x) ≡ true = eq-eqb (suc u.name) (suc x) (ap suc (sym ex)) in
-        let p : kept_deps vs (us ++ u ∷ []) (suc x) ≡ kept_deps vs us (suc x) ++ each (λ d. to_list (number_of vs d)) u.deps = kept_last vs us u (suc x) ∙ rw y refl in
-        let l : length (kept_deps vs (us ++ u ∷ []) (suc x)) ≡ length (kept_deps vs us (suc x)) + kept = omega (arith, ap length p, length-append (kept_deps vs us (suc x)) (each (λ d. to_list (number_of vs d)) u.deps), deps_length u.deps g, ek) in
-        ev ∙ rw (z, e) (omega (arith, a, l))
-    at_x false e =
-        let a : get_or t x 0 ≡ 0 = m.entry x lx ∙ rw e refl in
-        let z : eqb (get_or t x 0) 0 ≡ true = eq-eqb (get_or t x 0) 0 a in
-        ev ∙ rw (z, e) refl
+  -- one unknown more, of the name x
+  module _ (u : Unknown) (x : ℕ) (ex : x ≡ u.name) (lx : x < n) where
+    others : (k : ℕ) → (k ≡ x → ⊥) → entry_by vs (us ++ u ∷ []) k ≡ entry_by vs us k
+    others k q =
+        let y : eqb (suc u.name) (suc k) ≡ false = ne_eqb (suc u.name) (suc k) (λ (p : suc u.name ≡ suc k). q (omega (arith, ex, p))) in
+        ap (λ (l : List ℕ). cond (member (suc k) vs) (suc (length l)) 0) (kept_last vs us u (suc k) ∙ rw y (append-nil _))
 
-    pub counted_more : Counted n vs (us ++ u ∷ []) (set t x v)
-    counted_more = record { long = simp length-set m.long; entry = λ k h. go k h (ℕ_discrete k x) }
+    -- which is no variable's
+    pub counted_same : get_or t x 0 ≡ 0 → Counted n vs (us ++ u ∷ []) t
+    counted_same z = record { long = m.long; entry = λ k h. go k h (ℕ_discrete k x) }
       where
-        go : (k : ℕ) → k < n → Dec (k ≡ x) → get_or (set t x v) k 0 ≡ entry_by vs (us ++ u ∷ []) k
-        go k h (yes q) = rw q (get_or-set_same t x v 0 (omega (arith, m.long)) ∙ at_x (member (suc x) vs) refl)
-        go k h (no q) =
-            let y : eqb (suc u.name) (suc k) ≡ false = ne_eqb (suc u.name) (suc k) (λ (p : suc u.name ≡ suc k). q (omega (arith, ex, p))) in
-            let z : kept_deps vs (us ++ u ∷ []) (suc k) ≡ kept_deps vs us (suc k) = kept_last vs us u (suc k) ∙ rw y (append-nil _) in
-            get_or-set_other t x k v 0 q ∙ m.entry k h ∙ ap (λ (l : List ℕ). cond (member (suc k) vs) (suc (length l)) 0) (sym z)
+        at_x : (b : Bool) → member (suc x) vs ≡ b → get_or t x 0 ≡ entry_by vs (us ++ u ∷ []) x
+        at_x true e = let a : get_or t x 0 ≡ suc (length (kept_deps vs us (suc x))) = m.entry x lx ∙ rw e refl in absurd (omega arith)
+        at_x false e = z ∙ rw e refl
+
+        go : (k : ℕ) → k < n → Dec (k ≡ x) → get_or t k 0 ≡ entry_by vs (us ++ u ∷ []) k
+        go k h (yes q) = rw q (at_x (member (suc x) vs) refl)
+        go k h (no q) = m.entry k h ∙ sym (others k q)
+
+    -- or one's
+    pub counted_more : (kept : ℕ) → (get_or t x 0 ≡ 0 → ⊥) → n ≤ 256 → kept ≡ kept_in t u.deps → ((j : ℕ) → j < length u.deps → get_or u.deps j 0 < n) → Counted n vs (us ++ u ∷ []) (set t x (get_or t x 0 + kept))
+    counted_more kept z w ek g = record { long = simp length-set m.long; entry = λ k h. go k h (ℕ_discrete k x) }
+      where
+        at_x : (b : Bool) → member (suc x) vs ≡ b → get_or t x 0 + kept ≡ entry_by vs (us ++ u ∷ []) x
+        at_x true e =
+            let a : get_or t x 0 ≡ suc (length (kept_deps vs us (suc x))) = m.entry x lx ∙ rw e refl in
+            let y : eqb (suc u.name) (suc x) ≡ true = eq-eqb (suc u.name) (suc x) (ap suc (sym ex)) in
+            let p : kept_deps vs (us ++ u ∷ []) (suc x) ≡ kept_deps vs us (suc x) ++ each (λ d. to_list (number_of vs d)) u.deps = kept_last vs us u (suc x) ∙ rw y refl in
+            let l : length (kept_deps vs (us ++ u ∷ []) (suc x)) ≡ length (kept_deps vs us (suc x)) + kept = omega (arith, ap length p, length-append (kept_deps vs us (suc x)) (each (λ d. to_list (number_of vs d)) u.deps), deps_length u.deps g, ek) in
+            rw e (omega (arith, a, l))
+        at_x false e = absurd (z (m.entry x lx ∙ rw e refl))
+
+        go : (k : ℕ) → k < n → Dec (k ≡ x) → get_or (set t x (get_or t x 0 + kept)) k 0 ≡ entry_by vs (us ++ u ∷ []) k
+        go k h (yes q) = rw q (get_or-set_same t x (get_or t x 0 + kept) 0 (omega (arith, m.long)) ∙ at_x (member (suc x) vs) refl)
+        go k h (no q) = get_or-set_other t x k (get_or t x 0 + kept) 0 q ∙ m.entry k h ∙ sym (others k q)
 
 -- ---- the entries of a scope
 

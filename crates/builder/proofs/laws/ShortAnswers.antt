@@ -22,7 +22,8 @@ use Rattle.builder.specs.VarRecords.{unheld_records}
 use Rattle.builder.specs.Allocating.{names_in, indexes_in, rates_in, flats_in, Flattened, short_by}
 use Rattle.builder.specs.Root.{flats_of, scope_at, time_at, answer_at, Known, Unfated, answered_as, used_in, bytes_in}
 use Rattle.area.specs.declared.sections.Sizes.{Sizes}
-use Rattle.builder.specs.declared.answer.Answered.TheVariants as is
+use Rattle.std.specs.Prelude.{Ok, Err}
+use Rattle.builder.specs.declared.refusal.Refusal.TheVariants.{ShortLeftSide}
 use Rattle.builder.proofs.laws.Allocations.{shorts_same}
 use Rattle.builder.proofs.laws.FlatsBack.{unfated_flats, unfated_flattened}
 use Rattle.builder.proofs.laws.RootShort.{scope_names, agree, vars_room, some_var, first_bounds}
@@ -34,11 +35,11 @@ use Rattle.builder.proofs.laws.VarColumns.{Columns, unheld_columns}
 abbrev answer_by : Bool → Answer → Result (List ℕ)
 answer_by short a = bytes_in (cond short (refusal short_left_side) (accepted a))
 
-given_short : (short : Bool) (a : Answer) (d : List ℕ) → short ≡ true → (answered_as (is.Refused 10) d ≡ answer_by short a) × (used_in (is.Refused 10) ≤ 55384)
+given_short : (short : Bool) (a : Answer) (d : List ℕ) → short ≡ true → (answered_as (Err ShortLeftSide) d ≡ answer_by short a) × (used_in (Err ShortLeftSide) ≤ 55384)
 unfolding answered_as used_in bytes_in
 given_short short a d e = (rw e refl, omega arith)
 
-given_used : (short : Bool) (a : Answer) (d : List ℕ) (u : ℕ) → short ≡ false → take u d ≡ answer_bytes a → u ≤ 55384 → (answered_as (is.Used u) d ≡ answer_by short a) × (used_in (is.Used u) ≤ 55384)
+given_used : (short : Bool) (a : Answer) (d : List ℕ) (u : ℕ) → short ≡ false → take u d ≡ answer_bytes a → u ≤ 55384 → (answered_as (Ok u) d ≡ answer_by short a) × (used_in (Ok u) ≤ 55384)
 unfolding answered_as used_in bytes_in
 given_used short a d u e g h = (rw (e, g) refl, h)
 
@@ -70,9 +71,9 @@ module _ (f : List ℕ) (s : Sections) (m : ℕ) (classes numbers : List ℕ) (z
 
     -- what is answered
     pub short_given : r ≡ true → (d : List ℕ)
-        → (answered_as (is.Refused 10) d ≡ bytes_in (cond (any_short (scope_at (file_in f s) m) (flats_of (file_in f s) m)) (refusal short_left_side) (accepted (answer_at (file_in f s) m)))) × (used_in (is.Refused 10) ≤ 55384)
+        → (answered_as (Err ShortLeftSide) d ≡ bytes_in (cond (any_short (scope_at (file_in f s) m) (flats_of (file_in f s) m)) (refusal short_left_side) (accepted (answer_at (file_in f s) m)))) × (used_in (Err ShortLeftSide) ≤ 55384)
     short_given h d = given_short (any_short (scope_at (file_in f s) m) (flats_of (file_in f s) m)) (answer_at (file_in f s) m) d (is_short_lem ∙ h)
 
     pub used_given : r ≡ false → (d : List ℕ) (u : ℕ) → (take u d ≡ answer_bytes (answer_at (file_in f s) m)) × (u ≤ 55384)
-        → (answered_as (is.Used u) d ≡ bytes_in (cond (any_short (scope_at (file_in f s) m) (flats_of (file_in f s) m)) (refusal short_left_side) (accepted (answer_at (file_in f s) m)))) × (used_in (is.Used u) ≤ 55384)
+        → (answered_as (Ok u) d ≡ bytes_in (cond (any_short (scope_at (file_in f s) m) (flats_of (file_in f s) m)) (refusal short_left_side) (accepted (answer_at (file_in f s) m)))) × (used_in (Ok u) ≤ 55384)
     used_given h d u p = given_used (any_short (scope_at (file_in f s) m) (flats_of (file_in f s) m)) (answer_at (file_in f s) m) d u (is_short_lem ∙ h) p.0 p.1

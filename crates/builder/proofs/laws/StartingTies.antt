@@ -20,7 +20,8 @@ use Rattle.definitions.specs.Variables.{Error, Variable, at}
 use Rattle.definitions.specs.Allocate.{Fate, numbers_from, is_held_by, is_initial_of, conditions, expr_span, right_span, no_flat, right_span_at, held_errors, state_errors, starting_errors}
 use Rattle.definitions.specs.Answer.{flat_words, flat_records}
 use Rattle.builder.specs.Starting.{right_span_in, held_errors_in, state_errors_in, starting_in}
-use Rattle.builder.proofs.laws.FateLaws.{fate_pair, record_pair, held_place_in, initial_in}
+use Rattle.builder.specs.Fating.{fate_pair}
+use Rattle.builder.proofs.laws.FateLaws.{record_pair, held_place_in, initial_in}
 use Rattle.definitions.proofs.Lengths.{length_flat_nodes}
 
 -- ---- the span of a tree's top node

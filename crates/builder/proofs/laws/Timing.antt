@@ -72,7 +72,7 @@ module _ (bytes : List ℕ) (first end i : ℕ) (order : first < i) (within : i 
       ∙ ap (λ (w : ℕ). take (i - 1 - first) (words_from bytes first end) ++ w ∷ []) (word_from bytes first end (omega arith) room (i - 1) (omega arith) (omega arith))
 
   -- the last of those up to i is t
-  pub time_found : word_at bytes (4 * (i - 1)) ≡ 0 → plus_one (last_time 0 none (take (i - first) (words_from bytes first end))) ≡ i - first
+  pub time_found : word_at bytes (4 * (i - 1)) ≡ 0 → plus_one (last_time 0 none (take (i - first) (words_from bytes first end))) ≡ i - 1 - first + 1
   unfolding plus_one
   time_found e =
       let t = take (i - 1 - first) (words_from bytes first end) in

@@ -22,7 +22,8 @@ use Rattle.definitions.specs.Variables.{Bounds, Variable, from_zero, unbounded, 
 use Rattle.definitions.specs.Answer.{Answer, bounds_words, variable_words, variable_records, node_count, deps_of, header}
 use Rattle.builder.specs.VarRecords.{is_time, LeadOf, lead_words, var_bounds, unheld_words, unheld_from, unheld_records, with_held, held_in, held_from, head_words}
 use Rattle.builder.specs.declared.variables.records.Lead.{Lead}
-use Rattle.builder.proofs.laws.FateLaws.{record_pair, fate_pair, held_in_lem, conditions_in}
+use Rattle.builder.specs.Fating.{fate_pair}
+use Rattle.builder.proofs.laws.FateLaws.{record_pair, held_in_lem, conditions_in}
 use Rattle.definitions.proofs.ListLaws.{get_d_map, run_some, flag_one}
 
 -- ---- the header

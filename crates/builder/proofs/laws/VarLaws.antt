@@ -3,7 +3,7 @@ use mathlib.Core.Path.{◌≡◌, refl, ◌∙◌}
 use mathlib.Core.Bool.{true, false}
 use mathlib.Core.List.{List, [], ◌∷◌, ◌++◌}
 use mathlib.Core.Option.{Option, none, some}
-use Prim.Native.Nat.{ℕ, zero, suc, ◌+◌, ◌-◌, ◌*◌, ◌%◌, ◌≤◌, ◌<◌}
+use Prim.Native.Nat.{ℕ, zero, suc, ◌+◌, ◌-◌, ◌*◌, ◌%◌, ◌^◌, ◌≤◌, ◌<◌}
 use native.Mathlib.Omega.{arith}
 use borrow.Author.Tests.{eq-eqb, ne_eqb}
 use lib.ListN.{length, take, drop, length-drop}
@@ -36,18 +36,13 @@ module _ (d : List ℕ) (p q first end : ℕ) (order : first ≤ end) (few : end
   within : 4 * end ≤ length (drop p d)
   within = simp length-drop (omega arith)
 
-  -- what the reader of a variable's dependents asks
-  pub index_asked : (first ≤ end) × (4 * end ≤ length (take (length d - q) (drop q d)))
-  index_asked = (order, rw lent within)
-
-  pub index_word : (x : ℕ) → x ≡ plus_one (last_time 0 none (words_from (take (length d - q) (drop q d)) first end)) → x % 4294967296 ≡ plus_one (last_time 0 none (words_from (drop p d) first end))
+  pub index_word : (x : ℕ) → x ≡ plus_one (last_time 0 none (words_from (take (length d - q) (drop q d)) first end))
+      → (x < 2 ^ 32) × (x ≡ plus_one (last_time 0 none (words_from (drop p d) first end)))
   index_word x g =
       let g' : x ≡ plus_one (last_time 0 none (words_from (drop p d) first end)) = rw lent at g in
       let k : length (words_from (drop p d) first end) ≡ end - first = length_from (drop p d) first end order within in
       let m : plus_one (last_time 0 none (words_from (drop p d) first end)) ≤ end = last_most (words_from (drop p d) first end) 0 end none (unfold plus_one in omega arith) (omega (arith, k)) in
-      let s : x < 4294967296 = omega (arith, g', m) in
-      let r : x % 4294967296 ≡ x = omega arith in
-      r ∙ g'
+      (omega (arith, g', m), g')
 
 -- ---- bounds of a variable
 

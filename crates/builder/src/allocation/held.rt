@@ -6,7 +6,7 @@ ghost use Rattle.ast.specs.Encode.{encode};
 ghost use Rattle.area.specs.Sections.{vars_at, area_stmts, area_vars};
 ghost use Rattle.builder.specs.VarRecords.{held_from, NothingHeld, HeldBehind, HeldChanged};
 
-use area::layout::{HELD_FATE, INITIAL_FATE, STMT_FATE, STMT_VARIABLE, VAR_HELD, VAR_INITIAL};
+use area::layout::{Fate, STMT_FATE, STMT_VARIABLE, VAR_HELD, VAR_INITIAL};
 use area::records::{put_var, stmt_of, var_of};
 use area::sections::Sizes;
 
@@ -22,11 +22,11 @@ fn hold_stmt(area: &mut [u8], z: Sizes, i: usize)
     if z.vars <= v {
         return;
     }
-    if fate == HELD_FATE as usize {
+    if fate == Fate::Held as usize {
         put_var(area, z, v, VAR_HELD, (i + 1) as u32);
         return;
     }
-    if fate == INITIAL_FATE as usize {
+    if fate == Fate::Initial as usize {
         let more = var_of(area, z, v, VAR_INITIAL) + 1;
         put_var(area, z, v, VAR_INITIAL, more);
     }
@@ -38,9 +38,7 @@ pub fn write_held(area: &mut [u8], z: Sizes)
     ensures { area.new ≡ put area.old (vars_at z)
         (encode (held_from (area_stmts area.old z) 0 (area_vars area.old z))) }
 {
-    let mut i = z.stmts;
-    while 0 < i {
-        i -= 1;
+    for i in (0..z.stmts).rev() {
         hold_stmt(area, z, i);
     }
 }

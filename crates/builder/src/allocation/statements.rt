@@ -1,11 +1,11 @@
 // `allocate_stmts`: the fate of every flattened statement, by its role and by pairing.
-ghost use Rattle.std.specs.Prelude.{◌≡◌, ℕ, eqb, length};
-ghost use Rattle.functions.specs.Lists.{times};
+ghost use Rattle.std.specs.Prelude.{◌≡◌, ℕ, length};
 ghost use Rattle.ast.specs.Bytes.{put};
 ghost use Rattle.ast.specs.Encode.{encode};
+ghost use Rattle.definitions.specs.Allocate.{left_count};
 ghost use Rattle.area.specs.Sections.{stmts_at};
 ghost use Rattle.builder.specs.Allocating.{Flattened, Numbered};
-ghost use Rattle.builder.specs.Root.{paired_count, roles_by, lacking_by, fated_by};
+ghost use Rattle.builder.specs.Root.{roles_by, lacking_by, fated_by};
 
 use crate::allocation::fates::write_fates;
 use crate::allocation::pairing::{lacking, left_count};
@@ -19,28 +19,27 @@ pub struct Left {
     pub states: usize,
 }
 
-// All states are paired where as many statements are left, otherwise none.
-fn paired(left: usize, states: usize) -> usize
-    ensures { result ≡ paired_count left states }
-{
-    if left == states { states } else { 0 }
-}
-
 pub fn allocate_stmts(area: &mut [u8], z: Sizes, numbers: &[u16], lower: f64) -> Left
     requires { ((names : ℕ) × Flattened names area.old z)
         × Numbered area.old z numbers.now }
-    ensures { (result.stmts ≡ times (eqb 0) (roles_by area.old z numbers.now lower))
+    ensures { (result.stmts ≡ left_count (roles_by area.old z numbers.now lower))
         × (result.states ≡ length (lacking_by area.old z numbers.now lower))
         × (area.new ≡ put area.old (stmts_at z)
         (encode (fated_by area.old z numbers.now lower))) }
 {
-    let role = roles(area, z, numbers, lower);
-    let left = left_count(&role, z.stmts);
-    let queue = lacking(&role, area, z);
-    let states = queue.states;
-    write_fates(area, z, &role, &states, paired(left, queue.count));
-    Left {
-        stmts: left,
-        states: queue.count,
-    }
+    let table = roles(area, z, numbers, lower);
+    let roles = &table[..z.stmts];
+    let states = lacking(roles, area, z);
+    let left = Left {
+        stmts: left_count(roles),
+        states: states.len(),
+    };
+    // All states are paired where as many statements are left, otherwise none.
+    let paired = if left.stmts == left.states {
+        states.as_slice()
+    } else {
+        &[]
+    };
+    write_fates(area, z, roles, paired);
+    left
 }

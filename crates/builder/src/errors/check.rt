@@ -7,29 +7,25 @@ ghost use Rattle.ast.specs.NodesIn.{nodes_in, NodesLie};
 ghost use Rattle.definitions.specs.Numbers.{most_names};
 ghost use Rattle.definitions.specs.Variables.{error};
 ghost use Rattle.definitions.specs.Check.{lookup, has_keyword, keyword_errors, expr_errors, args_errors};
-ghost use Rattle.area.specs.Listing.{Lists, Room, found_as};
-ghost use Rattle.builder.specs.Checking.{scope_for, args_in, before_last, run_of, dependents_at};
+ghost use Rattle.area.specs.Listing.{kind_number, Lists, Room, found_as};
+ghost use Rattle.builder.specs.Checking.{scope_in, args_in, before_last, run_of, dependents_at};
 ghost use Rattle.builder.specs.Checking.{variable_at, call_at, name_absent};
-ghost use Rattle.builder.specs.Checking.{ExprIn, CallIn, ArgsIn, ScopedFor, AgainstFor};
+ghost use Rattle.builder.specs.Checking.{ExprIn, CallIn, ArgsIn, Scoped, Against};
 
 use crate::models::scope::is_dep_of;
 use crate::names::{is_built_in, numbered_rule};
-use crate::numbers::{
-    CALL_NOT_FOUND, COUNT_AGAINST_TABLE, COUNT_AGAINST_VARIABLE, KEYWORD_IN_BUILT_IN,
-    NAME_NOT_FOUND, NO_SUCH_DEPENDENT, POSITIONAL_AFTER_NAMED,
-};
-use area::errors::{Found, list};
+use area::errors::{ErrorKind, Found, list};
 use ast::layout::{
     BINARY_KIND, MOST_NAMES, NAME_KIND, NODE_FROM, NODE_KIND, NODE_NAME, NODE_OP, NODE_SIZE,
     NODE_TO, NUMBER_KIND, UNARY_KIND,
 };
-use ast::sections::{Nodes, Sections, node_field, node_word};
+use ast::sections::{Nodes, node_field, node_word};
+use ast::view::View;
 
-// What is checked, and against what: nodes by place, the sections of the file, and the model whose variables count.
+// What is checked, and against what: nodes by place, and the model whose variables count.
 #[derive(Clone, Copy)]
 pub struct Checked {
     pub nodes: Nodes,
-    pub sections: Sections,
     pub model: usize,
 }
 
@@ -42,19 +38,31 @@ pub struct Run {
 }
 
 // An error with the span of node i, unless a test passed.
-pub fn found_at(b: &[u8], ns: Nodes, i: usize, passed: bool, kind: u32, name: usize) -> Found
+pub fn found_at(
+    b: &[u8],
+    ns: Nodes,
+    i: usize,
+    passed: bool,
+    kind: ErrorKind,
+    name: usize,
+) -> Option<Found>
     requires { NodesLie ns b.now
         × (i < ns.count)
         × (name < 2 ^ 32) }
-    ensures { found_as result ≡ unless passed (error kind (span_at (nodes_in ns b.now) i) name) }
+    ensures { found_as result ≡ unless passed (error (kind_number kind) (span_at (nodes_in ns b.now) i) name) }
 {
     if passed {
-        return Found::Nothing;
+        return None;
     }
     let from = node_field(b, ns, i, NODE_FROM);
     let to = node_field(b, ns, i, NODE_TO);
     let word = name as u32;
-    Found::Error(kind, from, to, word)
+    Some(Found {
+        kind,
+        from,
+        to,
+        name: word,
+    })
 }
 
 // The run without its last argument.
@@ -112,14 +120,21 @@ fn keyword_errors(b: &[u8], ns: Nodes, run: Run, out: &mut [u8], count: usize) -
     let last = run.end - 1;
     let before = keyword_errors(b, ns, before_last(b, ns, run), out, count);
     let keyword = node_word(b, ns, last, NODE_NAME);
-    let found = found_at(b, ns, last, keyword == 0, KEYWORD_IN_BUILT_IN, keyword);
+    let found = found_at(
+        b,
+        ns,
+        last,
+        keyword == 0,
+        ErrorKind::KeywordInBuiltIn,
+        keyword,
+    );
     list(out, before, found)
 }
 
 // Errors 9 and 10 of the arguments of a variable's call, in order.
 fn arg_errors(
     b: &[u8],
-    f: &[u8],
+    file: &View,
     at: Checked,
     vars: &[u16; MOST_NAMES],
     variable: usize,
@@ -127,13 +142,13 @@ fn arg_errors(
     out: &mut [u8],
     count: usize,
 ) -> usize
-    requires { ScopedFor f.now at vars.now
-        × (is_some (lookup (scope_for f.now at) variable) ≡ true)
-        × ArgsIn at.sections.counts.names b.now at.nodes run
+    requires { Scoped file.now.bytes.now file.now.sections at.model vars.now
+        × (is_some (lookup (scope_in file.now.bytes.now file.now.sections at.model) variable) ≡ true)
+        × ArgsIn file.now.sections.counts.names b.now at.nodes run
         × Room out.old count
-        (dependents_at (scope_for f.now at) variable (args_in (nodes_in at.nodes b.now) run)) }
+        (dependents_at (scope_in file.now.bytes.now file.now.sections at.model) variable (args_in (nodes_in at.nodes b.now) run)) }
     ensures { Lists out.old count
-        (dependents_at (scope_for f.now at) variable (args_in (nodes_in at.nodes b.now) run)) result
+        (dependents_at (scope_in file.now.bytes.now file.now.sections at.model) variable (args_in (nodes_in at.nodes b.now) run)) result
         out.new }
 {
     if run.args == 0 {
@@ -141,15 +156,22 @@ fn arg_errors(
     }
     let last = run.end - 1;
     let rest = before_last(b, at.nodes, run);
-    let before = arg_errors(b, f, at, vars, variable, rest, out, count);
+    let before = arg_errors(b, file, at, vars, variable, rest, out, count);
     let keyword = node_word(b, at.nodes, last, NODE_NAME);
     if keyword == 0 {
         let named = has_keyword(b, at.nodes, rest);
-        let found = found_at(b, at.nodes, last, !named, POSITIONAL_AFTER_NAMED, 0);
+        let found = found_at(
+            b,
+            at.nodes,
+            last,
+            !named,
+            ErrorKind::PositionalAfterNamed,
+            0,
+        );
         return list(out, before, found);
     }
-    let kept = is_dep_of(f, at.sections, vars, at.model, variable, keyword - 1);
-    let found = found_at(b, at.nodes, last, kept, NO_SUCH_DEPENDENT, keyword);
+    let kept = is_dep_of(file, vars, at.model, variable, keyword - 1);
+    let found = found_at(b, at.nodes, last, kept, ErrorKind::NoSuchDependent, keyword);
     list(out, before, found)
 }
 
@@ -164,36 +186,43 @@ fn is_count(entry: u16, args: usize) -> bool
 // Errors 8 to 11 of a call that is no built-in's.
 fn variable_errors(
     b: &[u8],
-    f: &[u8],
+    file: &View,
     at: Checked,
     vars: &[u16; MOST_NAMES],
     i: usize,
     out: &mut [u8],
     count: usize,
 ) -> usize
-    requires { ScopedFor f.now at vars.now
-        × CallIn at.sections.counts.names b.now at.nodes i
-        × Room out.old count (variable_at (scope_for f.now at) (nodes_in at.nodes b.now) i) }
+    requires { Scoped file.now.bytes.now file.now.sections at.model vars.now
+        × CallIn file.now.sections.counts.names b.now at.nodes i
+        × Room out.old count (variable_at (scope_in file.now.bytes.now file.now.sections at.model) (nodes_in at.nodes b.now) i) }
     ensures { Lists out.old count
-        (variable_at (scope_for f.now at) (nodes_in at.nodes b.now) i) result out.new }
+        (variable_at (scope_in file.now.bytes.now file.now.sections at.model) (nodes_in at.nodes b.now) i) result out.new }
 {
     let name = node_word(b, at.nodes, i, NODE_NAME);
     let run = run_of(b, at.nodes, i);
     let entry = vars[name];
     if entry == 0 {
-        let found = found_at(b, at.nodes, i, false, CALL_NOT_FOUND, name + 1);
+        let found = found_at(b, at.nodes, i, false, ErrorKind::CallNotFound, name + 1);
         return list(out, count, found);
     }
     let counted = is_count(entry, run.args);
-    let found = found_at(b, at.nodes, i, counted, COUNT_AGAINST_VARIABLE, name + 1);
+    let found = found_at(
+        b,
+        at.nodes,
+        i,
+        counted,
+        ErrorKind::CountAgainstVariable,
+        name + 1,
+    );
     let own = list(out, count, found);
-    arg_errors(b, f, at, vars, name, run, out, own)
+    arg_errors(b, file, at, vars, name, run, out, own)
 }
 
 // The errors of a call itself.
 fn call_errors(
     b: &[u8],
-    f: &[u8],
+    file: &View,
     at: Checked,
     classes: &[u8; MOST_NAMES],
     rules: &[u8; MOST_NAMES],
@@ -202,39 +231,46 @@ fn call_errors(
     out: &mut [u8],
     count: usize,
 ) -> usize
-    requires { AgainstFor f.now at classes.now rules.now vars.now
-        × CallIn at.sections.counts.names b.now at.nodes i
-        × Room out.old count (call_at (scope_for f.now at) (nodes_in at.nodes b.now) i) }
+    requires { Against file.now.bytes.now file.now.sections at.model classes.now rules.now vars.now
+        × CallIn file.now.sections.counts.names b.now at.nodes i
+        × Room out.old count (call_at (scope_in file.now.bytes.now file.now.sections at.model) (nodes_in at.nodes b.now) i) }
     ensures { Lists out.old count
-        (call_at (scope_for f.now at) (nodes_in at.nodes b.now) i) result out.new }
+        (call_at (scope_in file.now.bytes.now file.now.sections at.model) (nodes_in at.nodes b.now) i) result out.new }
 {
     let name = node_word(b, at.nodes, i, NODE_NAME);
     let run = run_of(b, at.nodes, i);
     let allowed = functions::rule_allows(numbered_rule(rules[name]), run.args);
-    let found = found_at(b, at.nodes, i, allowed, COUNT_AGAINST_TABLE, name + 1);
+    let found = found_at(
+        b,
+        at.nodes,
+        i,
+        allowed,
+        ErrorKind::CountAgainstTable,
+        name + 1,
+    );
     let own = list(out, count, found);
     if is_built_in(classes[name]) {
         return keyword_errors(b, at.nodes, run, out, own);
     }
-    variable_errors(b, f, at, vars, i, out, own)
+    variable_errors(b, file, at, vars, i, out, own)
 }
 
 // Error 5 of an expression that is a name: it has no entry.
-fn name_error(b: &[u8], ns: Nodes, vars: &[u16; MOST_NAMES], i: usize) -> Found
+fn name_error(b: &[u8], ns: Nodes, vars: &[u16; MOST_NAMES], i: usize) -> Option<Found>
     requires { NodesLie ns b.now
         × (i < ns.count)
         × (name_at (nodes_in ns b.now) i < most_names) }
     ensures { found_as result ≡ name_absent (nodes_in ns b.now) vars.now i }
 {
     let name = node_word(b, ns, i, NODE_NAME);
-    found_at(b, ns, i, vars[name] != 0, NAME_NOT_FOUND, name + 1)
+    found_at(b, ns, i, vars[name] != 0, ErrorKind::NameNotFound, name + 1)
 }
 
 // The errors of the expression at node i.
 #[cycle(check_args_check_expr)]
 pub fn check_expr(
     b: &[u8],
-    f: &[u8],
+    file: &View,
     at: Checked,
     classes: &[u8; MOST_NAMES],
     rules: &[u8; MOST_NAMES],
@@ -243,11 +279,11 @@ pub fn check_expr(
     out: &mut [u8],
     count: usize,
 ) -> usize
-    requires { AgainstFor f.now at classes.now rules.now vars.now
-        × ExprIn at.sections.counts.names b.now at.nodes i
-        × Room out.old count (expr_errors (scope_for f.now at) (tree_at (nodes_in at.nodes b.now) i)) }
+    requires { Against file.now.bytes.now file.now.sections at.model classes.now rules.now vars.now
+        × ExprIn file.now.sections.counts.names b.now at.nodes i
+        × Room out.old count (expr_errors (scope_in file.now.bytes.now file.now.sections at.model) (tree_at (nodes_in at.nodes b.now) i)) }
     ensures { Lists out.old count
-        (expr_errors (scope_for f.now at) (tree_at (nodes_in at.nodes b.now) i)) result
+        (expr_errors (scope_in file.now.bytes.now file.now.sections at.model) (tree_at (nodes_in at.nodes b.now) i)) result
         out.new }
 {
     let kind = node_word(b, at.nodes, i, NODE_KIND);
@@ -260,25 +296,25 @@ pub fn check_expr(
     if kind == BINARY_KIND {
         let right = i - 1;
         let left = right - node_word(b, at.nodes, right, NODE_SIZE);
-        let first = check_expr(b, f, at, classes, rules, vars, left, out, count);
-        return check_expr(b, f, at, classes, rules, vars, right, out, first);
+        let first = check_expr(b, file, at, classes, rules, vars, left, out, count);
+        return check_expr(b, file, at, classes, rules, vars, right, out, first);
     }
     if kind == UNARY_KIND {
-        return check_expr(b, f, at, classes, rules, vars, i - 1, out, count);
+        return check_expr(b, file, at, classes, rules, vars, i - 1, out, count);
     }
     if node_word(b, at.nodes, i, NODE_OP) == 0 {
-        return call_errors(b, f, at, classes, rules, vars, i, out, count);
+        return call_errors(b, file, at, classes, rules, vars, i, out, count);
     }
-    let own = call_errors(b, f, at, classes, rules, vars, i, out, count);
+    let own = call_errors(b, file, at, classes, rules, vars, i, out, count);
     let run = run_of(b, at.nodes, i);
-    check_args(b, f, at, classes, rules, vars, run, out, own)
+    check_args(b, file, at, classes, rules, vars, run, out, own)
 }
 
 // The errors of the arguments of a run.
 #[cycle(check_args_check_expr)]
 fn check_args(
     b: &[u8],
-    f: &[u8],
+    file: &View,
     at: Checked,
     classes: &[u8; MOST_NAMES],
     rules: &[u8; MOST_NAMES],
@@ -287,11 +323,11 @@ fn check_args(
     out: &mut [u8],
     count: usize,
 ) -> usize
-    requires { AgainstFor f.now at classes.now rules.now vars.now
-        × ArgsIn at.sections.counts.names b.now at.nodes run
-        × Room out.old count (args_errors (scope_for f.now at) (args_in (nodes_in at.nodes b.now) run)) }
+    requires { Against file.now.bytes.now file.now.sections at.model classes.now rules.now vars.now
+        × ArgsIn file.now.sections.counts.names b.now at.nodes run
+        × Room out.old count (args_errors (scope_in file.now.bytes.now file.now.sections at.model) (args_in (nodes_in at.nodes b.now) run)) }
     ensures { Lists out.old count
-        (args_errors (scope_for f.now at) (args_in (nodes_in at.nodes b.now) run)) result
+        (args_errors (scope_in file.now.bytes.now file.now.sections at.model) (args_in (nodes_in at.nodes b.now) run)) result
         out.new }
 {
     if run.args == 0 {
@@ -299,6 +335,6 @@ fn check_args(
     }
     let last = run.end - 1;
     let rest = before_last(b, at.nodes, run);
-    let before = check_args(b, f, at, classes, rules, vars, rest, out, count);
-    check_expr(b, f, at, classes, rules, vars, last - 1, out, before)
+    let before = check_args(b, file, at, classes, rules, vars, rest, out, count);
+    check_expr(b, file, at, classes, rules, vars, last - 1, out, before)
 }

@@ -4,7 +4,7 @@ ghost use Rattle.std.specs.Prelude.{◌≡◌, List, [], ℕ, ◌+◌, ◌≤◌
 ghost use Rattle.functions.specs.Lists.{sum_of};
 ghost use Rattle.ast.specs.Tree.{Flat, flat_size};
 ghost use Rattle.ast.specs.Records.{stmt_of};
-ghost use Rattle.ast.specs.Opens.{contents_in, file_in};
+ghost use Rattle.ast.specs.Views.{contents_seen, file_seen};
 ghost use Rattle.ast.specs.Rows.{at_most};
 ghost use Rattle.definitions.specs.Numbers.{most_models, most_instances};
 ghost use Rattle.definitions.specs.Flatten as Flatten;
@@ -16,9 +16,8 @@ use ast::layout::{
     MODEL_FIRST_STMT, MODEL_STMTS, MOST_NODES, MOST_STMTS, RATE_KIND, STMT_KIND, STMT_LEFT,
     STMT_RIGHT, SUBMODEL_KIND,
 };
-use ast::records::{model, stmt};
-use ast::sections::{Nodes, Sections};
 use ast::subst::measure_expr;
+use ast::view::View;
 
 // How big flattened statements are: how many there are, and how many nodes their trees have.
 #[derive(Clone, Copy)]
@@ -29,19 +28,12 @@ pub struct FlatExtent {
 
 // The instances of model m, to a depth of k models, at most `most`: 1 for itself plus those of each submodel statement.
 #[cycle(instances_stmt_instances)]
-pub fn instances(
-    f: &[u8],
-    s: Sections,
-    callees: &[u8; MOST_STMTS],
-    k: usize,
-    m: usize,
-    most: usize,
-) -> usize
-    requires { Linked f.now s callees.now
-        × (m < s.counts.models)
+pub fn instances(file: &View, callees: &[u8; MOST_STMTS], k: usize, m: usize, most: usize) -> usize
+    requires { Linked file.now.bytes.now file.now.sections callees.now
+        × (m < file.now.sections.counts.models)
         × (k ≤ most_models)
         × (most ≤ most_instances + 1) }
-    ensures { result ≡ at_most most (Flatten.instances (file_in f.now s) k m) }
+    ensures { result ≡ at_most most (Flatten.instances (file_seen file.now) k m) }
 {
     if k == 0 {
         return 0;
@@ -49,80 +41,57 @@ pub fn instances(
     if most == 0 {
         return 0;
     }
-    let first = model(f, s, m, MODEL_FIRST_STMT);
-    let count = model(f, s, m, MODEL_STMTS);
+    let first = file.model(m, MODEL_FIRST_STMT);
+    let count = file.model(m, MODEL_STMTS);
     let mut total = 1;
-    let mut i = 0;
-    while i < count {
-        total += stmt_instances(f, s, callees, k - 1, first + i, most - total);
-        i += 1;
+    for i in 0..count {
+        total += stmt_instances(file, callees, k - 1, first + i, most - total);
     }
     total
 }
 
 // Those of the model that statement q calls, if it calls one.
 #[cycle(instances_stmt_instances)]
-fn stmt_instances(
-    f: &[u8],
-    s: Sections,
-    callees: &[u8; MOST_STMTS],
-    k: usize,
-    q: usize,
-    most: usize,
-) -> usize
-    requires { Linked f.now s callees.now
-        × (q < s.counts.stmts)
+fn stmt_instances(file: &View, callees: &[u8; MOST_STMTS], k: usize, q: usize, most: usize) -> usize
+    requires { Linked file.now.bytes.now file.now.sections callees.now
+        × (q < file.now.sections.counts.stmts)
         × (k ≤ most_models)
         × (most ≤ most_instances + 1) }
-    ensures { result ≡ at_most most (sum_of (λ j. Flatten.instances (file_in f.now s) k j)
-        (Flatten.stmt_models (file_in f.now s)
-        (stmt_of (contents_in f.now s).nodes (get_or (contents_in f.now s).stmts q [])))) }
+    ensures { result ≡ at_most most (sum_of (λ j. Flatten.instances (file_seen file.now) k j)
+        (Flatten.stmt_models (file_seen file.now)
+        (stmt_of (contents_seen file.now).nodes (get_or (contents_seen file.now).stmts q [])))) }
 {
     let c = callees[q] as usize;
     if c == 0 {
         return 0;
     }
-    instances(f, s, callees, k, c - 1, most)
+    instances(file, callees, k, c - 1, most)
 }
 
 // The nodes of statement q's own trees, read at a level, at most `most`.
-fn own_nodes(f: &[u8], s: Sections, rows: &[u16], level: usize, q: usize, most: usize) -> usize
-    requires { OwnAt f.now s rows.now level q }
+fn own_nodes(file: &View, rows: &[u16], level: usize, q: usize, most: usize) -> usize
+    requires { OwnAt file.now.bytes.now file.now.sections rows.now level q }
     ensures { (sub : ℕ → List Flat) → result ≡ at_most most
-        (sum_of flat_size (brought_at f.now s rows.now level sub q)) }
+        (sum_of flat_size (brought_at file.now.bytes.now file.now.sections rows.now level sub q)) }
 {
-    let ns = Nodes {
-        at: s.starts.nodes,
-        count: s.counts.nodes,
-    };
-    let right = stmt(f, s, q, STMT_RIGHT);
-    if stmt(f, s, q, STMT_KIND) == RATE_KIND {
-        return measure_expr(f, ns, rows, level, right, most);
+    let ns = file.nodes();
+    let right = file.stmt(q, STMT_RIGHT);
+    if file.stmt(q, STMT_KIND) == RATE_KIND {
+        return measure_expr(file.bytes, ns, rows, level, right, most);
     }
-    let a = measure_expr(f, ns, rows, level, stmt(f, s, q, STMT_LEFT), most);
-    a + measure_expr(f, ns, rows, level, right, most - a)
+    let a = measure_expr(file.bytes, ns, rows, level, file.stmt(q, STMT_LEFT), most);
+    a + measure_expr(file.bytes, ns, rows, level, right, most - a)
 }
 
 // The extent `done` and that of statement q, whose own trees are read at a level.
-fn own_extent(
-    f: &[u8],
-    s: Sections,
-    rows: &[u16],
-    level: usize,
-    q: usize,
-    done: FlatExtent,
-) -> FlatExtent
-    requires { OwnAt f.now s rows.now level q
+fn own_extent(file: &View, rows: &[u16], level: usize, q: usize, done: FlatExtent) -> FlatExtent
+    requires { OwnAt file.now.bytes.now file.now.sections rows.now level q
         × Counted done }
     ensures { (sub : ℕ → List Flat) → Extended done
-        (brought_at f.now s rows.now level sub q) result }
+        (brought_at file.now.bytes.now file.now.sections rows.now level sub q) result }
 {
-    let nodes = done.nodes + own_nodes(f, s, rows, level, q, MOST_NODES + 1 - done.nodes);
-    let stmts = if MOST_STMTS < done.stmts {
-        done.stmts
-    } else {
-        done.stmts + 1
-    };
+    let nodes = done.nodes + own_nodes(file, rows, level, q, MOST_NODES + 1 - done.nodes);
+    let stmts = (done.stmts + 1).min(MOST_STMTS + 1);
     FlatExtent { stmts, nodes }
 }
 
@@ -130,8 +99,7 @@ fn own_extent(
 // to one more than its most.
 #[cycle(flat_extent_stmt_extent)]
 pub fn flat_extent(
-    f: &[u8],
-    s: Sections,
+    file: &View,
     callees: &[u8; MOST_STMTS],
     rows: &mut [u16],
     k: usize,
@@ -139,23 +107,21 @@ pub fn flat_extent(
     level: usize,
     done: FlatExtent,
 ) -> FlatExtent
-    requires { Linked f.now s callees.now
-        × (m < s.counts.models)
-        × RowsAt f.now s rows.old (level + k)
+    requires { Linked file.now.bytes.now file.now.sections callees.now
+        × (m < file.now.sections.counts.models)
+        × RowsAt file.now.bytes.now file.now.sections rows.old (level + k)
         × Counted done }
-    ensures { Extended done (flat_at f.now s rows.old level k m) result
-        × RowsKept f.now s level rows.old rows.new }
+    ensures { Extended done (flat_at file.now.bytes.now file.now.sections rows.old level k m) result
+        × RowsKept file.now.bytes.now file.now.sections level rows.old rows.new }
 {
     if k == 0 {
         return done;
     }
-    let first = model(f, s, m, MODEL_FIRST_STMT);
-    let count = model(f, s, m, MODEL_STMTS);
+    let first = file.model(m, MODEL_FIRST_STMT);
+    let count = file.model(m, MODEL_STMTS);
     let mut total = done;
-    let mut i = 0;
-    while i < count {
-        total = stmt_extent(f, s, callees, rows, k - 1, first + i, level, total);
-        i += 1;
+    for i in 0..count {
+        total = stmt_extent(file, callees, rows, k - 1, first + i, level, total);
     }
     total
 }
@@ -164,8 +130,7 @@ pub fn flat_extent(
 // mosts.
 #[cycle(flat_extent_stmt_extent)]
 fn stmt_extent(
-    f: &[u8],
-    s: Sections,
+    file: &View,
     callees: &[u8; MOST_STMTS],
     rows: &mut [u16],
     k: usize,
@@ -173,24 +138,24 @@ fn stmt_extent(
     level: usize,
     done: FlatExtent,
 ) -> FlatExtent
-    requires { Linked f.now s callees.now
-        × (q < s.counts.stmts)
-        × RowsAt f.now s rows.old (level + k + 1)
+    requires { Linked file.now.bytes.now file.now.sections callees.now
+        × (q < file.now.sections.counts.stmts)
+        × RowsAt file.now.bytes.now file.now.sections rows.old (level + k + 1)
         × Counted done }
-    ensures { Extended done (brought_at f.now s rows.old level
-        (λ j. Flatten.flatten (file_in f.now s) k j) q) result
-        × RowsKept f.now s level rows.old rows.new }
+    ensures { Extended done (brought_at file.now.bytes.now file.now.sections rows.old level
+        (λ j. Flatten.flatten (file_seen file.now) k j) q) result
+        × RowsKept file.now.bytes.now file.now.sections level rows.old rows.new }
 {
     if (MOST_STMTS < done.stmts) & (MOST_NODES < done.nodes) {
         return done;
     }
-    if stmt(f, s, q, STMT_KIND) != SUBMODEL_KIND {
-        return own_extent(f, s, rows, level, q, done);
+    if file.stmt(q, STMT_KIND) != SUBMODEL_KIND {
+        return own_extent(file, rows, level, q, done);
     }
     let c = callees[q] as usize;
     if (c == 0) | (k == 0) {
         return done;
     }
-    find_replacements(f, s, c - 1, stmt(f, s, q, STMT_RIGHT), rows, level);
-    flat_extent(f, s, callees, rows, k, c - 1, level + 1, done)
+    find_replacements(file, c - 1, file.stmt(q, STMT_RIGHT), rows, level);
+    flat_extent(file, callees, rows, k, c - 1, level + 1, done)
 }

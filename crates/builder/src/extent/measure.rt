@@ -1,88 +1,93 @@
 // Whether a root model can be built, and how big its answer is: refusals 6 to 9.
 ghost use Rattle.std.specs.Prelude.{◌≡◌, ◌<◌};
-ghost use Rattle.ast.specs.Opens.{file_in};
+ghost use Rattle.ast.specs.Views.{file_seen};
 ghost use Rattle.builder.specs.Checking as checking;
 ghost use Rattle.builder.specs.Descent.{RowsAt, Linked};
-ghost use Rattle.builder.specs.Root.{forbidden_of, size_of, measure_of, measured_as};
+ghost use Rattle.builder.specs.Root.{forbidden_of, forbidden_as, size_of, measure_of, measured_as};
 
 use crate::extent::counts::{FlatExtent, flat_extent, instances};
-use crate::models::reached::{any_reason, reach};
-use crate::numbers::{ARGUMENT_BEYOND, MODEL_CYCLE, OVER_MOST, SELF_LISTED_UNKNOWN};
+use crate::models::reached::{cyclic, overfull, reach, self_listed};
+use crate::refusal::Refusal;
 use area::layout::MOST_INSTANCES;
 use ast::layout::{MOST_NAMES, MOST_NODES, MOST_STMTS};
-use ast::sections::Sections;
+use ast::view::View;
 
-// A refusal's number, or the numbers of instances, flattened statements and flattened nodes.
-#[derive(Clone, Copy)]
-pub enum Measured {
-    Refused(u32),
-    Sized(usize, usize, usize),
+// How big an answer is: its instances, flattened statements and nodes.
+#[derive(Clone, Copy, Debug, PartialEq, Eq)]
+pub struct Extent {
+    pub instances: usize,
+    pub stmts: usize,
+    pub nodes: usize,
 }
 
-// Refusals 6, 7 and 8, or 0.
+// Refusals 6, 7 and 8.
 fn forbidden(
-    f: &[u8],
-    s: Sections,
+    file: &View,
     classes: &[u8; MOST_NAMES],
     callees: &[u8; MOST_STMTS],
     m: usize,
-) -> u32
-    requires { checking.Called f.now s classes.now callees.now
-        × (m < s.counts.models) }
-    ensures { result ≡ forbidden_of (file_in f.now s) m }
+) -> Result<(), Refusal>
+    requires { checking.Called file.now.bytes.now file.now.sections classes.now callees.now
+        × (m < file.now.sections.counts.models) }
+    ensures { forbidden_as result ≡ forbidden_of (file_seen file.now) m }
 {
-    let table = reach(f, s, callees);
-    if any_reason(f, s, classes, callees, &table, m, MODEL_CYCLE) {
-        return MODEL_CYCLE;
+    let table = reach(file, callees);
+    if cyclic(file, &table, m) {
+        return Err(Refusal::ModelCycle);
     }
-    if any_reason(f, s, classes, callees, &table, m, SELF_LISTED_UNKNOWN) {
-        return SELF_LISTED_UNKNOWN;
+    if self_listed(file, classes, &table, m) {
+        return Err(Refusal::SelfListedUnknown);
     }
-    if any_reason(f, s, classes, callees, &table, m, ARGUMENT_BEYOND) {
-        return ARGUMENT_BEYOND;
+    if overfull(file, callees, &table, m) {
+        return Err(Refusal::ArgumentBeyond);
     }
-    0
+    Ok(())
 }
 
 // Refusal 9, or the sizes.
-fn size(f: &[u8], s: Sections, callees: &[u8; MOST_STMTS], rows: &mut [u16], m: usize) -> Measured
-    requires { Linked f.now s callees.now
-        × (m < s.counts.models)
-        × RowsAt f.now s rows.old s.counts.models }
-    ensures { (measured_as result ≡ size_of (file_in f.now s) m)
-        × RowsAt f.now s rows.new s.counts.models }
+fn size(
+    file: &View,
+    callees: &[u8; MOST_STMTS],
+    rows: &mut [u16],
+    m: usize,
+) -> Result<Extent, Refusal>
+    requires { Linked file.now.bytes.now file.now.sections callees.now
+        × (m < file.now.sections.counts.models)
+        × RowsAt file.now.bytes.now file.now.sections rows.old file.now.sections.counts.models }
+    ensures { (measured_as result ≡ size_of (file_seen file.now) m)
+        × RowsAt file.now.bytes.now file.now.sections rows.new file.now.sections.counts.models }
 {
-    let k = s.counts.models;
-    let i = instances(f, s, callees, k, m, MOST_INSTANCES + 1);
+    let k = file.sections.counts.models;
+    let i = instances(file, callees, k, m, MOST_INSTANCES + 1);
     if MOST_INSTANCES < i {
-        return Measured::Refused(OVER_MOST);
+        return Err(Refusal::OverMost);
     }
     let none = FlatExtent { stmts: 0, nodes: 0 };
-    let flat = flat_extent(f, s, callees, rows, k, m, 0, none);
+    let flat = flat_extent(file, callees, rows, k, m, 0, none);
     if (MOST_STMTS < flat.stmts) | (MOST_NODES < flat.nodes) {
-        return Measured::Refused(OVER_MOST);
+        return Err(Refusal::OverMost);
     }
-    Measured::Sized(i, flat.stmts, flat.nodes)
+    Ok(Extent {
+        instances: i,
+        stmts: flat.stmts,
+        nodes: flat.nodes,
+    })
 }
 
 // Refusals 6 to 9, or the sizes.
 pub fn measure(
-    f: &[u8],
-    s: Sections,
+    file: &View,
     classes: &[u8; MOST_NAMES],
     callees: &[u8; MOST_STMTS],
     rows: &mut [u16],
     m: usize,
-) -> Measured
-    requires { checking.Called f.now s classes.now callees.now
-        × (m < s.counts.models)
-        × RowsAt f.now s rows.old s.counts.models }
-    ensures { (measured_as result ≡ measure_of (file_in f.now s) m)
-        × RowsAt f.now s rows.new s.counts.models }
+) -> Result<Extent, Refusal>
+    requires { checking.Called file.now.bytes.now file.now.sections classes.now callees.now
+        × (m < file.now.sections.counts.models)
+        × RowsAt file.now.bytes.now file.now.sections rows.old file.now.sections.counts.models }
+    ensures { (measured_as result ≡ measure_of (file_seen file.now) m)
+        × RowsAt file.now.bytes.now file.now.sections rows.new file.now.sections.counts.models }
 {
-    let number = forbidden(f, s, classes, callees, m);
-    if number != 0 {
-        return Measured::Refused(number);
-    }
-    size(f, s, callees, rows, m)
+    forbidden(file, classes, callees, m)?;
+    size(file, callees, rows, m)
 }

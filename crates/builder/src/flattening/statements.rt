@@ -7,7 +7,7 @@ ghost use Rattle.ast.specs.Bytes.{put};
 ghost use Rattle.ast.specs.NodesIn.{node_bytes};
 ghost use Rattle.ast.specs.Encode.{nodes, encode};
 ghost use Rattle.ast.specs.Rows.{read};
-ghost use Rattle.ast.specs.Opens.{Open, contents_in, file_in};
+ghost use Rattle.ast.specs.Views.{contents_seen, file_seen};
 ghost use Rattle.definitions.specs.Numbers.{stmt_length};
 ghost use Rattle.definitions.specs.Flatten.{flatten};
 ghost use Rattle.builder.specs.Descent.{flat_at, brought_at, RowsAt, RowsKept, Linked, ExprAt, OwnAt, NodesFit};
@@ -19,9 +19,8 @@ use ast::layout::{
     EQUATION_KIND, MODEL_FIRST_STMT, MODEL_STMTS, MOST_STMTS, NODE_BYTES, NODE_FROM, NODE_TO,
     RATE_KIND, STMT_FROM, STMT_KIND, STMT_LEFT, STMT_NAME, STMT_RIGHT, STMT_TO, SUBMODEL_KIND,
 };
-use ast::records::{model, node, stmt};
-use ast::sections::{Nodes, Sections};
 use ast::subst::clone_and_subst;
+use ast::view::View;
 use ast::words::put_record;
 
 // How many nodes are written, and the byte behind the records written.
@@ -33,30 +32,25 @@ pub struct Written {
 
 // Writes the tree at node i, read at a level, behind `done` nodes, and gives their new number.
 fn write_tree(
-    f: &[u8],
-    s: Sections,
+    file: &View,
     rows: &[u16],
     level: usize,
     i: usize,
     out: &mut [u8],
     done: usize,
 ) -> usize
-    requires { Open f.now s
-        × ExprAt f.now s i
-        × RowsAt f.now s rows.now level
-        × NodesFit done (size (read (contents_in f.now s).nodes rows.now level i)) (length out.old) }
-    ensures { (result ≡ done + size (read (contents_in f.now s).nodes rows.now level i))
+    requires { ExprAt file.now.bytes.now file.now.sections i
+        × RowsAt file.now.bytes.now file.now.sections rows.now level
+        × NodesFit done (size (read (contents_seen file.now).nodes rows.now level i)) (length out.old) }
+    ensures { (result ≡ done + size (read (contents_seen file.now).nodes rows.now level i))
         × (out.new ≡ put out.old (node_bytes * done)
-        (encode (nodes (read (contents_in f.now s).nodes rows.now level i)))) }
+        (encode (nodes (read (contents_seen file.now).nodes rows.now level i)))) }
 {
-    let ns = Nodes {
-        at: s.starts.nodes,
-        count: s.counts.nodes,
-    };
-    let from = node(f, s, i, NODE_FROM) as u32;
-    let to = node(f, s, i, NODE_TO) as u32;
+    let ns = file.nodes();
+    let from = file.node(i, NODE_FROM) as u32;
+    let to = file.node(i, NODE_TO) as u32;
     let start = NODE_BYTES * done;
-    done + clone_and_subst(f, ns, rows, level, i, from, to, &mut out[start..])
+    done + clone_and_subst(file.bytes, ns, rows, level, i, from, to, &mut out[start..])
 }
 
 // Writes a statement's record, without its fate, at a byte.
@@ -74,37 +68,36 @@ fn record_at(
     ensures { out.new ≡ put out.old at
         (bytes_of (kind ∷ name ∷ left ∷ right ∷ from ∷ to ∷ 0 ∷ 0 ∷ [])) }
 {
-    put_record(&mut out[at..], kind, name, left, right, from, to, 0, 0);
+    put_record(&mut out[at..], &[kind, name, left, right, from, to, 0, 0]);
 }
 
 // Writes statement q's own trees, left before right, and its record, without its fate.
 fn write_own(
-    f: &[u8],
-    s: Sections,
+    file: &View,
     rows: &[u16],
     level: usize,
     q: usize,
     out: &mut [u8],
     done: Written,
 ) -> Written
-    requires { OwnAt f.now s rows.now level q
-        × ((sub : ℕ → List Flat) × FlatsFit done (brought_at f.now s rows.now level sub q) (length out.old)) }
+    requires { OwnAt file.now.bytes.now file.now.sections rows.now level q
+        × ((sub : ℕ → List Flat) × FlatsFit done (brought_at file.now.bytes.now file.now.sections rows.now level sub q) (length out.old)) }
     ensures { (sub : ℕ → List Flat) → FlatsPut done out.old
-        (brought_at f.now s rows.now level sub q) result out.new }
+        (brought_at file.now.bytes.now file.now.sections rows.now level sub q) result out.new }
 {
     let end = done.end + STMT_BYTES;
-    let from = stmt(f, s, q, STMT_FROM) as u32;
-    let to = stmt(f, s, q, STMT_TO) as u32;
-    let i = stmt(f, s, q, STMT_RIGHT);
-    if stmt(f, s, q, STMT_KIND) == RATE_KIND {
-        let name = stmt(f, s, q, STMT_NAME) as u32;
-        let b = write_tree(f, s, rows, level, i, out, done.nodes);
+    let from = file.stmt(q, STMT_FROM) as u32;
+    let to = file.stmt(q, STMT_TO) as u32;
+    let i = file.stmt(q, STMT_RIGHT);
+    if file.stmt(q, STMT_KIND) == RATE_KIND {
+        let name = file.stmt(q, STMT_NAME) as u32;
+        let b = write_tree(file, rows, level, i, out, done.nodes);
         let r = (b - 1) as u32;
         record_at(out, done.end, RATE_KIND as u32, name, 0, r, from, to);
         return Written { nodes: b, end };
     }
-    let a = write_tree(f, s, rows, level, stmt(f, s, q, STMT_LEFT), out, done.nodes);
-    let b = write_tree(f, s, rows, level, i, out, a);
+    let a = write_tree(file, rows, level, file.stmt(q, STMT_LEFT), out, done.nodes);
+    let b = write_tree(file, rows, level, i, out, a);
     let l = (a - 1) as u32;
     let r = (b - 1) as u32;
     record_at(out, done.end, EQUATION_KIND as u32, 0, l, r, from, to);
@@ -114,8 +107,7 @@ fn write_own(
 // Writes model m's flattened statements, whose trees are read at a level, behind those done.
 #[cycle(write_flats_write_stmt)]
 pub fn write_flats(
-    f: &[u8],
-    s: Sections,
+    file: &View,
     callees: &[u8; MOST_STMTS],
     rows: &mut [u16],
     k: usize,
@@ -124,24 +116,22 @@ pub fn write_flats(
     out: &mut [u8],
     done: Written,
 ) -> Written
-    requires { Linked f.now s callees.now
-        × (m < s.counts.models)
-        × RowsAt f.now s rows.old (level + k)
-        × FlatsFit done (flat_at f.now s rows.old level k m) (length out.old) }
-    ensures { FlatsPut done out.old (flat_at f.now s rows.old level k m) result
+    requires { Linked file.now.bytes.now file.now.sections callees.now
+        × (m < file.now.sections.counts.models)
+        × RowsAt file.now.bytes.now file.now.sections rows.old (level + k)
+        × FlatsFit done (flat_at file.now.bytes.now file.now.sections rows.old level k m) (length out.old) }
+    ensures { FlatsPut done out.old (flat_at file.now.bytes.now file.now.sections rows.old level k m) result
         out.new
-        × RowsKept f.now s level rows.old rows.new }
+        × RowsKept file.now.bytes.now file.now.sections level rows.old rows.new }
 {
     if k == 0 {
         return done;
     }
-    let first = model(f, s, m, MODEL_FIRST_STMT);
-    let count = model(f, s, m, MODEL_STMTS);
+    let first = file.model(m, MODEL_FIRST_STMT);
+    let count = file.model(m, MODEL_STMTS);
     let mut total = done;
-    let mut i = 0;
-    while i < count {
-        total = write_stmt(f, s, callees, rows, k - 1, first + i, level, out, total);
-        i += 1;
+    for i in 0..count {
+        total = write_stmt(file, callees, rows, k - 1, first + i, level, out, total);
     }
     total
 }
@@ -149,8 +139,7 @@ pub fn write_flats(
 // Writes what statement q brings in.
 #[cycle(write_flats_write_stmt)]
 fn write_stmt(
-    f: &[u8],
-    s: Sections,
+    file: &View,
     callees: &[u8; MOST_STMTS],
     rows: &mut [u16],
     k: usize,
@@ -159,22 +148,22 @@ fn write_stmt(
     out: &mut [u8],
     done: Written,
 ) -> Written
-    requires { Linked f.now s callees.now
-        × (q < s.counts.stmts)
-        × RowsAt f.now s rows.old (level + k + 1)
-        × FlatsFit done (brought_at f.now s rows.old level (λ j. flatten (file_in f.now s) k j) q)
+    requires { Linked file.now.bytes.now file.now.sections callees.now
+        × (q < file.now.sections.counts.stmts)
+        × RowsAt file.now.bytes.now file.now.sections rows.old (level + k + 1)
+        × FlatsFit done (brought_at file.now.bytes.now file.now.sections rows.old level (λ j. flatten (file_seen file.now) k j) q)
         (length out.old) }
-    ensures { FlatsPut done out.old (brought_at f.now s rows.old level
-        (λ j. flatten (file_in f.now s) k j) q) result out.new
-        × RowsKept f.now s level rows.old rows.new }
+    ensures { FlatsPut done out.old (brought_at file.now.bytes.now file.now.sections rows.old level
+        (λ j. flatten (file_seen file.now) k j) q) result out.new
+        × RowsKept file.now.bytes.now file.now.sections level rows.old rows.new }
 {
-    if stmt(f, s, q, STMT_KIND) != SUBMODEL_KIND {
-        return write_own(f, s, rows, level, q, out, done);
+    if file.stmt(q, STMT_KIND) != SUBMODEL_KIND {
+        return write_own(file, rows, level, q, out, done);
     }
     let c = callees[q] as usize;
     if (c == 0) | (k == 0) {
         return done;
     }
-    find_replacements(f, s, c - 1, stmt(f, s, q, STMT_RIGHT), rows, level);
-    write_flats(f, s, callees, rows, k, c - 1, level + 1, out, done)
+    find_replacements(file, c - 1, file.stmt(q, STMT_RIGHT), rows, level);
+    write_flats(file, callees, rows, k, c - 1, level + 1, out, done)
 }

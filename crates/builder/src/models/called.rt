@@ -1,7 +1,7 @@
 // The root, and the model that each submodel statement calls.
 ghost use Rattle.std.specs.Prelude.{◌≡◌, ◌<◌};
 ghost use Rattle.functions.specs.Lists.{plus_one};
-ghost use Rattle.ast.specs.Opens.{Open, file_in};
+ghost use Rattle.ast.specs.Views.{file_seen};
 ghost use Rattle.definitions.specs.Flatten.{model_named};
 ghost use Rattle.definitions.specs.Build.{root_of};
 ghost use Rattle.builder.specs.Tables.{callee_of, Callees};
@@ -9,63 +9,46 @@ ghost use Rattle.builder.specs.Checking.{stmt_in};
 
 use crate::names::name_text;
 use ast::layout::{MODEL_NAME, MOST_STMTS, NODE_NAME, STMT_KIND, STMT_RIGHT, SUBMODEL_KIND};
-use ast::records::{model, node, stmt};
-use ast::sections::Sections;
+use ast::view::View;
 use functions::same_bytes;
 
 // The number, plus 1, of the first model that bears the root name, or 0.
-pub fn find_root(f: &[u8], s: Sections, root: &[u8]) -> usize
-    requires { Open f.now s }
-    ensures { result ≡ plus_one (root_of (file_in f.now s) root.now) }
+pub fn find_root(file: &View, root: &[u8]) -> usize
+    ensures { result ≡ plus_one (root_of (file_seen file.now) root.now) }
 {
-    let mut m = 0;
-    while m < s.counts.models {
-        if same_bytes(root, name_text(f, s, model(f, s, m, MODEL_NAME))) {
-            return m + 1;
-        }
-        m += 1;
-    }
-    0
+    (0..file.sections.counts.models)
+        .position(|m| same_bytes(root, name_text(file, file.model(m, MODEL_NAME))))
+        .map_or(0, |m| m + 1)
 }
 
 // The number, plus 1, of the first model that bears a name, or 0.
-fn find_model(f: &[u8], s: Sections, name: usize) -> usize
-    requires { Open f.now s }
-    ensures { result ≡ plus_one (model_named (file_in f.now s) name) }
+fn find_model(file: &View, name: usize) -> usize
+    ensures { result ≡ plus_one (model_named (file_seen file.now) name) }
 {
-    let mut m = 0;
-    while m < s.counts.models {
-        if name == model(f, s, m, MODEL_NAME) {
-            return m + 1;
-        }
-        m += 1;
-    }
-    0
+    (0..file.sections.counts.models)
+        .position(|m| name == file.model(m, MODEL_NAME))
+        .map_or(0, |m| m + 1)
 }
 
 // The number, plus 1, of the model that statement q calls, or 0.
-fn callee(f: &[u8], s: Sections, q: usize) -> u8
-    requires { Open f.now s
-        × (q < s.counts.stmts) }
-    ensures { result ≡ callee_of (file_in f.now s) (stmt_in f.now s q) }
+fn callee(file: &View, q: usize) -> u8
+    requires { q < file.now.sections.counts.stmts }
+    ensures { result ≡ callee_of (file_seen file.now) (stmt_in file.now.bytes.now file.now.sections q) }
 {
-    if stmt(f, s, q, STMT_KIND) != SUBMODEL_KIND {
+    if file.stmt(q, STMT_KIND) != SUBMODEL_KIND {
         return 0;
     }
-    let call = stmt(f, s, q, STMT_RIGHT);
-    find_model(f, s, node(f, s, call, NODE_NAME)) as u8
+    let call = file.stmt(q, STMT_RIGHT);
+    find_model(file, file.node(call, NODE_NAME)) as u8
 }
 
 // The same of each statement.
-pub fn callees(f: &[u8], s: Sections) -> [u8; MOST_STMTS]
-    requires { Open f.now s }
-    ensures { Callees f.now s result }
+pub fn callees(file: &View) -> [u8; MOST_STMTS]
+    ensures { Callees file.now.bytes.now file.now.sections result }
 {
     let mut out = [0u8; MOST_STMTS];
-    let mut q = 0;
-    while q < s.counts.stmts {
-        out[q] = callee(f, s, q);
-        q += 1;
+    for q in 0..file.sections.counts.stmts {
+        out[q] = callee(file, q);
     }
     out
 }

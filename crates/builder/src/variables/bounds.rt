@@ -2,7 +2,7 @@
 ghost use Rattle.std.specs.Prelude.{◌≡◌, [], ◌∷◌, ◌+◌, ◌*◌, ◌≤◌, ◌<◌, length};
 ghost use Rattle.ast.specs.Words.{low, high, bytes_of};
 ghost use Rattle.ast.specs.Bytes.{put};
-ghost use Rattle.ast.specs.Opens.{Open, file_in};
+ghost use Rattle.ast.specs.Views.{file_seen};
 ghost use Rattle.definitions.specs.Numbers.{unknown_length};
 ghost use Rattle.definitions.specs.Flatten.{model_at};
 ghost use Rattle.definitions.specs.Answer.{bounds_words};
@@ -12,29 +12,24 @@ ghost use Rattle.builder.specs.Bounding.{bounds_from, floats, Floating, case_bou
 ghost use Rattle.builder.specs.VarRecords.{var_bounds};
 
 use crate::names::{NON_NEGATIVE, is_time};
-use area::layout::{FLOAT_BYTES, HIGH, WORD_BYTES};
-use ast::domains::{read_domain, unknown_bits};
+use area::layout::FLOAT_BYTES;
 use ast::layout::{
     MODEL_FIRST_UNKNOWN, MODEL_UNKNOWNS, UNKNOWN_LOWER, UNKNOWN_NAME, UNKNOWN_UPPER,
 };
-use ast::numbers::{Bounds, Domain, number_of};
-use ast::records::{model, unknown};
-use ast::sections::Sections;
-use ast::words::put_word;
+use ast::numbers::{Bounds, Domain};
+use ast::view::View;
 
 // The unknown of model m, plus 1, that declares a name (plus 1) last, or 0.
-pub fn last_declared(f: &[u8], s: Sections, m: usize, name: usize) -> usize
-    requires { Open f.now s
-        × (m < s.counts.models) }
-    ensures { LastDeclared f.now s m name result }
+pub fn last_declared(file: &View, m: usize, name: usize) -> usize
+    requires { m < file.now.sections.counts.models }
+    ensures { LastDeclared file.now.bytes.now file.now.sections m name result }
 {
-    let first = model(f, s, m, MODEL_FIRST_UNKNOWN);
-    let mut i = model(f, s, m, MODEL_UNKNOWNS);
-    while 0 < i {
-        if unknown(f, s, first + i - 1, UNKNOWN_NAME) + 1 == name {
-            return first + i;
+    let first = file.model(m, MODEL_FIRST_UNKNOWN);
+    let count = file.model(m, MODEL_UNKNOWNS);
+    for i in (0..count).rev() {
+        if file.unknown(first + i, UNKNOWN_NAME) + 1 == name {
+            return first + i + 1;
         }
-        i -= 1;
     }
     0
 }
@@ -43,16 +38,10 @@ pub fn last_declared(f: &[u8], s: Sections, m: usize, name: usize) -> usize
 fn bounds_from(floor: bool) -> Bounds
     ensures { result ≡ floats (bounds_from floor) }
 {
-    let upper = number_of(0x7ff0000000000000);
-    if floor {
-        return Bounds {
-            lower: number_of(0),
-            upper: upper,
-        };
-    }
+    let lower = if floor { 0.0 } else { f64::NEG_INFINITY };
     Bounds {
-        lower: number_of(0xfff0000000000000),
-        upper: upper,
+        lower,
+        upper: f64::INFINITY,
     }
 }
 
@@ -63,63 +52,57 @@ fn domain_bounds(domain: Domain, time: bool, classes: &[u8]) -> Bounds
     ensures { result ≡ case_bounds domain time classes.now }
 {
     match domain {
-        Domain::Span(lower, upper) => Bounds {
-            lower: lower,
-            upper: upper,
-        },
+        Domain::Span(lower, upper) => Bounds { lower, upper },
         Domain::Named(n) => bounds_from(classes[n as usize] == NON_NEGATIVE),
         Domain::None => bounds_from(time),
     }
 }
 
 // The bounds of unknown u.
-fn unknown_bounds(f: &[u8], s: Sections, classes: &[u8], u: usize) -> Bounds
-    requires { Open f.now s
-        × Classes (file_in f.now s).names classes.now
-        × (s.counts.names ≤ length classes.now)
-        × (u < s.counts.unknowns) }
-    ensures { Floating (unknown_bounds f.now s u) result }
+fn unknown_bounds(file: &View, classes: &[u8], u: usize) -> Bounds
+    requires { Classes (file_seen file.now).names classes.now
+        × (file.now.sections.counts.names ≤ length classes.now)
+        × (u < file.now.sections.counts.unknowns) }
+    ensures { Floating (unknown_bounds file.now.bytes.now file.now.sections u) result }
 {
-    let time = is_time(classes[unknown(f, s, u, UNKNOWN_NAME)]);
-    let domain = read_domain(f, s, u);
+    let time = is_time(classes[file.unknown(u, UNKNOWN_NAME)]);
+    let domain = file.domain(u);
     domain_bounds(domain, time, classes)
 }
 
 // The bounds of unknown u - 1; those from 0 or the unbounded ones where u is 0.
-fn declared_bounds(f: &[u8], s: Sections, classes: &[u8], u: usize, floor: bool) -> Bounds
-    requires { Open f.now s
-        × Classes (file_in f.now s).names classes.now
-        × (s.counts.names ≤ length classes.now)
-        × (u ≤ s.counts.unknowns) }
-    ensures { Floating (declared_bounds f.now s u (bounds_from floor)) result }
+fn declared_bounds(file: &View, classes: &[u8], u: usize, floor: bool) -> Bounds
+    requires { Classes (file_seen file.now).names classes.now
+        × (file.now.sections.counts.names ≤ length classes.now)
+        × (u ≤ file.now.sections.counts.unknowns) }
+    ensures { Floating (declared_bounds file.now.bytes.now file.now.sections u (bounds_from floor)) result }
 {
     if u == 0 {
         return bounds_from(floor);
     }
-    unknown_bounds(f, s, classes, u - 1)
+    unknown_bounds(file, classes, u - 1)
 }
 
 // Time's bounds: those that model m declares last for the name (plus 1) of t, and from 0 where it declares none.
-pub fn time_bounds(f: &[u8], s: Sections, classes: &[u8], m: usize, name: usize) -> Bounds
-    requires { Bounded f.now s classes.now m }
-    ensures { Floating (time_in f.now s m name) result }
+pub fn time_bounds(file: &View, classes: &[u8], m: usize, name: usize) -> Bounds
+    requires { Bounded file.now.bytes.now file.now.sections classes.now m }
+    ensures { Floating (time_in file.now.bytes.now file.now.sections m name) result }
 {
-    declared_bounds(f, s, classes, last_declared(f, s, m, name), true)
+    declared_bounds(file, classes, last_declared(file, m, name), true)
 }
 
 // The bits of a bound that unknown u - 1 declares. A NaN has none of its own: they are the file's, from word k of the
 // unknown on.
-fn bound_bits(x: f64, f: &[u8], s: Sections, u: usize, k: usize) -> u64
-    requires { Open f.now s
-        × (u ≤ s.counts.unknowns)
+fn bound_bits(x: f64, file: &View, u: usize, k: usize) -> u64
+    requires { (u ≤ file.now.sections.counts.unknowns)
         × (k + 1 < unknown_length)
         × NanDeclared u x }
-    ensures { result ≡ bound_bits f.now s u k x }
+    ensures { result ≡ bound_bits file.now.bytes.now file.now.sections u k x }
 {
-    if x != x {
-        return unknown_bits(f, s, u - 1, k);
+    if x.is_nan() {
+        return file.unknown_bits(u - 1, k);
     }
-    f64::to_bits(x)
+    x.to_bits()
 }
 
 // Writes the two words of a number's bits.
@@ -127,22 +110,20 @@ fn put_bits(bits: u64, out: &mut [u8], place: usize)
     requires { place + 4 * bits_length ≤ length out.old }
     ensures { out.new ≡ put out.old place (bytes_of (low bits ∷ high bits ∷ [])) }
 {
-    put_word(out, place, (bits % HIGH) as u32);
-    put_word(out, place + WORD_BYTES, (bits / HIGH) as u32);
+    out[place..place + FLOAT_BYTES].copy_from_slice(&bits.to_le_bytes());
 }
 
 // Writes the four words of bounds, declared by unknown u - 1, or by none where u is 0.
-pub fn put_bounds(b: Bounds, f: &[u8], s: Sections, u: usize, out: &mut [u8], place: usize)
-    requires { Open f.now s
-        × (u ≤ s.counts.unknowns)
+pub fn put_bounds(b: Bounds, file: &View, u: usize, out: &mut [u8], place: usize)
+    requires { (u ≤ file.now.sections.counts.unknowns)
         × NansDeclared u b
         × (place + 4 * bounds_length ≤ length out.old) }
     ensures { out.new ≡ put out.old place
-        (bytes_of (bounds_words (bounds_bits f.now s u b))) }
+        (bytes_of (bounds_words (bounds_bits file.now.bytes.now file.now.sections u b))) }
 {
-    put_bits(bound_bits(b.lower, f, s, u, UNKNOWN_LOWER), out, place);
+    put_bits(bound_bits(b.lower, file, u, UNKNOWN_LOWER), out, place);
     put_bits(
-        bound_bits(b.upper, f, s, u, UNKNOWN_UPPER),
+        bound_bits(b.upper, file, u, UNKNOWN_UPPER),
         out,
         place + FLOAT_BYTES,
     );
@@ -150,8 +131,7 @@ pub fn put_bounds(b: Bounds, f: &[u8], s: Sections, u: usize, out: &mut [u8], pl
 
 // Writes the bounds of variable v, of a name (plus 1) of model m.
 pub fn put_var_bounds(
-    f: &[u8],
-    s: Sections,
+    file: &View,
     classes: &[u8],
     m: usize,
     v: usize,
@@ -159,21 +139,20 @@ pub fn put_var_bounds(
     out: &mut [u8],
     place: usize,
 )
-    requires { Bounded f.now s classes.now m
+    requires { Bounded file.now.bytes.now file.now.sections classes.now m
         × (place + 4 * bounds_length ≤ length out.old) }
     ensures { out.new ≡ put out.old place
-        (bytes_of (bounds_words (var_bounds (file_in f.now s).names
-        (model_at (file_in f.now s) m).unknowns v name))) }
+        (bytes_of (bounds_words (var_bounds (file_seen file.now).names
+        (model_at (file_seen file.now) m).unknowns v name))) }
 {
     if v == 0 {
-        put_bounds(bounds_from(true), f, s, 0, out, place);
+        put_bounds(bounds_from(true), file, 0, out, place);
         return;
     }
-    let u = last_declared(f, s, m, name);
+    let u = last_declared(file, m, name);
     put_bounds(
-        declared_bounds(f, s, classes, u, false),
-        f,
-        s,
+        declared_bounds(file, classes, u, false),
+        file,
         u,
         out,
         place,
@@ -183,19 +162,17 @@ pub fn put_var_bounds(
 // Writes time's bounds, those that model m declares last for the name (plus 1) of t.
 pub fn put_time_bounds(
     time: Bounds,
-    f: &[u8],
-    s: Sections,
+    file: &View,
     m: usize,
     name: usize,
     out: &mut [u8],
     place: usize,
 )
-    requires { Open f.now s
-        × (m < s.counts.models)
-        × Floating (time_in f.now s m name) time
+    requires { (m < file.now.sections.counts.models)
+        × Floating (time_in file.now.bytes.now file.now.sections m name) time
         × (place + 4 * bounds_length ≤ length out.old) }
     ensures { out.new ≡ put out.old place
-        (bytes_of (bounds_words (time_in f.now s m name))) }
+        (bytes_of (bounds_words (time_in file.now.bytes.now file.now.sections m name))) }
 {
-    put_bounds(time, f, s, last_declared(f, s, m, name), out, place);
+    put_bounds(time, file, last_declared(file, m, name), out, place);
 }

@@ -1,6 +1,6 @@
 // The root's variables laid into the area: their records, which hold nothing yet, and behind them their dependents.
 ghost use Rattle.std.specs.Prelude.{◌≡◌, length};
-ghost use Rattle.ast.specs.Opens.{file_in};
+ghost use Rattle.ast.specs.Views.{file_seen};
 ghost use Rattle.definitions.specs.Numbers.{most_names};
 ghost use Rattle.builder.specs.Tables.{Blank};
 ghost use Rattle.builder.specs.VariableTables.{roster_in, Numbers};
@@ -12,13 +12,12 @@ use crate::variables::records::write_vars;
 use crate::variables::roster::roster_of;
 use area::sections::Sizes;
 use ast::layout::MOST_NAMES;
-use ast::sections::Sections;
+use ast::view::View;
 
 // Lays the variables of model m into an area of n nodes and q statements, notes their numbers by name in a table
 // without entries, and gives the sizes.
 pub fn lay_vars(
-    f: &[u8],
-    s: Sections,
+    file: &View,
     classes: &[u8; MOST_NAMES],
     m: usize,
     area: &mut [u8],
@@ -26,20 +25,20 @@ pub fn lay_vars(
     q: usize,
     numbers: &mut [u16],
 ) -> Sizes
-    requires { Bounded f.now s classes.now m
+    requires { Bounded file.now.bytes.now file.now.sections classes.now m
         × VarsRoom n q area.old
         × Blank most_names numbers.old }
-    ensures { VarsLaid (file_in f.now s) m n q area.old result area.new
-        × (Numbers (roster_in f.now s m) numbers.new
+    ensures { VarsLaid (file_seen file.now) m n q area.old result area.new
+        × (Numbers (roster_in file.now.bytes.now file.now.sections m) numbers.new
         × (length numbers.new ≡ most_names)) }
 {
-    let named = roster_of(f, s, classes, m, area, n, q, numbers);
-    let deps = write_vars(f, s, classes, m, area, named, numbers);
+    let named = roster_of(file, classes, m, area, n, q, numbers);
+    let deps = write_vars(file, classes, m, area, named, numbers);
     let z = Sizes {
         nodes: n,
         stmts: q,
         vars: named.vars,
-        deps: deps,
+        deps,
     };
     reach_time(area, z);
     z

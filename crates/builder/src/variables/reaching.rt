@@ -19,22 +19,13 @@ fn reaches_time(area: &[u8], z: Sizes, v: usize) -> bool
     let at = deps_at(z);
     let first = var_of(area, z, v, VAR_FIRST_DEP) as usize;
     let count = var_of(area, z, v, VAR_DEPS) as usize;
-    let mut i = 0;
-    while i < count {
+    for i in 0..count {
         let d = dep_word(area, at, z.deps, first + i);
         if var_of(area, z, d, VAR_TIMED) == 1 {
             return true;
         }
-        i += 1;
     }
     false
-}
-
-// 1 for yes.
-fn mark(yes: bool) -> u8
-    ensures { result ≡ flag yes }
-{
-    if yes { 1 } else { 0 }
 }
 
 // The next round of marks: t's, and that of each variable of which a dependent was marked.
@@ -43,10 +34,8 @@ fn time_round(area: &[u8], z: Sizes) -> [u8; MOST_VARS]
     ensures { Round z area.now result }
 {
     let mut new = [0u8; MOST_VARS];
-    let mut v = 0;
-    while v < z.vars {
-        new[v] = mark((v == 0) | reaches_time(area, z, v));
-        v += 1;
+    for v in 0..z.vars {
+        new[v] = u8::from((v == 0) | reaches_time(area, z, v));
     }
     new
 }
@@ -62,13 +51,11 @@ fn take_marks(area: &mut [u8], z: Sizes, next: &[u8]) -> bool
         → get_or next.now v 0 ≡ get_or (marks_in area.old z) v 0) }
 {
     let mut changed = false;
-    let mut v = 0;
-    while v < z.vars {
+    for v in 0..z.vars {
         let old = var_of(area, z, v, VAR_TIMED);
-        let new = next[v] as u32;
-        changed = changed | (old != new);
+        let new = u32::from(next[v]);
+        changed |= old != new;
         put_var(area, z, v, VAR_TIMED, new);
-        v += 1;
     }
     changed
 }
@@ -81,12 +68,10 @@ pub fn reach_time(area: &mut [u8], z: Sizes)
     ensures { VarsAre z area.old (timed_from (timed_by area.old z z.vars) 0
         (area_vars area.old z)) area.new }
 {
-    let mut k = 0;
-    while k < z.vars {
+    for _ in 0..z.vars {
         let next = time_round(area, z);
         if !take_marks(area, z, &next) {
             return;
         }
-        k += 1;
     }
 }

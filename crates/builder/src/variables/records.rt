@@ -1,10 +1,10 @@
 // The records of the root's variables and the header.
 ghost use Rattle.std.specs.Prelude.{◌≡◌, ◌++◌, ◌+◌, ◌*◌, ◌≤◌, ◌<◌, length, drop, get_or};
-ghost use Rattle.functions.specs.Lists.{each, flag};
+ghost use Rattle.functions.specs.Lists.{each};
 ghost use Rattle.ast.specs.Words.{bytes_of};
 ghost use Rattle.ast.specs.Bytes.{put};
 ghost use Rattle.ast.specs.Encode.{encode};
-ghost use Rattle.ast.specs.Opens.{file_in};
+ghost use Rattle.ast.specs.Views.{file_seen};
 ghost use Rattle.definitions.specs.Numbers.{most_deps, variable_length};
 ghost use Rattle.definitions.specs.Variables.{from_zero, last_bounds, at};
 ghost use Rattle.definitions.specs.Flatten.{model_at};
@@ -21,19 +21,12 @@ use crate::root::Root;
 use crate::variables::bounds::{put_time_bounds, put_var_bounds};
 use crate::variables::roster::{set_dependents, time_index};
 use area::header::put_counts;
-use area::layout::{BOUNDS_AT, TIME_AT, VAR_BYTES, VAR_NAME, WORD};
+use area::layout::{BOUNDS_AT, TIME_AT, VAR_BYTES, VAR_NAME};
 use area::records::var_of;
 use area::sections::{Sizes, deps_at, vars_at};
 use ast::layout::MOST_NAMES;
-use ast::sections::Sections;
+use ast::view::View;
 use ast::words::put_record;
-
-// 1 for true.
-fn flag_of(b: bool) -> u32
-    ensures { result ≡ flag b }
-{
-    if b { 1 } else { 0 }
-}
 
 // What a variable's record says in front of its bounds: its name plus 1, its dependents from `first` up to `end`, its
 // time index plus 1 or 0, and whether it is time-dependent.
@@ -53,26 +46,16 @@ fn put_lead(area: &mut [u8], at: usize, lead: Lead)
     ensures { area.new ≡ put area.old at
         (bytes_of (lead_words lead.name lead.first lead.end lead.index lead.time)) }
 {
-    let state = flag_of(lead.first < lead.end);
+    let state = u32::from(lead.first < lead.end);
     let count = lead.end - lead.first;
-    let timed = flag_of(lead.time);
-    put_record(
-        &mut area[at..],
-        lead.name,
-        state,
-        lead.index,
-        lead.first,
-        count,
-        0,
-        0,
-        timed,
-    );
+    let timed = u32::from(lead.time);
+    let words = [lead.name, state, lead.index, lead.first, count, 0, 0, timed];
+    put_record(&mut area[at..], &words);
 }
 
 // Writes the record of variable v at a place.
 fn put_variable(
-    f: &[u8],
-    s: Sections,
+    file: &View,
     classes: &[u8],
     m: usize,
     area: &mut [u8],
@@ -80,18 +63,17 @@ fn put_variable(
     v: usize,
     lead: Lead,
 )
-    requires { Bounded f.now s classes.now m
+    requires { Bounded file.now.bytes.now file.now.sections classes.now m
         × (at + 4 * variable_length ≤ length area.old)
         × (lead.first ≤ lead.end) }
     ensures { area.new ≡ put area.old at
         (bytes_of (lead_words lead.name lead.first lead.end lead.index lead.time ++ bounds_words
-        (var_bounds (file_in f.now s).names (model_at (file_in f.now s) m).unknowns v
+        (var_bounds (file_seen file.now).names (model_at (file_seen file.now) m).unknowns v
         lead.name))) }
 {
     put_lead(area, at, lead);
     put_var_bounds(
-        f,
-        s,
+        file,
         classes,
         m,
         v,
@@ -111,12 +93,12 @@ fn lead_of(area: &[u8], z: Sizes, v: usize, name: u32, first: usize, end: usize)
     ensures { LeadOf result v name first end (words_from (drop (deps_at z) area.now) first end) }
 {
     let at = deps_at(z);
-    let index = time_index(&area[at..], first, end);
+    let index = time_index(&area[at..], first, end) as u32;
     Lead {
-        name: name,
+        name,
         first: first as u32,
         end: end as u32,
-        index: (index % WORD) as u32,
+        index,
         time: v == 0,
     }
 }
@@ -124,8 +106,7 @@ fn lead_of(area: &[u8], z: Sizes, v: usize, name: u32, first: usize, end: usize)
 // Writes the dependents of variable v, behind `done` ones, and its record, which has its name before and holds nothing
 // yet, and gives the new count of dependents.
 fn write_var(
-    f: &[u8],
-    s: Sections,
+    file: &View,
     classes: &[u8; MOST_NAMES],
     m: usize,
     area: &mut [u8],
@@ -134,60 +115,57 @@ fn write_var(
     v: usize,
     done: usize,
 ) -> usize
-    requires { Bounded f.now s classes.now m
-        × Numbered f.now s m numbers.now
-        × VarNext (file_in f.now s) m z area.old v done }
-    ensures { (result ≡ done + length (at (scope_at (file_in f.now s) m).vars v).deps)
+    requires { Bounded file.now.bytes.now file.now.sections classes.now m
+        × Numbered file.now.bytes.now file.now.sections m numbers.now
+        × VarNext (file_seen file.now) m z area.old v done }
+    ensures { (result ≡ done + length (at (scope_at (file_seen file.now) m).vars v).deps)
         × (area.new ≡ put (put area.old (deps_at z + 4 * done)
-        (bytes_of (at (scope_at (file_in f.now s) m).vars v).deps)) (vars_at z + 4 * variable_length * v)
-        (bytes_of (unheld_words is_time v done (at (scope_at (file_in f.now s) m).vars v)))) }
+        (bytes_of (at (scope_at (file_seen file.now) m).vars v).deps)) (vars_at z + 4 * variable_length * v)
+        (bytes_of (unheld_words is_time v done (at (scope_at (file_seen file.now) m).vars v)))) }
 {
     let name = var_of(area, z, v, VAR_NAME);
     let from = deps_at(z);
-    let end = set_dependents(f, s, numbers, m, name as usize, &mut area[from..], done);
+    let end = set_dependents(file, numbers, m, name as usize, &mut area[from..], done);
     let lead = lead_of(area, z, v, name, done, end);
     let place = vars_at(z) + VAR_BYTES * v;
-    put_variable(f, s, classes, m, area, place, v, lead);
+    put_variable(file, classes, m, area, place, v, lead);
     end
 }
 
 // The same of all variables, whose records have their names before; gives the count of dependents.
 pub fn write_vars(
-    f: &[u8],
-    s: Sections,
+    file: &View,
     classes: &[u8; MOST_NAMES],
     m: usize,
     area: &mut [u8],
     z: Sizes,
     numbers: &[u16],
 ) -> usize
-    requires { Bounded f.now s classes.now m
-        × Numbered f.now s m numbers.now
-        × VarsNamed (file_in f.now s) m z area.old }
-    ensures { (result ≡ length (each (λ x. x.deps) (scope_at (file_in f.now s) m).vars))
+    requires { Bounded file.now.bytes.now file.now.sections classes.now m
+        × Numbered file.now.bytes.now file.now.sections m numbers.now
+        × VarsNamed (file_seen file.now) m z area.old }
+    ensures { (result ≡ length (each (λ x. x.deps) (scope_at (file_seen file.now) m).vars))
         × (area.new ≡ put (put area.old (deps_at z)
-        (bytes_of (each (λ x. x.deps) (scope_at (file_in f.now s) m).vars))) (vars_at z)
-        (encode (untimed_records (scope_at (file_in f.now s) m).vars))) }
+        (bytes_of (each (λ x. x.deps) (scope_at (file_seen file.now) m).vars))) (vars_at z)
+        (encode (untimed_records (scope_at (file_seen file.now) m).vars))) }
 {
     let mut done = 0;
-    let mut v = 0;
-    while v < z.vars {
-        done = write_var(f, s, classes, m, area, z, numbers, v, done);
-        v += 1;
+    for v in 0..z.vars {
+        done = write_var(file, classes, m, area, z, numbers, v, done);
     }
     done
 }
 
 // Writes the header of an answer of a root: the counts, the instances, and time's bounds, those declared last for t.
-pub fn write_header(f: &[u8], s: Sections, root: Root, area: &mut [u8], errors: usize)
-    requires { Headed f.now s root.model root.instances errors root.sizes root.time area.old }
+pub fn write_header(file: &View, root: Root, area: &mut [u8], errors: usize)
+    requires { Headed file.now.bytes.now file.now.sections root.model root.instances errors root.sizes root.time area.old }
     ensures { area.new ≡ put area.old 0
         (bytes_of (head_words root.sizes errors root.instances
-        (last_bounds (file_in f.now s).names (get_or (names_in area.old root.sizes) 0 0) from_zero
-        (model_at (file_in f.now s) root.model).unknowns))) }
+        (last_bounds (file_seen file.now).names (get_or (names_in area.old root.sizes) 0 0) from_zero
+        (model_at (file_seen file.now) root.model).unknowns))) }
 {
     let z = root.sizes;
     let name = var_of(area, z, 0, VAR_NAME) as usize;
     put_counts(area, z, errors, root.instances);
-    put_time_bounds(root.time, f, s, root.model, name, area, TIME_AT);
+    put_time_bounds(root.time, file, root.model, name, area, TIME_AT);
 }

@@ -2,7 +2,6 @@
 ghost use Rattle.std.specs.Prelude.{◌≡◌, [], ◌∷◌, ◌+◌, ◌*◌, ◌≤◌, ◌<◌, length};
 ghost use Rattle.std.proofs.Math.Option.{none};
 ghost use Rattle.functions.specs.Lists.{plus_one};
-ghost use Rattle.ast.specs.Opens.{Open};
 ghost use Rattle.definitions.specs.Numbers.{most_names, most_variables};
 ghost use Rattle.definitions.specs.Variables.{kept_deps, last_time};
 ghost use Rattle.builder.specs.Tables.{ClassedModel, Blank};
@@ -19,8 +18,7 @@ use ast::layout::{
     DEP_BYTES, MODEL_FIRST_UNKNOWN, MODEL_UNKNOWNS, MOST_NAMES, UNKNOWN_DEPS, UNKNOWN_FIRST_DEP,
     UNKNOWN_NAME,
 };
-use ast::records::{dep, model, unknown};
-use ast::sections::Sections;
+use ast::view::View;
 use ast::words::{put_word, read_word};
 
 // Lists t alone, as the one variable there is: its record has its name's number plus 1 (0 where no name is t), and
@@ -55,10 +53,8 @@ fn declare(area: &mut [u8], z: Sizes, numbers: &mut [u16], name: usize) -> Sizes
         return z;
     }
     let more = Sizes {
-        nodes: z.nodes,
-        stmts: z.stmts,
         vars: z.vars + 1,
-        deps: z.deps,
+        ..z
     };
     put_var(area, more, z.vars, VAR_NAME, (name + 1) as u32);
     numbers[name] = (z.vars + 1) as u16;
@@ -68,8 +64,7 @@ fn declare(area: &mut [u8], z: Sizes, numbers: &mut [u16], name: usize) -> Sizes
 // Lists the variables of model m behind n nodes and q statements, by name in a table without entries, and gives the
 // sizes with them.
 pub fn roster_of(
-    f: &[u8],
-    s: Sections,
+    file: &View,
     classes: &[u8; MOST_NAMES],
     m: usize,
     area: &mut [u8],
@@ -77,28 +72,26 @@ pub fn roster_of(
     q: usize,
     numbers: &mut [u16],
 ) -> Sizes
-    requires { ClassedModel f.now s classes.now m
+    requires { ClassedModel file.now.bytes.now file.now.sections classes.now m
         × VarsRoom n q area.old
         × Blank most_names numbers.old }
-    ensures { VarsListed f.now s m n q area.old result area.new
+    ensures { VarsListed file.now.bytes.now file.now.sections m n q area.old result area.new
         numbers.new }
 {
-    let first = model(f, s, m, MODEL_FIRST_UNKNOWN);
-    let count = model(f, s, m, MODEL_UNKNOWNS);
+    let first = file.model(m, MODEL_FIRST_UNKNOWN);
+    let count = file.model(m, MODEL_UNKNOWNS);
     let mut z = Sizes {
         nodes: n,
         stmts: q,
         vars: 1,
         deps: 0,
     };
-    time_alone(time_name(f, s, classes), area, z, numbers);
-    let mut i = 0;
-    while i < count {
-        let name = unknown(f, s, first + i, UNKNOWN_NAME);
+    time_alone(time_name(file, classes), area, z, numbers);
+    for i in 0..count {
+        let name = file.unknown(first + i, UNKNOWN_NAME);
         if !is_reserved(classes[name]) {
             z = declare(area, z, numbers, name);
         }
-        i += 1;
     }
     z
 }
@@ -116,77 +109,62 @@ fn put_dep(v: u16, out: &mut [u8], done: usize) -> usize
 }
 
 // Writes unknown u's kept dependents behind `done` ones and gives their new count.
-fn put_unknown_deps(
-    f: &[u8],
-    s: Sections,
-    numbers: &[u16],
-    u: usize,
-    out: &mut [u8],
-    done: usize,
-) -> usize
-    requires { Open f.now s
-        × (u < s.counts.unknowns)
+fn put_unknown_deps(file: &View, numbers: &[u16], u: usize, out: &mut [u8], done: usize) -> usize
+    requires { (u < file.now.sections.counts.unknowns)
         × (length numbers.now ≡ most_names)
-        × RoomBehind (kept_by numbers.now (unknown_in f.now s u).deps) done out.old }
-    ensures { PutBehind (kept_by numbers.now (unknown_in f.now s u).deps) done
+        × RoomBehind (kept_by numbers.now (unknown_in file.now.bytes.now file.now.sections u).deps) done out.old }
+    ensures { PutBehind (kept_by numbers.now (unknown_in file.now.bytes.now file.now.sections u).deps) done
         out.old result out.new }
 {
-    let first = unknown(f, s, u, UNKNOWN_FIRST_DEP);
-    let count = unknown(f, s, u, UNKNOWN_DEPS);
+    let first = file.unknown(u, UNKNOWN_FIRST_DEP);
+    let count = file.unknown(u, UNKNOWN_DEPS);
     let mut total = done;
-    let mut i = 0;
-    while i < count {
-        total = put_dep(numbers[dep(f, s, first + i)], out, total);
-        i += 1;
+    for i in 0..count {
+        total = put_dep(numbers[file.dep(first + i)], out, total);
     }
     total
 }
 
 // The same where unknown u declares the name (plus 1), else nothing.
 fn put_named_deps(
-    f: &[u8],
-    s: Sections,
+    file: &View,
     numbers: &[u16],
     u: usize,
     name: usize,
     out: &mut [u8],
     done: usize,
 ) -> usize
-    requires { Open f.now s
-        × (u < s.counts.unknowns)
+    requires { (u < file.now.sections.counts.unknowns)
         × (length numbers.now ≡ most_names)
-        × RoomBehind (kept_named numbers.now name (unknown_in f.now s u)) done out.old }
-    ensures { PutBehind (kept_named numbers.now name (unknown_in f.now s u)) done
+        × RoomBehind (kept_named numbers.now name (unknown_in file.now.bytes.now file.now.sections u)) done out.old }
+    ensures { PutBehind (kept_named numbers.now name (unknown_in file.now.bytes.now file.now.sections u)) done
         out.old result out.new }
 {
-    if unknown(f, s, u, UNKNOWN_NAME) + 1 == name {
-        return put_unknown_deps(f, s, numbers, u, out, done);
+    if file.unknown(u, UNKNOWN_NAME) + 1 == name {
+        return put_unknown_deps(file, numbers, u, out, done);
     }
     done
 }
 
 // Writes the kept dependents of the variable of a name (plus 1) behind `done` ones and gives their new count.
 pub fn set_dependents(
-    f: &[u8],
-    s: Sections,
+    file: &View,
     numbers: &[u16],
     m: usize,
     name: usize,
     out: &mut [u8],
     done: usize,
 ) -> usize
-    requires { Numbered f.now s m numbers.now
-        × RoomBehind (kept_deps (roster_in f.now s m) (unknowns_in f.now s m) name) done out.old }
-    ensures { PutBehind (kept_deps (roster_in f.now s m) (unknowns_in f.now s m) name) done
+    requires { Numbered file.now.bytes.now file.now.sections m numbers.now
+        × RoomBehind (kept_deps (roster_in file.now.bytes.now file.now.sections m) (unknowns_in file.now.bytes.now file.now.sections m) name) done out.old }
+    ensures { PutBehind (kept_deps (roster_in file.now.bytes.now file.now.sections m) (unknowns_in file.now.bytes.now file.now.sections m) name) done
         out.old result out.new }
 {
-    let first = model(f, s, m, MODEL_FIRST_UNKNOWN);
-    let count = model(f, s, m, MODEL_UNKNOWNS);
+    let first = file.model(m, MODEL_FIRST_UNKNOWN);
+    let count = file.model(m, MODEL_UNKNOWNS);
     let mut total = done;
-    let mut i = 0;
-    while i < count {
-        total = put_named_deps(f, s, numbers, first + i, name, out, total);
-        i += 1;
+    for i in 0..count {
+        total = put_named_deps(file, numbers, first + i, name, out, total);
     }
     total
 }
@@ -197,12 +175,10 @@ pub fn time_index(deps: &[u8], first: usize, end: usize) -> usize
         × (4 * end ≤ length deps.now) }
     ensures { result ≡ plus_one (last_time 0 none (words_from deps.now first end)) }
 {
-    let mut i = end;
-    while first < i {
-        if read_word(deps, DEP_BYTES * (i - 1)) == 0 {
-            return i - first;
+    for i in (first..end).rev() {
+        if read_word(deps, DEP_BYTES * i) == 0 {
+            return i - first + 1;
         }
-        i -= 1;
     }
     0
 }

@@ -1,11 +1,8 @@
 use mathlib.Core.Path.{◌≡◌}
-use Prim.Native.Nat.{◌-◌, ◌≤◌}
 use lib.ListN.{drop}
-use Rattle.functions.specs.Rules.{table, rule_in, rule_of}
+use Rattle.functions.specs.Rules.{rule_of}
+use Rattle.functions.proofs.Table.{rule_among}
 use Rattle.functions.proofs.function_rule.Given as goal
 
-abbrev pub invariant-loop-i : goal.invariant-loop-i
-invariant-loop-i l = (l.i ≤ 21) × (rule_of l.name ≡ rule_in (drop l.i table) l.name)
-
-abbrev pub decreases-loop-i : goal.decreases-loop-i
-decreases-loop-i l = 21 - l.i
+abbrev pub invariant-loop-known : goal.invariant-loop-known
+invariant-loop-known l = rule_of l.name ≡ rule_among (drop l.known-index l.known-items) l.name

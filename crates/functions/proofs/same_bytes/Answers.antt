@@ -1,32 +1,6 @@
-use mathlib.Core.Path.{refl, sym, ◌∙◌}
-use native.Mathlib.Omega.{arith}
-use borrow.Author.Tests.{eq-eqb, ne_eqb}
-use Rattle.functions.proofs.Texts.{same_text_long, same_text_step, same_text_end}
+use mathlib.Core.Path.{◌∙◌}
+use Rattle.functions.proofs.Texts.{pointwise_same}
 use Rattle.functions.proofs.same_bytes.Goals as goal
 
-pub returns-then-a-b : goal.returns-then-a-b
-returns-then-a-b c = sym (same_text_long c.args.a.now c.args.b.now (λ e. omega arith))
-
-pub loop-i-init : goal.loop-i-init
-loop-i-init c = (omega arith, omega arith, refl)
-
-pub bounds-a-i : goal.bounds-a-i
-bounds-a-i c = omega arith
-
-pub bounds-b-i : goal.bounds-b-i
-bounds-b-i c = omega arith
-
-pub returns-then-a-i : goal.returns-then-a-i
-returns-then-a-i c = sym (c.loop-i.invariant.2 ∙ same_text_step c.args.a.now c.args.b.now c.loop-i.i (omega arith) (omega arith) ∙ rw (ne_eqb _ _ c.if-a-i.true))
-
-pub overflow_add-i : goal.overflow_add-i
-overflow_add-i c = omega arith
-
-pub loop-i-smaller : goal.loop-i-smaller
-loop-i-smaller c = omega arith
-
-pub loop-i-preserved : goal.loop-i-preserved
-loop-i-preserved c = (omega arith, c.loop-i.invariant.1, c.loop-i.invariant.2 ∙ same_text_step c.args.a.now c.args.b.now c.loop-i.i (omega arith) (omega arith) ∙ rw (eq-eqb _ _ c.if-a-i.false))
-
 pub returns : goal.returns
-returns c = sym (c.loop-i.invariant.2 ∙ same_text_end c.args.a.now c.args.b.now c.loop-i.i (omega arith) (omega arith))
+returns c = c.eq.ensures ∙ pointwise_same c.args.a.now c.args.b.now

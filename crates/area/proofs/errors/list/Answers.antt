@@ -1,11 +1,8 @@
-use Rattle.area.specs.Listing.{found_as}
-use Rattle.area.proofs.Listings.{lists_none}
+use Rattle.area.proofs.Listings.{lists_none, found_as-None, found_as-Some}
 use Rattle.area.proofs.errors.list.Goals as goal
 
-pub returns-in-Nothing : goal.returns-in-Nothing
-unfolding found_as
-returns-in-Nothing c = rw c.in-Nothing.is (lists_none _ _)
+pub returns-in-None : goal.returns-in-None
+returns-in-None c = rw (c.in-None.is, found_as-None) (lists_none _ _)
 
-pub returns-in-Error : goal.returns-in-Error
-unfolding found_as
-returns-in-Error c = rw c.in-Error.is c.put_error.ensures
+pub returns-in-Some : goal.returns-in-Some
+returns-in-Some c = rw (c.in-Some.is, found_as-Some) c.put_error.ensures

@@ -1,11 +1,14 @@
 -- `area::errors::put_error` meets its contract: beyond the first 256 an error is only counted. Assumes nothing.
-use mathlib.Core.Path.{refl}
-use native.Mathlib.Omega.{arith}
+use mathlib.Core.Path.{refl, ◌∙◌}
 use Rattle.area.proofs.Listings.{error_counted, error_listed}
+use Rattle.area.proofs.errors.put_error.Goals.{then-count-lt-MOST_LISTED, else-count-lt-MOST_LISTED}
 use Rattle.area.proofs.errors.put_error.Goals as goal
 
-pub returns-then-count-ge-MOST_LISTED : goal.returns-then-count-ge-MOST_LISTED
-returns-then-count-ge-MOST_LISTED c = (refl, error_counted _ _ _ c.if-count-ge-MOST_LISTED.true)
-
 pub returns : goal.returns
-returns c = (refl, error_listed _ _ _ _ _ _ _ (omega arith) c.put_words.ensures)
+returns c = (
+  refl,
+  elim c.if-count-lt-MOST_LISTED.branch [
+    | then-count-lt-MOST_LISTED w ↦ w.out-is ∙ error_listed _ _ _ c.args.e w.if-count-lt-MOST_LISTED.true w.put_words.ensures
+    | else-count-lt-MOST_LISTED w ↦ w.out-is ∙ error_counted _ _ _ w.if-count-lt-MOST_LISTED.false
+  ],
+)

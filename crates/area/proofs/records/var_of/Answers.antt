@@ -2,13 +2,8 @@ use mathlib.Core.Path.{sym, ◌∙◌}
 use mathlib.Core.List.{[]}
 use lib.ListN.{get_or-map}
 use Rattle.ast.specs.Words.{word_of}
-use Rattle.area.specs.Sections.{stmts_at, vars_at, deps_at, area_vars, column}
-use borrow.Author.Rules.{rules}
+use Rattle.area.specs.Sections.{area_vars, column}
 use Rattle.area.proofs.records.var_of.Goals as goal
-
-pub record_word-requires : goal.record_word-requires
-unfolding stmts_at vars_at deps_at
-record_word-requires c = search rules
 
 pub returns : goal.returns
 unfolding column word_of

@@ -1,12 +1,9 @@
 use mathlib.Core.Path.{◌≡◌}
-use Prim.Native.Nat.{◌≤◌, ◌-◌}
+use Prim.Native.Nat.{◌≤◌}
 use lib.ListN.{drop}
 use Rattle.ast.specs.Words.{section}
 use Rattle.ast.specs.Records.{models_fit}
 use Rattle.ast.proofs.models.models_fit.Given as goal
 
 abbrev pub invariant-loop-i : goal.invariant-loop-i
-invariant-loop-i l = (l.i ≤ l.n) × (l.u ≤ l.unknowns) × (l.q ≤ l.stmts) × (models_fit l.names l.unknowns l.stmts 0 0 (section 7 l.n l.at l.f) ≡ models_fit l.names l.unknowns l.stmts l.u l.q (drop l.i (section 7 l.n l.at l.f)))
-
-abbrev pub decreases-loop-i : goal.decreases-loop-i
-decreases-loop-i l = l.n - l.i
+invariant-loop-i l = (l.u ≤ l.unknowns) × (l.q ≤ l.stmts) × (models_fit l.names l.unknowns l.stmts 0 0 (section 7 l.n l.at l.f) ≡ models_fit l.names l.unknowns l.stmts l.u l.q (drop l.i (section 7 l.n l.at l.f)))

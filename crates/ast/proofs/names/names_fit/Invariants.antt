@@ -1,5 +1,4 @@
 use mathlib.Core.Path.{◌≡◌}
-use Prim.Native.Nat.{◌≤◌, ◌-◌}
 use lib.ListN.{drop}
 use Rattle.ast.specs.Words.{section}
 use Rattle.functions.specs.Lists.{all}
@@ -7,7 +6,4 @@ use Rattle.ast.specs.Records.{name_fits}
 use Rattle.ast.proofs.names.names_fit.Given as goal
 
 abbrev pub invariant-loop-i : goal.invariant-loop-i
-invariant-loop-i l = (l.i ≤ l.n) × (all (name_fits l.size) (section 2 l.n l.at l.f) ≡ all (name_fits l.size) (drop l.i (section 2 l.n l.at l.f)))
-
-abbrev pub decreases-loop-i : goal.decreases-loop-i
-decreases-loop-i l = l.n - l.i
+invariant-loop-i l = all (name_fits l.size) (section 2 l.n l.at l.f) ≡ all (name_fits l.size) (drop l.i (section 2 l.n l.at l.f))

@@ -1,5 +1,5 @@
 use mathlib.Core.Path.{◌≡◌}
-use Prim.Native.Nat.{◌≤◌, ◌-◌, ◌^◌}
+use Prim.Native.Nat.{◌≤◌, ◌^◌}
 use lib.ListN.{drop}
 use Rattle.ast.specs.NodesIn.{nodes_in}
 use Rattle.ast.specs.Words.{section}
@@ -7,7 +7,4 @@ use Rattle.ast.specs.Records.{stmts_fit}
 use Rattle.ast.proofs.stmts.stmts_fit.Given as goal
 
 abbrev pub invariant-loop-i : goal.invariant-loop-i
-invariant-loop-i l = (l.i ≤ l.n) × (l.first ≤ 2 ^ 32) × (stmts_fit l.names l.ns.count (nodes_in l.ns l.f) 0 (section 6 l.n l.at l.f) ≡ stmts_fit l.names l.ns.count (nodes_in l.ns l.f) l.first (drop l.i (section 6 l.n l.at l.f)))
-
-abbrev pub decreases-loop-i : goal.decreases-loop-i
-decreases-loop-i l = l.n - l.i
+invariant-loop-i l = (l.first ≤ 2 ^ 32) × (stmts_fit l.names l.ns.count (nodes_in l.ns l.f) 0 (section 6 l.n l.at l.f) ≡ stmts_fit l.names l.ns.count (nodes_in l.ns l.f) l.first (drop l.i (section 6 l.n l.at l.f)))

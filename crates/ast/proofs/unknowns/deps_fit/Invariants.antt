@@ -1,5 +1,4 @@
 use mathlib.Core.Path.{◌≡◌}
-use Prim.Native.Nat.{◌≤◌, ◌-◌}
 use lib.ListN.{drop, take}
 use Rattle.ast.specs.Words.{words}
 use lib.Dec.{ltb}
@@ -7,7 +6,4 @@ use Rattle.functions.specs.Lists.{all}
 use Rattle.ast.proofs.unknowns.deps_fit.Given as goal
 
 abbrev pub invariant-loop-i : goal.invariant-loop-i
-invariant-loop-i l = (l.i ≤ l.n) × (all (λ d. ltb d l.names) (take l.n (words (drop l.at l.f))) ≡ all (λ d. ltb d l.names) (drop l.i (take l.n (words (drop l.at l.f)))))
-
-abbrev pub decreases-loop-i : goal.decreases-loop-i
-decreases-loop-i l = l.n - l.i
+invariant-loop-i l = all (λ d. ltb d l.names) (take l.n (words (drop l.at l.f))) ≡ all (λ d. ltb d l.names) (drop l.i (take l.n (words (drop l.at l.f))))

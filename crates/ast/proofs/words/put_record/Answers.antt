@@ -1,5 +1,11 @@
-use Rattle.ast.proofs.Encodes.{eight_words}
+use mathlib.Core.Path.{◌∙◌}
+use native.Mathlib.Omega.{arith}
+use Rattle.ast.proofs.Encodes.{no_words, word_more}
 use Rattle.ast.proofs.words.put_record.Goals as goal
 
-pub returns : goal.returns
-returns c = eight_words c.args.out.now _ _ _ _ _ _ _ _ _ _ _ _ _ _ _ _ c.requires c.put_word.ensures c.put_word-2.ensures c.put_word-3.ensures c.put_word-4.ensures c.put_word-5.ensures c.put_word-6.ensures c.put_word-7.ensures c.put_word-8.ensures
+pub loop-k-init : goal.loop-k-init
+loop-k-init c = no_words c.args.out.now
+
+pub loop-k-preserved : goal.loop-k-preserved
+loop-k-preserved c = let l = c.loop-k in
+    c.put_word.ensures ∙ word_more c.args.out.now l.out c.args.words.now l.k (omega arith) (omega arith) l.invariant

@@ -5,16 +5,16 @@ use Rattle.builder.proofs.answer.finish.Goals as goal
 
 pub all_errors-count-requires : goal.all_errors-count-requires
 all_errors-count-requires c = let a = c.args in
-    (errors_needs a.f.now a.s a.classes.now a.callees.now a.numbers.now a.root.model a.root.instances a.root.sizes a.root.time c.requires.0 a.area.now c.requires.1, c.no_errors-errors.ensures)
+    (errors_needs a.file.now.bytes.now a.file.now.sections a.classes.now a.callees.now a.numbers.now a.root.model a.root.instances a.root.sizes a.root.time c.requires.0 a.area.now c.requires.1, c.no_errors-errors.ensures)
 
 pub put_errors-requires : goal.put_errors-requires
 put_errors-requires c = let a = c.args in
-    let n = copy_needs a.f.now a.s a.classes.now a.callees.now a.numbers.now a.root.model a.root.instances a.root.sizes a.root.time c.requires.0 a.left.stmts a.left.states c.requires.2.0 c.requires.2.1 _ _ a.area.now _ c.requires.1 c.no_errors-errors.ensures c.all_errors-count.ensures in
+    let n = copy_needs a.file.now.bytes.now a.file.now.sections a.classes.now a.callees.now a.numbers.now a.root.model a.root.instances a.root.sizes a.root.time c.requires.0 a.left.stmts a.left.states c.requires.2.0 c.requires.2.1 _ _ a.area.now _ c.requires.1 c.no_errors-errors.ensures c.all_errors-count.ensures in
     (n.0, n.1, omega arith)
 
 pub write_header-requires : goal.write_header-requires
 write_header-requires c = let a = c.args in
-    header_needs a.f.now a.s a.classes.now a.callees.now a.numbers.now a.root.model a.root.instances a.root.sizes a.root.time c.requires.0 a.left.stmts a.left.states c.requires.2.0 c.requires.2.1 _ _ a.area.now _ c.requires.1 c.no_errors-errors.ensures c.all_errors-count.ensures _ c.put_errors.ensures
+    header_needs a.file.now.bytes.now a.file.now.sections a.classes.now a.callees.now a.numbers.now a.root.model a.root.instances a.root.sizes a.root.time c.requires.0 a.left.stmts a.left.states c.requires.2.0 c.requires.2.1 _ _ a.area.now _ c.requires.1 c.no_errors-errors.ensures c.all_errors-count.ensures _ c.put_errors.ensures
 
 pub errors_at-requires : goal.errors_at-requires
 errors_at-requires c = c.requires.0.known.sizes.small
@@ -24,4 +24,4 @@ overflow_add-result c = omega (arith, c.errors_at.ensures, c.errors_length.ensur
 
 pub returns : goal.returns
 returns c = let a = c.args in
-    finished a.f.now a.s a.classes.now a.callees.now a.numbers.now a.root.model a.root.instances a.root.sizes a.root.time c.requires.0 a.left.stmts a.left.states c.requires.2.0 c.requires.2.1 _ _ a.area.now _ c.requires.1 c.no_errors-errors.ensures c.all_errors-count.ensures _ c.put_errors.ensures _ _ c.write_header.ensures (omega (arith, c.errors_at.ensures, c.errors_length.ensures.0))
+    finished a.file.now.bytes.now a.file.now.sections a.classes.now a.callees.now a.numbers.now a.root.model a.root.instances a.root.sizes a.root.time c.requires.0 a.left.stmts a.left.states c.requires.2.0 c.requires.2.1 _ _ a.area.now _ c.requires.1 c.no_errors-errors.ensures c.all_errors-count.ensures _ c.put_errors.ensures _ _ c.write_header.ensures (omega (arith, c.errors_at.ensures, c.errors_length.ensures.0))

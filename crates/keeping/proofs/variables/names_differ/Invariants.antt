@@ -1,12 +1,8 @@
 use mathlib.Core.Path.{◌≡◌}
-use Prim.Native.Nat.{◌≤◌, ◌-◌}
 use lib.ListN.{drop}
 use Rattle.ast.specs.RecordsIn.{records_in}
 use Rattle.definitions.specs.Layout.{names_differ}
 use Rattle.keeping.proofs.variables.names_differ.Given as goal
 
 abbrev pub invariant-loop-i : goal.invariant-loop-i
-invariant-loop-i l = (l.i ≤ l.rs.count) × (names_differ (records_in l.rs l.area) ≡ names_differ (drop l.i (records_in l.rs l.area)))
-
-abbrev pub decreases-loop-i : goal.decreases-loop-i
-decreases-loop-i l = l.rs.count - l.i
+invariant-loop-i l = names_differ (records_in l.rs l.area) ≡ names_differ (drop l.i (records_in l.rs l.area))

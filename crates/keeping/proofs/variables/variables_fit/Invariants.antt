@@ -1,12 +1,9 @@
 use mathlib.Core.Path.{◌≡◌}
-use Prim.Native.Nat.{◌≤◌, ◌-◌}
+use Prim.Native.Nat.{◌≤◌}
 use lib.ListN.{drop}
 use Rattle.ast.specs.RecordsIn.{records_in}
 use Rattle.definitions.specs.Layout.{variables_fit}
 use Rattle.keeping.proofs.variables.variables_fit.Given as goal
 
 abbrev pub invariant-loop-i : goal.invariant-loop-i
-invariant-loop-i l = (l.i ≤ l.rs.count) × (l.first ≤ l.deps) × (variables_fit l.stmts l.deps 0 (records_in l.rs l.area) ≡ variables_fit l.stmts l.deps l.first (drop l.i (records_in l.rs l.area)))
-
-abbrev pub decreases-loop-i : goal.decreases-loop-i
-decreases-loop-i l = l.rs.count - l.i
+invariant-loop-i l = (l.first ≤ l.deps) × (variables_fit l.stmts l.deps 0 (records_in l.rs l.area) ≡ variables_fit l.stmts l.deps l.first (drop l.i (records_in l.rs l.area)))

@@ -1,9 +1,9 @@
 use Rattle.std.proofs.Common.{◌≡◌, ◌+◌, ◌-◌, ◌^◌, length}
-use Rattle.positions.specs.Pieces.{Standing}
+use Rattle.positions.specs.Pieces.{starts, Standing}
 use Rattle.lines.proofs.text.follow.Given as goal
 
-abbrev pub invariant-loop-e : goal.invariant-loop-e
-invariant-loop-e g l = (length l.piece ≡ length l.initial.piece) × Standing l.e l.starts l.lines l.columns
+abbrev pub invariant-loop-end : goal.invariant-loop-end
+invariant-loop-end g l = (length l.piece ≡ length l.initial.piece) × Standing l.end (starts l.initial.entries) l.entries
 
-abbrev pub decreases-loop-e : goal.decreases-loop-e
-decreases-loop-e g l = 2 ^ 32 + 2 ^ 16 - l.e.size
+abbrev pub decreases-loop-end : goal.decreases-loop-end
+decreases-loop-end g l = 2 ^ 32 + 2 ^ 16 - l.end.size

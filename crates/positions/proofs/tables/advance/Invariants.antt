@@ -1,14 +1,12 @@
 use mathlib.Core.Path.{◌≡◌}
-use mathlib.Core.List.{List, ◌++◌}
-use Prim.Native.Nat.{ℕ, ◌≤◌, ◌-◌}
-use lib.ListN.{length}
-use Rattle.positions.specs.Pieces.{end_of, AsLong, Placed}
-use Rattle.positions.proofs.Entries.{Half}
+use mathlib.Core.List.{List, ◌++◌, map}
+use Prim.Native.Nat.{ℕ}
+use lib.ListN.{take, drop}
+use Rattle.positions.specs.Pieces.{EndOf, starts, placed}
+use Rattle.positions.proofs.Entries.{seen}
 use Rattle.positions.proofs.tables.advance.Given as goal
 
-abbrev pub invariant-loop-i : goal.invariant-loop-i
-invariant-loop-i l = (l.i ≤ length l.starts) × AsLong l.starts l.lines l.columns
-    × ((t : List ℕ) → l.e ≡ end_of t → Placed t l.starts l.initial.lines l.initial.columns → Half t (t ++ l.piece) l.starts l.i l.lines l.columns)
-
-abbrev pub decreases-loop-i : goal.decreases-loop-i
-decreases-loop-i l = length l.starts - l.i
+abbrev pub invariant-loop-entry : goal.invariant-loop-entry
+invariant-loop-entry l = (starts l.entries ≡ starts l.initial.entries)
+    × ((t ss : List ℕ) → EndOf l.end t → l.initial.entries ≡ placed t ss
+    → l.entries ≡ map (seen (t ++ l.piece)) (take l.entry-index l.initial.entries) ++ drop l.entry-index l.initial.entries)

@@ -2,14 +2,14 @@ use native.Mathlib.Omega.{arith}
 use Rattle.positions.proofs.Growing.{found_before, found_later, found_here}
 use Rattle.positions.proofs.tables.look.Goals as goal
 
-pub returns-then-start-e : goal.returns-then-start-e
-returns-then-start-e c = let a = c.args in
-    found_before a.e a.piece.now a.start a.old c.if-start-e.true
+pub returns-then-entry-end : goal.returns-then-entry-end
+returns-then-entry-end c = let a = c.args in
+    found_before a.end a.piece.now a.entry.start a.entry.place c.if-entry-end.true
 
 pub returns-then-piece-n : goal.returns-then-piece-n
 returns-then-piece-n c = let a = c.args in
-    found_later a.e a.piece.now a.start a.old (omega arith)
+    found_later a.end a.piece.now a.entry.start a.entry.place (omega arith)
 
 pub returns : goal.returns
 returns c = let a = c.args in
-    found_here a.e a.piece.now a.start a.old _ c.walk-at.result c.if-piece-n.false (omega arith) c.walk-at.ensures
+    found_here a.end a.piece.now a.entry.start a.entry.place _ c.walk-at.result c.if-piece-n.false (omega arith) c.walk-at.ensures

@@ -1,10 +1,8 @@
-use mathlib.Core.Path.{◌≡◌, refl}
-use Prim.Native.Nat.{◌+◌, ◌*◌, ◌%◌}
-use native.Mathlib.Omega.{arith}
+use mathlib.Core.Path.{refl, ◌∙◌}
 use Rattle.builder.specs.Tables.{lacks_in}
+use Rattle.builder.proofs.laws.RoleLoops.{any_rate}
 use Rattle.builder.proofs.allocation.pairing.lacks.Goals as goal
 
 pub returns : goal.returns
 unfolding lacks_in
-returns c = let z : (2 * c.args.v + 2) % 4294967296 ≡ 2 * c.args.v + 2 = omega (arith, c.requires.1, c.requires.2.vars) in
-    rw (c.var_of.ensures, c.has_role.ensures, z) refl
+returns c = rw (c.contains.ensures.value ∙ any_rate c.args.v c.args.roles.now, c.var_of.ensures, c.from.ensures) refl

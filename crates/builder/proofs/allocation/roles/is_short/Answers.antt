@@ -1,4 +1,4 @@
-use mathlib.Core.Path.{◌≡◌, sym, ap, ◌∙◌}
+use mathlib.Core.Path.{◌≡◌, refl, sym, ◌∙◌}
 use Rattle.ast.specs.Words.{word_of}
 use Rattle.area.specs.Sections.{area_stmt, stmts_at, vars_at}
 use Rattle.builder.specs.Allocating.{is_short}
@@ -24,8 +24,25 @@ start_of-requires c =
     let p = c.requires in
     (p.0, p.1, rw c.stmt_of-2.ensures.0 (p.0.1.left _ p.2 is_equation).0)
 
-pub returns : goal.returns
-returns c =
+pub returns-in-Some-Short : goal.returns-in-Some-Short
+unfolding is_short
+returns-in-Some-Short c =
     let is_equation : word_of (area_stmt c.args.area.now c.args.z c.args.i) 0 ≡ 1 = sym c.stmt_of.ensures.0 ∙ c.if-stmt_of-ne-EQUATION_KIND.false in
     let p = c.requires in
-    c.short_start.ensures ∙ ap is_short c.start_of.ensures ∙ rw c.stmt_of-2.ensures.0 (sym (short_equation _ _ _ p.0.1 _ _ _ p.2 is_equation))
+    let s = c.in-Some-Short in
+    sym (short_equation _ _ _ p.0.1 _ _ _ p.2 is_equation ∙ rw (← c.stmt_of-2.ensures.0, ← c.start_of.ensures, s.is, s.field-0-is) refl)
+
+pub returns-in-Some-Number : goal.returns-in-Some-Number
+unfolding is_short
+returns-in-Some-Number c =
+    let is_equation : word_of (area_stmt c.args.area.now c.args.z c.args.i) 0 ≡ 1 = sym c.stmt_of.ensures.0 ∙ c.if-stmt_of-ne-EQUATION_KIND.false in
+    let p = c.requires in
+    let s = c.in-Some-Number in
+    sym (short_equation _ _ _ p.0.1 _ _ _ p.2 is_equation ∙ rw (← c.stmt_of-2.ensures.0, ← c.start_of.ensures, s.is, s.field-0-is) refl)
+
+pub returns-in-None : goal.returns-in-None
+unfolding is_short
+returns-in-None c =
+    let is_equation : word_of (area_stmt c.args.area.now c.args.z c.args.i) 0 ≡ 1 = sym c.stmt_of.ensures.0 ∙ c.if-stmt_of-ne-EQUATION_KIND.false in
+    let p = c.requires in
+    sym (short_equation _ _ _ p.0.1 _ _ _ p.2 is_equation ∙ rw (← c.stmt_of-2.ensures.0, ← c.start_of.ensures, c.in-None.is) refl)

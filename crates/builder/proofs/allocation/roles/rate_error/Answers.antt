@@ -15,50 +15,40 @@ record_word-name-requires c = search rules
 pub bounds-numbers-name : goal.bounds-numbers-name
 bounds-numbers-name c =
     let name-is : c.record_word-name.result ≡ word_of (area_stmt c.args.area.now c.args.z c.args.i) 1 = rw c.stmts_at.ensures at c.record_word-name.ensures in
-    let name_small : c.record_word-name.result < 256 = omega (arith, name-is, c.requires.2) in
-    omega (arith, name_small, c.requires.3.names)
-
-pub overflow_cast-v-2 : goal.overflow_cast-v-2
-overflow_cast-v-2 c = omega (arith, c.shared_slice_known-3-1.given c.record_word-name.result)
+    omega (arith, name-is, c.requires.2, c.requires.3.names)
 
 pub overflow_add-name : goal.overflow_add-name
 overflow_add-name c =
     let name-is : c.record_word-name.result ≡ word_of (area_stmt c.args.area.now c.args.z c.args.i) 1 = rw c.stmts_at.ensures at c.record_word-name.ensures in
-    let name_small : c.record_word-name.result < 256 = omega (arith, name-is, c.requires.2) in
-    omega (arith, name_small)
+    omega (arith, name-is, c.requires.2)
 
 pub stmt_error-requires : goal.stmt_error-requires
 unfolding stmts_at vars_at deps_at
 stmt_error-requires c = search rules
 
-pub returns-then-v-eq0 : goal.returns-then-v-eq0
-returns-then-v-eq0 c =
-    let name-is : c.record_word-name.result ≡ word_of (area_stmt c.args.area.now c.args.z c.args.i) 1 = rw c.stmts_at.ensures at c.record_word-name.ensures in
-    c.stmt_error.ensures ∙ errors_unknown _ _ _ _ _ name-is c.if-v-eq0.true
+pub returns-in-None : goal.returns-in-None
+returns-in-None c = c.stmt_error.ensures ∙ errors_unknown _ _ _ _ _ (rw c.stmts_at.ensures at c.record_word-name.ensures) c.in-None.ensures
 
 pub takes_rate-requires : goal.takes_rate-requires
 takes_rate-requires c =
     let name-is : c.record_word-name.result ≡ word_of (area_stmt c.args.area.now c.args.z c.args.i) 1 = rw c.stmts_at.ensures at c.record_word-name.ensures in
     let name_small : c.record_word-name.result < 256 = omega (arith, name-is, c.requires.2) in
     let p = c.requires in
-    (p.0, p.3.vars, entry_below p.3 _ name_small c.if-v-eq0.false)
+    (p.0, p.3.vars, rw c.from.ensures (entry_below p.3 _ _ name_small c.in-Some.ensures))
 
-pub returns-then-takes_rate : goal.returns-then-takes_rate
-returns-then-takes_rate c =
+pub returns-in-Some : goal.returns-in-Some
+returns-in-Some c =
+    found_none _ _ (sym (rw c.from.ensures at c.if-takes_rate.ensures)) ∙ errors_known _ _ _ _ _ (rw c.stmts_at.ensures at c.record_word-name.ensures) _ c.in-Some.ensures
+
+pub overflow_add-name-in-Some-2 : goal.overflow_add-name-in-Some-2
+overflow_add-name-in-Some-2 c =
     let name-is : c.record_word-name.result ≡ word_of (area_stmt c.args.area.now c.args.z c.args.i) 1 = rw c.stmts_at.ensures at c.record_word-name.ensures in
-    found_none _ _ (sym c.takes_rate.ensures ∙ c.if-takes_rate.true) ∙ errors_known _ _ _ _ _ name-is c.if-v-eq0.false
+    omega (arith, name-is, c.requires.2)
 
-pub overflow_add-name-2 : goal.overflow_add-name-2
-overflow_add-name-2 c =
-    let name-is : c.record_word-name.result ≡ word_of (area_stmt c.args.area.now c.args.z c.args.i) 1 = rw c.stmts_at.ensures at c.record_word-name.ensures in
-    let name_small : c.record_word-name.result < 256 = omega (arith, name-is, c.requires.2) in
-    omega (arith, name_small)
-
-pub stmt_error-requires-2 : goal.stmt_error-requires-2
+pub stmt_error-requires-in-Some-2 : goal.stmt_error-requires-in-Some-2
 unfolding stmts_at vars_at deps_at
-stmt_error-requires-2 c = search rules
+stmt_error-requires-in-Some-2 c = search rules
 
-pub returns : goal.returns
-returns c =
-    let name-is : c.record_word-name.result ≡ word_of (area_stmt c.args.area.now c.args.z c.args.i) 1 = rw c.stmts_at.ensures at c.record_word-name.ensures in
-    found_error _ _ _ (sym c.takes_rate.ensures ∙ c.if-takes_rate.false) c.stmt_error-2.ensures ∙ errors_known _ _ _ _ _ name-is c.if-v-eq0.false
+pub returns-in-Some-2 : goal.returns-in-Some-2
+returns-in-Some-2 c =
+    found_error _ _ _ (sym (rw c.from.ensures at c.if-takes_rate.ensures)) c.stmt_error-in-Some-2.ensures ∙ errors_known _ _ _ _ _ (rw c.stmts_at.ensures at c.record_word-name.ensures) _ c.in-Some.ensures

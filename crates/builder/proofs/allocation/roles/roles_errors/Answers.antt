@@ -13,7 +13,7 @@ use Rattle.builder.proofs.allocation.roles.roles_errors.Goals as goal
 pub loop-i-init : goal.loop-i-init
 loop-i-init c =
     let errors : Flat → List Error = role_errors_by c.args.numbers.now (indexes_in c.args.area.now c.args.z) (rates_in c.args.area.now c.args.z) c.args.lower in
-    (omega arith, run_begins errors (flats_in c.args.area.now c.args.z) _ _)
+    run_begins errors (flats_in c.args.area.now c.args.z) _ _
 
 pub role_error-requires : goal.role_error-requires
 role_error-requires c = let p = c.requires in
@@ -22,23 +22,17 @@ role_error-requires c = let p = c.requires in
 pub list-listed-requires : goal.list-listed-requires
 list-listed-requires c =
     let errors : Flat → List Error = role_errors_by c.args.numbers.now (indexes_in c.args.area.now c.args.z) (rates_in c.args.area.now c.args.z) c.args.lower in
-    statement_room c.args.area.now c.args.z errors _ _ _ _ c.loop-i.i c.loop-i.invariant.1 (omega (arith, c.loop-i-test.true)) c.requires.2
-
-pub overflow_add-i : goal.overflow_add-i
-overflow_add-i c = omega (arith, c.requires.0.1.small.stmts, c.loop-i-test.true)
-
-pub loop-i-smaller : goal.loop-i-smaller
-loop-i-smaller c = omega (arith, c.loop-i-test.true)
+    statement_room c.args.area.now c.args.z errors _ _ _ _ c.loop-i.i c.loop-i.invariant (omega (arith, c.loop-i-test.true)) c.requires.2
 
 pub loop-i-preserved : goal.loop-i-preserved
 loop-i-preserved c =
     let errors : Flat → List Error = role_errors_by c.args.numbers.now (indexes_in c.args.area.now c.args.z) (rates_in c.args.area.now c.args.z) c.args.lower in
-    (omega (arith, c.loop-i-test.true), statement_goes c.args.area.now c.args.z errors _ _ _ _ c.loop-i.i c.loop-i.invariant.1 (omega (arith, c.loop-i-test.true)) _ c.role_error.ensures _ _ c.list-listed.ensures)
+    statement_goes c.args.area.now c.args.z errors _ _ _ _ c.loop-i.i c.loop-i.invariant (omega (arith, c.loop-i-test.true)) _ c.role_error.ensures _ _ c.list-listed.ensures
 
 pub shape_of-out : goal.shape_of-out
-shape_of-out c = ap length c.loop-i.invariant.1.1 ∙ length_listed _ _ _ c.requires.2.long
+shape_of-out c = ap length c.loop-i.invariant.1 ∙ length_listed _ _ _ c.requires.2.long
 
 pub returns : goal.returns
 returns c =
     let errors : Flat → List Error = role_errors_by c.args.numbers.now (indexes_in c.args.area.now c.args.z) (rates_in c.args.area.now c.args.z) c.args.lower in
-    statements_end c.args.area.now c.args.z errors _ _ _ _ c.loop-i.i c.loop-i.invariant.1 (omega (arith, c.loop-i-test.false))
+    statements_end c.args.area.now c.args.z errors _ _ _ _ c.loop-i.i c.loop-i.invariant (omega (arith, c.loop-i-test.false))

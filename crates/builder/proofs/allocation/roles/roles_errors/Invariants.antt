@@ -6,7 +6,4 @@ use Rattle.builder.specs.Allocating.{flats_in, indexes_in, rates_in, role_errors
 use Rattle.builder.proofs.allocation.roles.roles_errors.Given as goal
 
 abbrev pub invariant-loop-i : goal.invariant-loop-i
-invariant-loop-i l = (l.i ≤ l.z.stmts) × Lists l.initial.out l.count (each (role_errors_by l.numbers (indexes_in l.area l.z) (rates_in l.area l.z) l.lower) (take l.i (flats_in l.area l.z))) l.listed l.out
-
-abbrev pub decreases-loop-i : goal.decreases-loop-i
-decreases-loop-i l = l.z.stmts - l.i
+invariant-loop-i l = Lists l.initial.out l.count (each (role_errors_by l.numbers (indexes_in l.area l.z) (rates_in l.area l.z) l.lower) (take l.i (flats_in l.area l.z))) l.listed l.out

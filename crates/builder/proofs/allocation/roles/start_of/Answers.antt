@@ -16,42 +16,37 @@ bounds-numbers-node_of c =
     let name_small : c.node_of-2.result < 256 = call_name _ _ _ p.0.1.nodes _ p.2 is_call p.0.1.few _ c.node_of-2.ensures.0 in
     omega (arith, name_small, c.requires.1.names)
 
-pub overflow_cast-v : goal.overflow_cast-v
-overflow_cast-v c = omega (arith, c.shared_slice_known-3-1.given c.node_of-2.result)
-
-pub returns-then-v-eq0 : goal.returns-then-v-eq0
-returns-then-v-eq0 c =
+pub returns-in_err-v : goal.returns-in_err-v
+returns-in_err-v c =
     let is_call : kind_at (area_nodes c.args.area.now c.args.z) c.args.i ≡ 5 = sym c.node_of.ensures.0 ∙ c.if-node_of-ne-CALL_KIND.false in
-    sym (start_unknown _ _ _ _ is_call _ c.node_of-2.ensures.0 c.if-v-eq0.true)
+    c.from_residual.ensures ∙ sym (start_unknown _ _ _ _ is_call _ c.node_of-2.ensures.0 (c.in_err-v.ensures))
 
-pub var_of-index-requires : goal.var_of-index-requires
-var_of-index-requires c =
+pub var_of-requires : goal.var_of-requires
+var_of-requires c =
     let p = c.requires in
     let is_call : kind_at (area_nodes c.args.area.now c.args.z) c.args.i ≡ 5 = sym c.node_of.ensures.0 ∙ c.if-node_of-ne-CALL_KIND.false in
     let name_small : c.node_of-2.result < 256 = call_name _ _ _ p.0.1.nodes _ p.2 is_call p.0.1.few _ c.node_of-2.ensures.0 in
-    (p.0.1.small, p.1.vars, entry_below p.1 _ name_small c.if-v-eq0.false, omega arith)
+    (p.0.1.small, p.1.vars, rw c.from.ensures (entry_below p.1 _ _ name_small c.in_ok-v.ensures), omega arith)
 
-pub returns-then-index-eq0 : goal.returns-then-index-eq0
-returns-then-index-eq0 c =
+pub returns-in_err-index : goal.returns-in_err-index
+returns-in_err-index c =
     let is_call : kind_at (area_nodes c.args.area.now c.args.z) c.args.i ≡ 5 = sym c.node_of.ensures.0 ∙ c.if-node_of-ne-CALL_KIND.false in
-    sym (start_untimed _ _ _ _ is_call _ c.node_of-2.ensures.0 c.if-v-eq0.false _ c.var_of-index.ensures c.if-index-eq0.true)
+    c.from_residual-in_err-index.ensures ∙ sym (start_untimed _ _ _ _ is_call _ c.node_of-2.ensures.0 _ c.in_ok-v.ensures _ (rw c.from.ensures at c.var_of.ensures) (c.in_err-index.ensures))
 
 pub returns-then-node_of-index : goal.returns-then-node_of-index
 returns-then-node_of-index c =
     let is_call : kind_at (area_nodes c.args.area.now c.args.z) c.args.i ≡ 5 = sym c.node_of.ensures.0 ∙ c.if-node_of-ne-CALL_KIND.false in
-    sym (start_short _ _ _ _ is_call _ c.node_of-2.ensures.0 c.if-v-eq0.false _ c.var_of-index.ensures c.if-index-eq0.false _ c.node_of-3.ensures.0 (omega (arith, c.if-node_of-index.true)))
+    sym (start_short _ _ _ _ is_call _ c.node_of-2.ensures.0 _ c.in_ok-v.ensures _ (rw c.from.ensures at c.var_of.ensures) _ c.in_ok-index.ensures _ c.node_of-3.ensures.0 c.if-node_of-index.true)
 
 pub arg_at-arg-requires : goal.arg_at-arg-requires
 arg_at-arg-requires c =
-    let is_call : kind_at (area_nodes c.args.area.now c.args.z) c.args.i ≡ 5 = sym c.node_of.ensures.0 ∙ c.if-node_of-ne-CALL_KIND.false in
-    record { flattened = c.requires.0; within = c.requires.2; kind = is_call; few = omega (arith, c.if-node_of-index.false, c.node_of-3.ensures.0) }
+    record { flattened = c.requires.0; within = c.requires.2; kind = sym c.node_of.ensures.0 ∙ c.if-node_of-ne-CALL_KIND.false; few = omega (arith, c.if-node_of-index.false, c.node_of-3.ensures.0) }
 
 pub overflow_sub-arg : goal.overflow_sub-arg
 overflow_sub-arg c =
     let p = c.requires in
     let is_call : kind_at (area_nodes c.args.area.now c.args.z) c.args.i ≡ 5 = sym c.node_of.ensures.0 ∙ c.if-node_of-ne-CALL_KIND.false in
-    let arg-there : (1 ≤ c.arg_at-arg.result) × (c.arg_at-arg.result < c.args.z.nodes) = call_arg _ _ _ p.0.1.nodes _ p.2 is_call _ _ (omega (arith, c.if-node_of-index.false, c.node_of-3.ensures.0)) c.arg_at-arg.ensures in
-    arg-there.0
+    (call_arg _ _ _ p.0.1.nodes _ p.2 is_call _ _ (omega (arith, c.if-node_of-index.false, c.node_of-3.ensures.0)) c.arg_at-arg.ensures).0
 
 pub node_of-requires-4 : goal.node_of-requires-4
 node_of-requires-4 c =
@@ -63,9 +58,9 @@ node_of-requires-4 c =
 pub returns-then-node_of-eq-NUMBER_KIND : goal.returns-then-node_of-eq-NUMBER_KIND
 returns-then-node_of-eq-NUMBER_KIND c =
     let is_call : kind_at (area_nodes c.args.area.now c.args.z) c.args.i ≡ 5 = sym c.node_of.ensures.0 ∙ c.if-node_of-ne-CALL_KIND.false in
-    sym (start_number_lem _ _ _ _ is_call _ c.node_of-2.ensures.0 c.if-v-eq0.false _ c.var_of-index.ensures c.if-index-eq0.false _ c.node_of-3.ensures.0 (omega (arith, c.if-node_of-index.false)) _ c.arg_at-arg.ensures _ c.node_of-4.ensures.0 c.if-node_of-eq-NUMBER_KIND.true)
+    sym (start_number_lem _ _ _ _ is_call _ c.node_of-2.ensures.0 _ c.in_ok-v.ensures _ (rw c.from.ensures at c.var_of.ensures) _ c.in_ok-index.ensures _ c.node_of-3.ensures.0 c.if-node_of-index.false _ c.arg_at-arg.ensures _ c.node_of-4.ensures.0 c.if-node_of-eq-NUMBER_KIND.true)
 
 pub returns : goal.returns
 returns c =
     let is_call : kind_at (area_nodes c.args.area.now c.args.z) c.args.i ≡ 5 = sym c.node_of.ensures.0 ∙ c.if-node_of-ne-CALL_KIND.false in
-    sym (start_no_number _ _ _ _ is_call _ c.node_of-2.ensures.0 c.if-v-eq0.false _ c.var_of-index.ensures c.if-index-eq0.false _ c.node_of-3.ensures.0 (omega (arith, c.if-node_of-index.false)) _ c.arg_at-arg.ensures _ c.node_of-4.ensures.0 c.if-node_of-eq-NUMBER_KIND.false)
+    sym (start_no_number _ _ _ _ is_call _ c.node_of-2.ensures.0 _ c.in_ok-v.ensures _ (rw c.from.ensures at c.var_of.ensures) _ c.in_ok-index.ensures _ c.node_of-3.ensures.0 c.if-node_of-index.false _ c.arg_at-arg.ensures _ c.node_of-4.ensures.0 c.if-node_of-eq-NUMBER_KIND.false)

@@ -1,39 +1,27 @@
-use mathlib.Core.Path.{◌≡◌, sym, ◌∙◌}
-use Prim.Native.Nat.{◌+◌, ◌*◌, ◌%◌}
+use mathlib.Core.Path.{sym, ◌∙◌}
 use native.Mathlib.Omega.{arith}
 use Rattle.builder.proofs.laws.Flats.{number_fits, role_lower, role_wrong, role_short, role_nothing}
 use Rattle.builder.proofs.allocation.roles.start_role.Goals as goal
 
 pub overflow_sub-arg : goal.overflow_sub-arg
-overflow_sub-arg c = let N = number_fits _ _ _ _ c.in-Number.is c.requires.2 in
-    N.1
+overflow_sub-arg c = let s = c.in-Some-Number in
+    (number_fits _ _ _ _ _ s.is (rw s.is at s.field-0-is) c.requires.2).1
 
-pub record_bits-requires : goal.record_bits-requires
-record_bits-requires c = let p = c.requires in
-    let N = number_fits _ _ _ _ c.in-Number.is p.2 in
-    (omega (arith, p.0), omega (arith, N.1, N.2), omega arith)
-
-pub overflow_mul-result : goal.overflow_mul-result
-overflow_mul-result c = let p = c.requires in
-    let N = number_fits _ _ _ _ c.in-Number.is p.2 in
-    omega (arith, N.0, p.1.vars)
-
-pub overflow_add-result : goal.overflow_add-result
-overflow_add-result c = let p = c.requires in
-    let N = number_fits _ _ _ _ c.in-Number.is p.2 in
-    omega (arith, N.0, p.1.vars)
+pub record_bits-bits-requires : goal.record_bits-bits-requires
+record_bits-bits-requires c = let s = c.in-Some-Number in
+    let n = number_fits _ _ _ _ _ s.is (rw s.is at s.field-0-is) c.requires.2 in
+    (omega (arith, c.requires.0), omega (arith, n.1, n.2), omega arith)
 
 pub returns-then-same_number : goal.returns-then-same_number
-returns-then-same_number c = let p = c.requires in
-    λ f. let N = number_fits _ _ _ _ c.in-Number.is p.2 in
-    let m : (2 * c.in-Number.v + 1) % 4294967296 ≡ 2 * c.in-Number.v + 1 = omega (arith, N.0, p.1.vars) in
-    m ∙ sym (role_lower _ _ _ _ _ _ c.in-Number.is (rw (← c.record_bits.ensures) (sym c.same_number.ensures ∙ c.if-same_number.true)))
+returns-then-same_number c = let s = c.in-Some-Number in
+    λ f. role_lower _ _ _ _ _ s.is _ _ (rw s.is at s.field-0-is) (rw (← c.record_bits-bits.ensures) (sym c.same_number.ensures ∙ c.if-same_number.true))
 
 pub returns-else-same_number : goal.returns-else-same_number
-returns-else-same_number c = λ f. sym (role_wrong _ _ _ _ _ _ c.in-Number.is (rw (← c.record_bits.ensures) (sym c.same_number.ensures ∙ c.if-same_number.false)))
+returns-else-same_number c = let s = c.in-Some-Number in
+    λ f. role_wrong _ _ _ _ _ s.is _ _ (rw s.is at s.field-0-is) (rw (← c.record_bits-bits.ensures) (sym c.same_number.ensures ∙ c.if-same_number.false))
 
-pub returns-in-Short : goal.returns-in-Short
-returns-in-Short c = λ f. sym (role_short _ _ _ _ c.in-Short.is)
+pub returns-in-Some-Short : goal.returns-in-Some-Short
+returns-in-Some-Short c = λ f. role_short _ _ _ _ _ c.in-Some-Short.is (rw c.in-Some-Short.is at c.in-Some-Short.field-0-is)
 
-pub returns-in-Nothing : goal.returns-in-Nothing
-returns-in-Nothing c = λ f. sym (role_nothing _ _ _ _ c.in-Nothing.is)
+pub returns-in-None : goal.returns-in-None
+returns-in-None c = λ f. role_nothing _ _ _ _ c.in-None.is

@@ -1,15 +1,24 @@
-use Prim.Native.Nat.{◌≤◌}
+use mathlib.Core.Path.{◌≡◌, ◌∙◌}
 use native.Mathlib.Omega.{arith}
-use lib.ListN.{length}
-use Rattle.builder.proofs.laws.PairedStates.{paired_few, flattened_long, roles_long, left_by, states_by, fated_by_lem}
+use lib.Seq.{length-take-le}
+use Rattle.builder.specs.Root.{queue_by}
+use Rattle.builder.proofs.laws.PairedStates.{flattened_long, left_by, states_by, all_paired, none_paired, fated_by_lem}
 use Rattle.builder.proofs.allocation.statements.allocate_stmts.Goals as goal
+use Rattle.builder.proofs.allocation.statements.allocate_stmts.Goals.{then-left, else-left}
 
 pub write_fates-requires : goal.write_fates-requires
 write_fates-requires c =
-    let queue_long : c.lacking-queue.result.count ≤ length c.lacking-queue.result.states = omega (arith, c.lacking-queue.ensures.0, c.lacking-queue.ensures.1, c.requires.0.1.small.vars) in
-    (c.requires.0.1.small, flattened_long _ _ _ c.requires.0.1, roles_long _ _ _ _ _ c.roles-role.ensures, omega (arith, c.paired.ensures, paired_few c.left_count-left.result c.lacking-queue.result.count, queue_long))
+    let F = c.requires.0.1 in
+    (F.small, flattened_long _ _ _ F, length-take-le _ _ (omega (arith, F.small.stmts)))
 
 pub returns : goal.returns
 returns c =
-    let queue_long : c.lacking-queue.result.count ≤ length c.lacking-queue.result.states = omega (arith, c.lacking-queue.ensures.0, c.lacking-queue.ensures.1, c.requires.0.1.small.vars) in
-    (left_by _ _ _ _ _ c.roles-role.ensures _ c.left_count-left.ensures, states_by _ _ _ _ _ c.roles-role.ensures _ _ queue_long c.lacking-queue.ensures.2, fated_by_lem _ _ _ _ _ c.roles-role.ensures _ _ queue_long c.lacking-queue.ensures.2 _ _ c.left_count-left.ensures c.paired.ensures _ c.write_fates.ensures)
+    let a = c.args in
+    let t = c.roles-table.ensures in
+    let l = c.lacking-states.ensures in
+    let queue : c.if-left.paired.now ≡ queue_by a.area.now a.z a.numbers.now a.lower =
+    elim c.if-left.branch [
+      | then-left w ↦ rw w.paired-is (w.as_slice-paired.ensures.value ∙ all_paired _ _ _ _ _ t _ l _ _ c.left_count.ensures c.len.ensures.value w.if-left.true)
+      | else-left w ↦ rw w.paired-is (none_paired _ _ _ _ _ t _ l _ _ c.left_count.ensures c.len.ensures.value w.if-left.false)
+    ] in
+    (left_by _ _ _ _ _ t _ c.left_count.ensures, states_by _ _ _ _ _ t _ l _ c.len.ensures.value, fated_by_lem _ _ _ _ _ t _ _ queue c.write_fates.ensures)

@@ -18,8 +18,4 @@ abbrev pub decreases-stmt_errors : goal.decreases-stmt_errors
 decreases-stmt_errors l = 3 * l.place.depth + 2
 
 abbrev pub invariant-builder-loop-i : goal.invariant-builder-loop-i
-invariant-builder-loop-i l = (l.i ≤ l.stmts)
-    × Lists l.initial.out l.initial.listed (each (stmt_errors (file_in l.f l.s) (λ j. errors_of (file_in l.f l.s) (l.k - 1) j) (scope_in l.f l.s l.m)) (take l.i (model_at (file_in l.f l.s) l.m).stmts)) l.listed l.out
-
-abbrev pub decreases-builder-loop-i : goal.decreases-builder-loop-i
-decreases-builder-loop-i l = l.stmts - l.i
+invariant-builder-loop-i l = Lists l.initial.out l.initial.listed (each (stmt_errors (file_in l.file.bytes.now l.file.sections) (λ j. errors_of (file_in l.file.bytes.now l.file.sections) (l.k - 1) j) (scope_in l.file.bytes.now l.file.sections l.m)) (take l.i (model_at (file_in l.file.bytes.now l.file.sections) l.m).stmts)) l.listed l.out

@@ -7,24 +7,24 @@ use Rattle.builder.proofs.errors.builder.domain_error.Goals as goal
 
 pub bounds-classes-name : goal.bounds-classes-name
 bounds-classes-name c = let p = c.requires in
-    let read-domain = c.read_domain in
-    domain_small p read-domain.result read-domain.ensures _ c.in-Named.is
+    let read = c.domain in
+    domain_small p read.result read.ensures _ c.in-Named.is
 
 pub unknown_error-requires : goal.unknown_error-requires
 unknown_error-requires c = let p = c.requires in
-    let read-domain = c.read_domain in
-    (p.opened, p.within, omega (arith, domain_small p read-domain.result read-domain.ensures _ c.in-Named.is))
+    let read = c.domain in
+    (p.within, omega (arith, domain_small p read.result read.ensures _ c.in-Named.is))
 
 pub returns-in-None : goal.returns-in-None
 unfolding found_as
-returns-in-None c = let read-domain = c.read_domain in
-    sym (domain_none c.requires read-domain.result read-domain.ensures c.in-None.is)
+returns-in-None c = let read = c.domain in
+    sym (domain_none c.requires read.result read.ensures c.in-None.is)
 
 pub returns-in-Span : goal.returns-in-Span
 unfolding found_as
-returns-in-Span c = let read-domain = c.read_domain in
-    sym (domain_range c.requires read-domain.result read-domain.ensures _ _ c.in-Span.is)
+returns-in-Span c = let read = c.domain in
+    sym (domain_range c.requires read.result read.ensures _ _ c.in-Span.is)
 
 pub returns-in-Named : goal.returns-in-Named
-returns-in-Named c = let read-domain = c.read_domain in
-    c.unknown_error.ensures ∙ sym (domain_named c.requires read-domain.result read-domain.ensures _ c.in-Named.is)
+returns-in-Named c = let read = c.domain in
+    c.unknown_error.ensures ∙ sym (domain_named c.requires read.result read.ensures _ c.in-Named.is)

@@ -9,14 +9,14 @@ use Rattle.builder.proofs.errors.builder.missing_error.Goals as goal
 pub node-name-requires : goal.node-name-requires
 node-name-requires c = let p = c.requires in
     let stmt3 = c.stmt in
-    let q = call_in p.0 c.args.q p.1 3 (sym p.2) refl stmt3.result stmt3.ensures.0 in
-    (p.0, (q.within, omega arith))
+    let q = call_in c.args.file.now.opened c.args.q p.0 3 (sym p.1) refl stmt3.result stmt3.ensures.0 in
+    (q.within, omega arith)
 
 pub overflow_cast-word : goal.overflow_cast-word
 overflow_cast-word c = let p = c.requires in
     let a = c.args in
     let stmt3 = c.stmt in
-    omega (arith, c.node-name.ensures.0, call_named p.0 a.q p.1 3 (sym p.2) refl stmt3.result stmt3.ensures.0)
+    omega (arith, c.node-name.ensures.0, call_named c.args.file.now.opened a.q p.0 3 (sym p.1) refl stmt3.result stmt3.ensures.0)
 
 pub returns : goal.returns
 unfolding found_as span_from

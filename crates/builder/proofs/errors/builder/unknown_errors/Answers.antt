@@ -18,7 +18,7 @@ bounds-classes-name c = let unknown = c.unknown-name in
 pub unknown_error-requires : goal.unknown_error-requires
 unknown_error-requires c = let p = c.requires in
     let unknown = c.unknown-name in
-    (p.0.opened, p.0.within, omega (arith, unknown_small p.0 unknown.result unknown.ensures.0))
+    (p.0.within, omega (arith, unknown_small p.0 unknown.result unknown.ensures.0))
 
 pub list-requires : goal.list-requires
 list-requires c = let p = c.requires in

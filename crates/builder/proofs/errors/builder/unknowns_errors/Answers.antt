@@ -13,22 +13,22 @@ use Rattle.builder.proofs.errors.builder.unknowns_errors.Goals as goal
 
 pub model-first-requires : goal.model-first-requires
 model-first-requires c = let p = c.requires in
-    (p.0, (p.2, omega arith))
+    (p.1, omega arith)
 
 pub model-unknowns-requires : goal.model-unknowns-requires
 model-unknowns-requires c = let p = c.requires in
-    (p.0, (p.2, omega arith))
+    (p.1, omega arith)
 
 pub loop-i-init : goal.loop-i-init
 loop-i-init c = let a = c.args in
-    (omega arith, run_begins (unknown_errors (file_in a.f.now a.s).names) (model_at (file_in a.f.now a.s) a.m).unknowns _ _)
+    run_begins (unknown_errors (file_in a.file.now.bytes.now a.file.now.sections).names) (model_at (file_in a.file.now.bytes.now a.file.now.sections) a.m).unknowns _ _
 
 pub overflow_add-first : goal.overflow_add-first
 overflow_add-first c = let a = c.args in
     let p = c.requires in
     let model = c.model-first in
     let model2 = c.model-unknowns in
-    omega (arith, unknowns_below a.f.now a.s p.0 a.m p.2 model.result model2.result c.loop-i.i model.ensures.0 model2.ensures.0 c.loop-i-test.true, p.0.laid.within.unknowns)
+    omega (arith, unknowns_below a.file.now.bytes.now a.file.now.sections c.args.file.now.opened a.m p.1 model.result model2.result c.loop-i.i model.ensures.0 model2.ensures.0 c.loop-i-test.true, c.args.file.now.opened.laid.within.unknowns)
 
 pub unknown_errors-listed-requires : goal.unknown_errors-listed-requires
 unknown_errors-listed-requires c = let a = c.args in
@@ -37,15 +37,9 @@ unknown_errors-listed-requires c = let a = c.args in
     let model2 = c.model-unknowns in
     let loop = c.loop-i in
     let loop-test = c.loop-i-test in
-    let there = unknown_there a.f.now a.s p.0 a.m p.2 model.result model2.result loop.i model.ensures.0 model2.ensures.0 loop-test.true in
-    let here = unknown_here a.f.now a.s p.0 a.m p.2 model.result model2.result loop.i model.ensures.0 model2.ensures.0 loop-test.true in
-    (record { opened = p.0; classes = p.1; within = unknowns_below a.f.now a.s p.0 a.m p.2 model.result model2.result loop.i model.ensures.0 model2.ensures.0 loop-test.true }, run_room (unknown_errors (file_in a.f.now a.s).names) (model_at (file_in a.f.now a.s) a.m).unknowns (unknown_in a.f.now a.s (model.result + loop.i)) loop.i there here _ _ _ _ p.3 loop.invariant.1)
-
-pub overflow_add-i : goal.overflow_add-i
-overflow_add-i c = omega arith
-
-pub loop-i-smaller : goal.loop-i-smaller
-loop-i-smaller c = omega arith
+    let there = unknown_there a.file.now.bytes.now a.file.now.sections c.args.file.now.opened a.m p.1 model.result model2.result loop.i model.ensures.0 model2.ensures.0 loop-test.true in
+    let here = unknown_here a.file.now.bytes.now a.file.now.sections c.args.file.now.opened a.m p.1 model.result model2.result loop.i model.ensures.0 model2.ensures.0 loop-test.true in
+    (record { opened = c.args.file.now.opened; classes = p.0; within = unknowns_below a.file.now.bytes.now a.file.now.sections c.args.file.now.opened a.m p.1 model.result model2.result loop.i model.ensures.0 model2.ensures.0 loop-test.true }, run_room (unknown_errors (file_in a.file.now.bytes.now a.file.now.sections).names) (model_at (file_in a.file.now.bytes.now a.file.now.sections) a.m).unknowns (unknown_in a.file.now.bytes.now a.file.now.sections (model.result + loop.i)) loop.i there here _ _ _ _ p.2 loop.invariant)
 
 pub loop-i-preserved : goal.loop-i-preserved
 loop-i-preserved c = let a = c.args in
@@ -54,13 +48,13 @@ loop-i-preserved c = let a = c.args in
     let model2 = c.model-unknowns in
     let loop = c.loop-i in
     let loop-test = c.loop-i-test in
-    let there = unknown_there a.f.now a.s p.0 a.m p.2 model.result model2.result loop.i model.ensures.0 model2.ensures.0 loop-test.true in
-    let here = unknown_here a.f.now a.s p.0 a.m p.2 model.result model2.result loop.i model.ensures.0 model2.ensures.0 loop-test.true in
-    (omega arith, run_goes (unknown_errors (file_in a.f.now a.s).names) (model_at (file_in a.f.now a.s) a.m).unknowns (unknown_in a.f.now a.s (model.result + loop.i)) loop.i there here _ _ _ _ _ _ loop.invariant.1 c.unknown_errors-listed.ensures)
+    let there = unknown_there a.file.now.bytes.now a.file.now.sections c.args.file.now.opened a.m p.1 model.result model2.result loop.i model.ensures.0 model2.ensures.0 loop-test.true in
+    let here = unknown_here a.file.now.bytes.now a.file.now.sections c.args.file.now.opened a.m p.1 model.result model2.result loop.i model.ensures.0 model2.ensures.0 loop-test.true in
+    run_goes (unknown_errors (file_in a.file.now.bytes.now a.file.now.sections).names) (model_at (file_in a.file.now.bytes.now a.file.now.sections) a.m).unknowns (unknown_in a.file.now.bytes.now a.file.now.sections (model.result + loop.i)) loop.i there here _ _ _ _ _ _ loop.invariant c.unknown_errors-listed.ensures
 
 pub shape_of-out : goal.shape_of-out
 shape_of-out c = let p = c.requires in
-    ap length c.loop-i.invariant.1.1 ∙ length_listed _ _ _ p.3.long
+    ap length c.loop-i.invariant.1 ∙ length_listed _ _ _ p.2.long
 
 pub returns : goal.returns
 returns c = let a = c.args in
@@ -68,4 +62,4 @@ returns c = let a = c.args in
     let model = c.model-first in
     let model2 = c.model-unknowns in
     let loop = c.loop-i in
-    run_ends (unknown_errors (file_in a.f.now a.s).names) (model_at (file_in a.f.now a.s) a.m).unknowns loop.i (unknowns_past a.f.now a.s p.0 a.m p.2 model.result model2.result loop.i model.ensures.0 model2.ensures.0 c.loop-i-test.false) _ _ _ _ loop.invariant.1
+    run_ends (unknown_errors (file_in a.file.now.bytes.now a.file.now.sections).names) (model_at (file_in a.file.now.bytes.now a.file.now.sections) a.m).unknowns loop.i (unknowns_past a.file.now.bytes.now a.file.now.sections c.args.file.now.opened a.m p.1 model.result model2.result loop.i model.ensures.0 model2.ensures.0 c.loop-i-test.false) _ _ _ _ loop.invariant

@@ -9,8 +9,4 @@ use Rattle.area.specs.Listing.{Lists}
 use Rattle.builder.proofs.errors.builder.unknowns_errors.Given as goal
 
 abbrev pub invariant-loop-i : goal.invariant-loop-i
-invariant-loop-i l = (l.i ≤ l.unknowns)
-    × Lists l.initial.out l.count (each (unknown_errors (file_in l.f l.s).names) (take l.i (model_at (file_in l.f l.s) l.m).unknowns)) l.listed l.out
-
-abbrev pub decreases-loop-i : goal.decreases-loop-i
-decreases-loop-i l = l.unknowns - l.i
+invariant-loop-i l = Lists l.initial.out l.count (each (unknown_errors (file_in l.file.bytes.now l.file.sections).names) (take l.i (model_at (file_in l.file.bytes.now l.file.sections) l.m).unknowns)) l.listed l.out

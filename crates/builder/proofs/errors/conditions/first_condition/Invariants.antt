@@ -7,7 +7,4 @@ use Rattle.builder.specs.Fating.{is_fated}
 use Rattle.builder.proofs.errors.conditions.first_condition.Given as goal
 
 abbrev pub invariant-loop-i : goal.invariant-loop-i
-invariant-loop-i l = (l.i ≤ l.z.stmts) × (plus_one (place_from l.i (is_fated 1 l.v) (drop l.i (area_stmts l.area l.z))) ≡ plus_one (place (is_fated 1 l.v) (area_stmts l.area l.z)))
-
-abbrev pub decreases-loop-i : goal.decreases-loop-i
-decreases-loop-i l = l.z.stmts - l.i
+invariant-loop-i l = (plus_one (place_from l.i (is_fated 1 l.v) (drop l.i (area_stmts l.area l.z))) ≡ plus_one (place (is_fated 1 l.v) (area_stmts l.area l.z)))

@@ -7,4 +7,4 @@ use Rattle.builder.proofs.errors.conditions.model_error.Goals as goal
 pub returns : goal.returns
 unfolding found_as span_from
 returns c = let p = c.requires in
-    rw (model_span _ _ p.0 _ p.1, c.model-from.ensures.0, c.model-to.ensures.0) refl
+    rw (model_span _ _ c.args.file.now.opened _ p, c.model-from.ensures.0, c.model-to.ensures.0) refl

@@ -8,7 +8,4 @@ use Rattle.builder.specs.Starting.{starting_in}
 use Rattle.builder.proofs.errors.conditions.starting_errors.Given as goal
 
 abbrev pub invariant-loop-v : goal.invariant-loop-v
-invariant-loop-v l = (l.v ≤ l.z.vars) × Lists l.initial.out l.count (starting_in (model_at (file_in l.f l.s) l.m).span (area_nodes l.area l.z) (area_stmts l.area l.z) (names_in l.area l.z) l.v) l.listed l.out
-
-abbrev pub decreases-loop-v : goal.decreases-loop-v
-decreases-loop-v l = l.z.vars - l.v
+invariant-loop-v l = Lists l.initial.out l.count (starting_in (model_at (file_in l.file.bytes.now l.file.sections) l.m).span (area_nodes l.area l.z) (area_stmts l.area l.z) (names_in l.area l.z) l.v) l.listed l.out

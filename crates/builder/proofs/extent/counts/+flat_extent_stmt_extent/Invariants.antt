@@ -1,5 +1,5 @@
 -- `flat_extent` and `stmt_extent` meet their contracts. The loop's invariant: the statements not passed yet, added to the extent so far, make up the whole. The measure goes by the depth.
-use Prim.Native.Nat.{◌+◌, ◌*◌, ◌-◌}
+use Prim.Native.Nat.{◌+◌, ◌*◌}
 use Rattle.builder.proofs.laws.Extents.{Counting}
 use Rattle.builder.proofs.extent.counts.+flat_extent_stmt_extent.Given as goal
 
@@ -10,7 +10,4 @@ abbrev pub decreases-stmt_extent : goal.decreases-stmt_extent
 decreases-stmt_extent l = 2 * l.k + 1
 
 abbrev pub invariant-flat_extent-loop-i : goal.invariant-flat_extent-loop-i
-invariant-flat_extent-loop-i l = Counting l.f l.s l.k l.m l.initial.rows l.level l.initial.total l.rows l.total l.i
-
-abbrev pub decreases-flat_extent-loop-i : goal.decreases-flat_extent-loop-i
-decreases-flat_extent-loop-i l = l.count - l.i
+invariant-flat_extent-loop-i l = Counting l.file.bytes.now l.file.sections l.k l.m l.initial.rows l.level l.initial.total l.rows l.total l.i

@@ -3,7 +3,7 @@ use Prim.Native.Nat.{ℕ, ◌+◌, ◌-◌}
 use native.Mathlib.Omega.{arith}
 use Rattle.ast.specs.Opens.{file_in}
 use Rattle.ast.specs.Rows.{at_most}
-use Rattle.ast.proofs.Capped.{at_most_le, at_most_zero, at_most_none, at_most_one}
+use Rattle.ast.proofs.Capped.{at_most_zero, at_most_none, at_most_one}
 use Rattle.definitions.specs.Flatten.{model_at}
 use Rattle.builder.specs.Checking.{stmt_in}
 use Rattle.builder.proofs.laws.Amounts.{called_instances, at_most_add, sum_none, called_none, called_one, instances_zero, instances_more, run_next, run_end}
@@ -14,109 +14,57 @@ use Rattle.builder.proofs.extent.counts.+instances_stmt_instances.Goals as goal
 
 pub instances-returns-then-k-eq0 : goal.instances-returns-then-k-eq0
 instances-returns-then-k-eq0 t c = let a = c.args in
-    at_most_none _ _ (instances_zero (file_in a.f.now a.s) a.k a.m c.if-k-eq0.true)
+    at_most_none _ _ (instances_zero (file_in a.file.now.bytes.now a.file.now.sections) a.k a.m c.if-k-eq0.true)
 
 pub instances-returns-then-most-eq0 : goal.instances-returns-then-most-eq0
 instances-returns-then-most-eq0 t c = at_most_zero _ _ c.if-most-eq0.true
 
-pub instances-model-first-requires : goal.instances-model-first-requires
-instances-model-first-requires t c = let p = c.requires in
-    (p.0.opened, (p.1, omega arith))
-
-pub instances-model-count-requires : goal.instances-model-count-requires
-instances-model-count-requires t c = let p = c.requires in
-    (p.0.opened, (p.1, omega arith))
-
 pub instances-loop-i-init : goal.instances-loop-i-init
 instances-loop-i-init t c = let a = c.args in
-    (omega arith, at_most_one _ _ c.if-most-eq0.false (ap (λ (z : ℕ). 1 + z) (sum_none _ (model_at (file_in a.f.now a.s) a.m).stmts)))
-
-pub instances-overflow_sub-k : goal.instances-overflow_sub-k
-instances-overflow_sub-k t c = omega arith
-
-pub instances-overflow_add-first : goal.instances-overflow_add-first
-instances-overflow_add-first t c = let a = c.args in
-    let p = c.requires in
-    let w = (model_is a.f.now a.s p.0.opened a.m p.1).stmts_within in
-    let e₁ = c.model-first.ensures.0 in
-    let e₂ = c.model-count.ensures.0 in
-    omega (arith, p.0.opened.laid.within.stmts)
+    at_most_one _ _ c.if-most-eq0.false (ap (λ (z : ℕ). 1 + z) (sum_none (called_instances (file_in a.file.now.bytes.now a.file.now.sections) (a.k - 1)) (model_at (file_in a.file.now.bytes.now a.file.now.sections) a.m).stmts))
 
 pub instances-overflow_sub-most : goal.instances-overflow_sub-most
-instances-overflow_sub-most t c = let le = at_most_le _ _ _ c.loop-i.invariant.1 in
-    omega arith
+unfolding at_most
+instances-overflow_sub-most t c = omega arith
 
 pub instances-stmt_instances-total-requires : goal.instances-stmt_instances-total-requires
 instances-stmt_instances-total-requires t c = let a = c.args in
     let p = c.requires in
-    let w = (model_is a.f.now a.s p.0.opened a.m p.1).stmts_within in
-    let e₁ = c.model-first.ensures.0 in
-    let e₂ = c.model-count.ensures.0 in
-    let le = at_most_le _ _ _ c.loop-i.invariant.1 in
-    (omega arith, (p.0, omega arith, omega arith, omega arith))
+    (omega arith, (p.0, omega (arith, (model_is a.file.now.bytes.now a.file.now.sections p.0.opened a.m p.1).stmts_within, c.model-first.ensures.0, c.model-count.ensures.0), omega arith, omega arith))
 
 pub instances-overflow_add-total : goal.instances-overflow_add-total
-instances-overflow_add-total t c = let le = at_most_le _ _ _ c.loop-i.invariant.1 in
-    let g = at_most_le _ _ _ c.stmt_instances-total.ensures in
-    let p = c.requires in
-    omega arith
-
-pub instances-overflow_add-i : goal.instances-overflow_add-i
-instances-overflow_add-i t c = let a = c.args in
-    let p = c.requires in
-    let w = (model_is a.f.now a.s p.0.opened a.m p.1).stmts_within in
-    let e₁ = c.model-first.ensures.0 in
-    let e₂ = c.model-count.ensures.0 in
-    omega (arith, p.0.opened.laid.within.stmts)
-
-pub instances-loop-i-smaller : goal.instances-loop-i-smaller
-instances-loop-i-smaller t c = omega arith
+unfolding at_most
+instances-overflow_add-total t c = omega arith
 
 pub instances-loop-i-preserved : goal.instances-loop-i-preserved
 instances-loop-i-preserved t c = let a = c.args in
     let loop = c.loop-i in
     let p = c.requires in
-    let e₁ = c.model-first.ensures.0 in
-    let e₂ = c.model-count.ensures.0 in
-    let g = called_instances (file_in a.f.now a.s) (a.k - 1) in
-    let r = run_next a.f.now a.s p.0.opened a.m p.1 g loop.i (omega arith) in
-    let q = ap (λ (j : ℕ). g (stmt_in a.f.now a.s (j + loop.i))) e₁ in
-    (omega arith, at_most_add _ _ _ _ _ loop.invariant.1 c.stmt_instances-total.ensures ∙ ap (at_most a.most) (omega (arith, r, q)))
+    let g = called_instances (file_in a.file.now.bytes.now a.file.now.sections) (a.k - 1) in
+    let r = run_next a.file.now.bytes.now a.file.now.sections p.0.opened a.m p.1 g loop.i (omega (arith, c.model-count.ensures.0)) in
+    let q = ap (λ (j : ℕ). g (stmt_in a.file.now.bytes.now a.file.now.sections (j + loop.i))) c.model-first.ensures.0 in
+    at_most_add _ _ _ _ (g (stmt_in a.file.now.bytes.now a.file.now.sections (c.model-first.result + loop.i))) loop.invariant c.stmt_instances-total.ensures ∙ ap (at_most a.most) (omega (arith, r, q))
 
 pub instances-returns : goal.instances-returns
 instances-returns t c = let a = c.args in
     let p = c.requires in
-    let e₂ = c.model-count.ensures.0 in
-    c.loop-i.invariant.1 ∙ ap (at_most a.most) (ap (λ (z : ℕ). 1 + z) (run_end a.f.now a.s p.0.opened a.m p.1 (called_instances (file_in a.f.now a.s) (a.k - 1)) c.loop-i.i (omega arith)) ∙ sym (instances_more (file_in a.f.now a.s) a.k a.m c.if-k-eq0.false))
-
-pub stmt_instances-bounds-callees-q : goal.stmt_instances-bounds-callees-q
-stmt_instances-bounds-callees-q t c = let p = c.requires in
-    omega (arith, p.0.opened.laid.within.stmts)
-
-pub stmt_instances-overflow_cast-c : goal.stmt_instances-overflow_cast-c
-stmt_instances-overflow_cast-c t c = let a = c.args in
-    let p = c.requires in
-    let e = p.0.callees.callee a.q p.1 in
-    omega (arith, e, callee_below (file_in a.f.now a.s) (stmt_in a.f.now a.s a.q), models_long a.f.now a.s, p.0.opened.laid.within.models)
+    c.loop-i.invariant ∙ ap (at_most a.most) (ap (λ (z : ℕ). 1 + z) (run_end a.file.now.bytes.now a.file.now.sections p.0.opened a.m p.1 (called_instances (file_in a.file.now.bytes.now a.file.now.sections) (a.k - 1)) c.loop-i.i (omega (arith, c.model-count.ensures.0))) ∙ sym (instances_more (file_in a.file.now.bytes.now a.file.now.sections) a.k a.m c.if-k-eq0.false))
 
 pub stmt_instances-returns-then-c-eq0 : goal.stmt_instances-returns-then-c-eq0
 stmt_instances-returns-then-c-eq0 t c = let a = c.args in
     let p = c.requires in
     let e = p.0.callees.callee a.q p.1 in
-    at_most_none _ _ (called_none (file_in a.f.now a.s) a.k (stmt_in a.f.now a.s a.q) _ e c.if-c-eq0.true)
-
-pub stmt_instances-overflow_sub-c : goal.stmt_instances-overflow_sub-c
-stmt_instances-overflow_sub-c t c = omega arith
+    at_most_none _ _ (called_none (file_in a.file.now.bytes.now a.file.now.sections) a.k (stmt_in a.file.now.bytes.now a.file.now.sections a.q) _ e c.if-c-eq0.true)
 
 pub stmt_instances-instances-requires : goal.stmt_instances-instances-requires
 stmt_instances-instances-requires t c = let a = c.args in
     let p = c.requires in
     let e = p.0.callees.callee a.q p.1 in
-    let b = callee_below (file_in a.f.now a.s) (stmt_in a.f.now a.s a.q) in
-    (omega arith, (p.0, omega (arith, e, c.if-c-eq0.false, models_long a.f.now a.s), omega arith, omega arith))
+    let b = callee_below (file_in a.file.now.bytes.now a.file.now.sections) (stmt_in a.file.now.bytes.now a.file.now.sections a.q) in
+    (omega arith, (p.0, omega (arith, e, c.if-c-eq0.false, models_long a.file.now.bytes.now a.file.now.sections), omega arith, omega arith))
 
 pub stmt_instances-returns : goal.stmt_instances-returns
 stmt_instances-returns t c = let a = c.args in
     let p = c.requires in
     let e = p.0.callees.callee a.q p.1 in
-    c.instances.ensures ∙ ap (at_most a.most) (sym (called_one (file_in a.f.now a.s) a.k (stmt_in a.f.now a.s a.q) _ e c.if-c-eq0.false))
+    c.instances.ensures ∙ ap (at_most a.most) (sym (called_one (file_in a.file.now.bytes.now a.file.now.sections) a.k (stmt_in a.file.now.bytes.now a.file.now.sections a.q) _ e c.if-c-eq0.false))

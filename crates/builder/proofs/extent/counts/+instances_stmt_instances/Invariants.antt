@@ -1,6 +1,6 @@
 -- `instances` and `stmt_instances` meet their contracts. The loop's invariant: the total is that of the statements passed, at most the most. The measure goes by the depth.
 use mathlib.Core.Path.{◌≡◌}
-use Prim.Native.Nat.{◌+◌, ◌-◌, ◌*◌, ◌≤◌}
+use Prim.Native.Nat.{◌+◌, ◌-◌, ◌*◌}
 use lib.ListN.{take}
 use Rattle.functions.specs.Lists.{sum_of}
 use Rattle.ast.specs.Opens.{file_in}
@@ -16,7 +16,4 @@ abbrev pub decreases-stmt_instances : goal.decreases-stmt_instances
 decreases-stmt_instances l = 2 * l.k + 1
 
 abbrev pub invariant-instances-loop-i : goal.invariant-instances-loop-i
-invariant-instances-loop-i l = (l.i ≤ l.count) × (l.total ≡ at_most l.most (1 + sum_of (called_instances (file_in l.f l.s) (l.k - 1)) (take l.i (model_at (file_in l.f l.s) l.m).stmts)))
-
-abbrev pub decreases-instances-loop-i : goal.decreases-instances-loop-i
-decreases-instances-loop-i l = l.count - l.i
+invariant-instances-loop-i l = l.total ≡ at_most l.most (1 + sum_of (called_instances (file_in l.file.bytes.now l.file.sections) (l.k - 1)) (take l.i (model_at (file_in l.file.bytes.now l.file.sections) l.m).stmts))

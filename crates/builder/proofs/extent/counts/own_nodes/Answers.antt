@@ -1,41 +1,49 @@
-use mathlib.Core.Path.{sym, ◌∙◌}
+use mathlib.Core.Path.{◌≡◌, sym, ◌∙◌}
+use mathlib.Core.List.{[]}
 use native.Mathlib.Omega.{arith}
-use Rattle.ast.proofs.Capped.{at_most_le}
+use lib.ListN.{get_or}
+use Rattle.ast.specs.Records.{kind_of_stmt}
+use Rattle.ast.specs.Rows.{at_most}
+use Rattle.ast.specs.Opens.{contents_in}
 use Rattle.builder.proofs.laws.OpenStmts.{is_equation, equation_sides}
 use Rattle.builder.proofs.laws.Descents.{readable, rate_counted, equation_counted}
 use Rattle.builder.proofs.laws.OpenRecords.{stmt_is}
 use Rattle.builder.proofs.extent.counts.own_nodes.Goals as goal
+use Rattle.builder.proofs.extent.counts.own_nodes.Goals.{Else-stmt-eq-RATE_KIND}
 
 pub measure_expr-requires : goal.measure_expr-requires
 measure_expr-requires c = let a = c.args in
     let p = c.requires in
-    readable a.f.now a.s p.opened a.rows.now a.level p.readable _ _ c.stmt-right.ensures.0 (stmt_is a.f.now a.s p.opened a.q p.within).right
+    rw c.nodes-ns.ensures (readable a.file.now.bytes.now a.file.now.sections p.opened a.rows.now a.level p.readable _ _ c.stmt-right.ensures.0 (stmt_is a.file.now.bytes.now a.file.now.sections p.opened a.q p.within).right)
 
 pub returns-then-stmt-eq-RATE_KIND : goal.returns-then-stmt-eq-RATE_KIND
 returns-then-stmt-eq-RATE_KIND c = let a = c.args in
-    rate_counted a.f.now a.s c.requires.opened a.rows.now a.level a.q a.most _ _ (sym c.stmt.ensures.0 ∙ c.if-stmt-eq-RATE_KIND.true) c.stmt-right.ensures.0 c.measure_expr.ensures
+    rate_counted a.file.now.bytes.now a.file.now.sections c.requires.opened a.rows.now a.level a.q a.most _ _ (sym c.stmt.ensures.0 ∙ c.if-stmt-eq-RATE_KIND.true) c.stmt-right.ensures.0 (rw c.nodes-ns.ensures at c.measure_expr.ensures)
 
-pub stmt-requires-2 : goal.stmt-requires-2
-stmt-requires-2 c = let p = c.requires in
-    (p.opened, (p.within, omega arith))
+an_equation : (c : Else-stmt-eq-RATE_KIND) → kind_of_stmt (get_or (contents_in c.args.file.now.bytes.now c.args.file.now.sections).stmts c.args.q []) ≡ 1
+an_equation c = let a = c.args in
+    let p = c.requires in
+    is_equation a.file.now.bytes.now a.file.now.sections p.opened a.q p.within (λ e. c.if-stmt-eq-RATE_KIND.false (c.stmt.ensures.0 ∙ e)) p.own
 
 pub measure_expr-a-requires : goal.measure_expr-a-requires
 measure_expr-a-requires c = let a = c.args in
     let p = c.requires in
-    readable a.f.now a.s p.opened a.rows.now a.level p.readable _ _ c.stmt-2.ensures.0 (equation_sides a.f.now a.s p.opened a.q p.within (is_equation a.f.now a.s p.opened a.q p.within (λ e. c.if-stmt-eq-RATE_KIND.false (c.stmt.ensures.0 ∙ e)) p.own)).0
+    rw c.nodes-ns.ensures (readable a.file.now.bytes.now a.file.now.sections p.opened a.rows.now a.level p.readable _ _ c.stmt-2.ensures.0 (equation_sides a.file.now.bytes.now a.file.now.sections p.opened a.q p.within (an_equation (goal.at.measure_expr-a-requires c).Else-stmt-eq-RATE_KIND)).0)
 
 pub overflow_sub-most : goal.overflow_sub-most
-overflow_sub-most c = omega (arith, at_most_le _ _ _ c.measure_expr-a.ensures)
+unfolding at_most
+overflow_sub-most c = omega (arith, c.measure_expr-a.ensures)
 
 pub measure_expr-requires-2 : goal.measure_expr-requires-2
 measure_expr-requires-2 c = let a = c.args in
     let p = c.requires in
-    readable a.f.now a.s p.opened a.rows.now a.level p.readable _ _ c.stmt-right.ensures.0 (equation_sides a.f.now a.s p.opened a.q p.within (is_equation a.f.now a.s p.opened a.q p.within (λ e. c.if-stmt-eq-RATE_KIND.false (c.stmt.ensures.0 ∙ e)) p.own)).1
+    rw c.nodes-ns.ensures (readable a.file.now.bytes.now a.file.now.sections p.opened a.rows.now a.level p.readable _ _ c.stmt-right.ensures.0 (equation_sides a.file.now.bytes.now a.file.now.sections p.opened a.q p.within (an_equation (goal.at.measure_expr-requires-2 c).Else-stmt-eq-RATE_KIND)).1)
 
 pub overflow_add-result : goal.overflow_add-result
-overflow_add-result c = omega (arith, at_most_le _ _ _ c.measure_expr-a.ensures, at_most_le _ _ _ c.measure_expr-2.ensures)
+unfolding at_most
+overflow_add-result c = omega (arith, c.measure_expr-a.ensures, c.measure_expr-2.ensures)
 
 pub returns : goal.returns
 returns c = let a = c.args in
     let p = c.requires in
-    equation_counted a.f.now a.s p.opened a.rows.now a.level a.q a.most _ _ _ _ (is_equation a.f.now a.s p.opened a.q p.within (λ e. c.if-stmt-eq-RATE_KIND.false (c.stmt.ensures.0 ∙ e)) p.own) c.stmt-2.ensures.0 c.stmt-right.ensures.0 c.measure_expr-a.ensures c.measure_expr-2.ensures
+    equation_counted a.file.now.bytes.now a.file.now.sections p.opened a.rows.now a.level a.q a.most _ _ _ _ (an_equation (goal.at.returns c).Else-stmt-eq-RATE_KIND) c.stmt-2.ensures.0 c.stmt-right.ensures.0 (rw c.nodes-ns.ensures at c.measure_expr-a.ensures) (rw c.nodes-ns.ensures at c.measure_expr-2.ensures)

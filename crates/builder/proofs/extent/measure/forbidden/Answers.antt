@@ -1,25 +1,21 @@
 use mathlib.Core.Path.{sym, ◌∙◌}
 use Rattle.ast.specs.Opens.{file_in}
-use Rattle.builder.proofs.laws.Reasons.{cyclic_reason, self_listed_reason, overfull_reason}
+use Rattle.builder.specs.Root.{forbidden_as}
 use Rattle.builder.proofs.laws.Measures.{forbids_cycle, forbids_self_listed, forbids_beyond, forbids_none}
 use Rattle.builder.proofs.extent.measure.forbidden.Goals as goal
 
-pub returns-then-any_reason : goal.returns-then-any_reason
-returns-then-any_reason c = let a = c.args in
-    let file = file_in a.f.now a.s in
-    forbids_cycle file a.m (cyclic_reason file a.m ∙ sym c.any_reason.ensures ∙ c.if-any_reason.true)
+pub returns-then-cyclic : goal.returns-then-cyclic
+unfolding forbidden_as
+returns-then-cyclic c = forbids_cycle (file_in c.args.file.now.bytes.now c.args.file.now.sections) c.args.m (sym c.cyclic.ensures ∙ c.if-cyclic.true)
 
-pub returns-then-any_reason-2 : goal.returns-then-any_reason-2
-returns-then-any_reason-2 c = let a = c.args in
-    let file = file_in a.f.now a.s in
-    forbids_self_listed file a.m (cyclic_reason file a.m ∙ sym c.any_reason.ensures ∙ c.if-any_reason.false) (self_listed_reason file a.m ∙ sym c.any_reason-2.ensures ∙ c.if-any_reason-2.true)
+pub returns-then-self_listed : goal.returns-then-self_listed
+unfolding forbidden_as
+returns-then-self_listed c = forbids_self_listed (file_in c.args.file.now.bytes.now c.args.file.now.sections) c.args.m (sym c.cyclic.ensures ∙ c.if-cyclic.false) (sym c.self_listed.ensures ∙ c.if-self_listed.true)
 
-pub returns-then-any_reason-3 : goal.returns-then-any_reason-3
-returns-then-any_reason-3 c = let a = c.args in
-    let file = file_in a.f.now a.s in
-    forbids_beyond file a.m (cyclic_reason file a.m ∙ sym c.any_reason.ensures ∙ c.if-any_reason.false) (self_listed_reason file a.m ∙ sym c.any_reason-2.ensures ∙ c.if-any_reason-2.false) (overfull_reason file a.m ∙ sym c.any_reason-3.ensures ∙ c.if-any_reason-3.true)
+pub returns-then-overfull : goal.returns-then-overfull
+unfolding forbidden_as
+returns-then-overfull c = forbids_beyond (file_in c.args.file.now.bytes.now c.args.file.now.sections) c.args.m (sym c.cyclic.ensures ∙ c.if-cyclic.false) (sym c.self_listed.ensures ∙ c.if-self_listed.false) (sym c.overfull.ensures ∙ c.if-overfull.true)
 
 pub returns : goal.returns
-returns c = let a = c.args in
-    let file = file_in a.f.now a.s in
-    forbids_none file a.m (cyclic_reason file a.m ∙ sym c.any_reason.ensures ∙ c.if-any_reason.false) (self_listed_reason file a.m ∙ sym c.any_reason-2.ensures ∙ c.if-any_reason-2.false) (overfull_reason file a.m ∙ sym c.any_reason-3.ensures ∙ c.if-any_reason-3.false)
+unfolding forbidden_as
+returns c = forbids_none (file_in c.args.file.now.bytes.now c.args.file.now.sections) c.args.m (sym c.cyclic.ensures ∙ c.if-cyclic.false) (sym c.self_listed.ensures ∙ c.if-self_listed.false) (sym c.overfull.ensures ∙ c.if-overfull.false)

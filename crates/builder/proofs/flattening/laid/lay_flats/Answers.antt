@@ -1,16 +1,11 @@
-use native.Mathlib.Omega.{arith}
 use Rattle.builder.proofs.laws.FlatsLaid.{rows_root, flats_room, flats_laid}
 use Rattle.builder.proofs.flattening.laid.lay_flats.Goals as goal
-
-pub overflow_mul-none : goal.overflow_mul-none
-overflow_mul-none c = let p = c.requires in
-    omega (arith, p.0.few_nodes, p.1)
 
 pub write_flats-requires : goal.write_flats-requires
 write_flats-requires c = let a = c.args in
     let p = c.requires in
-    (p.0.linked, p.0.model, rows_root a.f.now a.s a.rows.now a.m p.0.readable, flats_room a.f.now a.s a.rows.now a.m a.area.now a.n p.2 p.1 p.0.few_nodes p.0.few_stmts)
+    (p.0.linked, p.0.model, rows_root a.file.now.bytes.now a.file.now.sections a.rows.now a.m p.0.readable, flats_room a.file.now.bytes.now a.file.now.sections a.rows.now a.m a.area.now a.n p.2 p.1 p.0.few_nodes p.0.few_stmts)
 
 pub returns : goal.returns
 returns c = let a = c.args in
-    flats_laid a.f.now a.s a.rows.now a.m a.area.now a.n c.requires.2 _ _ c.write_flats.ensures.0
+    flats_laid a.file.now.bytes.now a.file.now.sections a.rows.now a.m a.area.now a.n c.requires.2 _ _ c.write_flats.ensures.0

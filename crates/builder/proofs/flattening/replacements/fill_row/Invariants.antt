@@ -1,8 +1,5 @@
 use Rattle.builder.proofs.laws.Replacing.{Filling}
 use Rattle.builder.proofs.flattening.replacements.fill_row.Given as goal
 
-abbrev pub invariant-loop-left : goal.invariant-loop-left
-invariant-loop-left l = Filling l.f l.s l.m l.call l.row l.end l.left
-
-abbrev pub decreases-loop-left : goal.decreases-loop-left
-decreases-loop-left l = l.left
+abbrev pub invariant-loop-i : goal.invariant-loop-i
+invariant-loop-i l = Filling l.file.bytes.now l.file.sections l.m l.call l.row l.end l.i

@@ -1,5 +1,5 @@
 use Rattle.builder.proofs.laws.Writing.{Writing}
-use Prim.Native.Nat.{◌+◌, ◌*◌, ◌-◌}
+use Prim.Native.Nat.{◌+◌, ◌*◌}
 use Rattle.builder.proofs.flattening.statements.+write_flats_write_stmt.Given as goal
 
 abbrev pub decreases-write_flats : goal.decreases-write_flats
@@ -9,7 +9,4 @@ abbrev pub decreases-write_stmt : goal.decreases-write_stmt
 decreases-write_stmt l = 2 * l.k + 1
 
 abbrev pub invariant-write_flats-loop-i : goal.invariant-write_flats-loop-i
-invariant-write_flats-loop-i l = Writing l.f l.s l.k l.m l.initial.rows l.level l.initial.out l.initial.total l.rows l.out l.total l.i
-
-abbrev pub decreases-write_flats-loop-i : goal.decreases-write_flats-loop-i
-decreases-write_flats-loop-i l = l.count - l.i
+invariant-write_flats-loop-i l = Writing l.file.bytes.now l.file.sections l.k l.m l.initial.rows l.level l.initial.out l.initial.total l.rows l.out l.total l.i

@@ -14,19 +14,19 @@ use Rattle.builder.proofs.models.called.callee.Goals as goal
 pub returns-then-stmt-ne-SUBMODEL_KIND : goal.returns-then-stmt-ne-SUBMODEL_KIND
 returns-then-stmt-ne-SUBMODEL_KIND c = let a = c.args in
     let p = c.requires in
-    sym (callee_none a.f.now a.s a.q p.0 p.1 (λ e. omega (arith, c.stmt.ensures.0, e)))
+    sym (callee_none a.file.now.bytes.now a.file.now.sections a.q c.args.file.now.opened p (λ e. omega (arith, c.stmt.ensures.0, e)))
 
 pub node-requires : goal.node-requires
 node-requires c = let a = c.args in
     let p = c.requires in
-    let t = (stmt_is a.f.now a.s p.0 a.q p.1).right in
-    (p.0, (omega (arith, t.0, c.stmt-call.ensures.0), omega arith))
+    let t = (stmt_is a.file.now.bytes.now a.file.now.sections c.args.file.now.opened a.q p).right in
+    (omega (arith, t.0, c.stmt-call.ensures.0), omega arith)
 
 pub overflow_cast-result : goal.overflow_cast-result
 overflow_cast-result c = let a = c.args in
-    omega (arith, c.find_model.ensures, named_below a.f.now a.s c.node.result, c.requires.0.laid.within.models)
+    omega (arith, c.find_model.ensures, named_below a.file.now.bytes.now a.file.now.sections c.node.result, c.args.file.now.opened.laid.within.models)
 
 pub returns : goal.returns
 returns c = let a = c.args in
-    let k : word_of (stmt_record a.f.now a.s a.q) 0 ≡ 3 = sym c.stmt.ensures.0 ∙ c.if-stmt-ne-SUBMODEL_KIND.false in
-    c.find_model.ensures ∙ ap (λ (n : ℕ). plus_one (model_named (file_in a.f.now a.s) n)) (c.node.ensures.0 ∙ ap (name_at (contents_in a.f.now a.s).nodes) c.stmt-call.ensures.0) ∙ sym (callee_some a.f.now a.s a.q k)
+    let k : word_of (stmt_record a.file.now.bytes.now a.file.now.sections a.q) 0 ≡ 3 = sym c.stmt.ensures.0 ∙ c.if-stmt-ne-SUBMODEL_KIND.false in
+    c.find_model.ensures ∙ ap (λ (n : ℕ). plus_one (model_named (file_in a.file.now.bytes.now a.file.now.sections) n)) (c.node.ensures.0 ∙ ap (name_at (contents_in a.file.now.bytes.now a.file.now.sections).nodes) c.stmt-call.ensures.0) ∙ sym (callee_some a.file.now.bytes.now a.file.now.sections a.q k)

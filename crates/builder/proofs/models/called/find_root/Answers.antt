@@ -1,46 +1,29 @@
-use mathlib.Core.Path.{refl, sym, ap, ◌∙◌}
+use mathlib.Core.Path.{refl, sym}
+use Prim.Native.Nat.{ℕ, ◌<◌}
 use native.Mathlib.Omega.{arith}
-use Rattle.functions.specs.Lists.{same_text, place, plus_one}
+use borrow.Author.Rules.{rules}
+use borrow.Author.Tests.{tests}
+use Rattle.std.proofs.iter.Serving.{serving}
+use Rattle.functions.specs.Lists.{same_text}
 use Rattle.ast.specs.Opens.{file_in}
-use Rattle.definitions.specs.Names.{text_of}
+use Rattle.ast.specs.Words.{word_of}
 use Rattle.definitions.specs.Build.{root_of}
-use Rattle.builder.proofs.laws.Finding.{find_yes, find_no, find_end, is_root_name, root_test}
+use Rattle.definitions.specs.Flatten.{model_at, no_model}
+use Rattle.definitions.specs.Names.{text_of}
+use Rattle.builder.proofs.laws.Open.{model_record, models_long}
 use Rattle.builder.proofs.laws.OpenRecords.{model_is}
+use Rattle.builder.proofs.laws.Finding.{is_root_name, root_test}
+use Rattle.builder.proofs.laws.Ranges.{first_over}
 use Rattle.builder.proofs.models.called.find_root.Goals as goal
 
-pub loop-m-init : goal.loop-m-init
-unfolding root_of place
-loop-m-init c = (omega arith, refl)
-
-pub model-requires : goal.model-requires
-model-requires c = (c.requires, (omega arith, omega arith))
-
-pub name_text-requires : goal.name_text-requires
-name_text-requires c = let a = c.args in
-    let p = c.requires in
-    let n = (model_is a.f.now a.s p c.loop-m.m (omega arith)).name_below in
-    (p, omega (arith, c.model.ensures.0))
-
-pub overflow_add-result : goal.overflow_add-result
-overflow_add-result c = omega (arith, c.requires.laid.within.models)
-
-pub returns-then-same_bytes : goal.returns-then-same_bytes
-returns-then-same_bytes c = let a = c.args in
-    let loop = c.loop-m in
-    sym (ap plus_one loop.invariant.1 ∙ find_yes a.f.now a.s (is_root_name a.f.now a.s _) loop.m (omega arith) (root_test a.f.now a.s a.root.now loop.m (omega arith) ∙ ap (same_text a.root.now) (ap (text_of (file_in a.f.now a.s).names) (sym c.model.ensures.0) ∙ sym c.name_text.ensures) ∙ sym c.same_bytes.ensures ∙ c.if-same_bytes.true))
-
-pub overflow_add-m : goal.overflow_add-m
-overflow_add-m c = omega (arith, c.requires.laid.within.models)
-
-pub loop-m-smaller : goal.loop-m-smaller
-loop-m-smaller c = omega arith
-
-pub loop-m-preserved : goal.loop-m-preserved
-loop-m-preserved c = let a = c.args in
-    let loop = c.loop-m in
-    (omega arith, loop.invariant.1 ∙ find_no a.f.now a.s (is_root_name a.f.now a.s _) loop.m (omega arith) (root_test a.f.now a.s a.root.now loop.m (omega arith) ∙ ap (same_text a.root.now) (ap (text_of (file_in a.f.now a.s).names) (sym c.model.ensures.0) ∙ sym c.name_text.ensures) ∙ sym c.same_bytes.ensures ∙ c.if-same_bytes.false))
+pub position-requires-clause-callable : goal.position-requires-clause-callable
+position-requires-clause-callable c = let a = c.args in
+    let below : (m : ℕ) → m < a.file.now.sections.counts.models → word_of (model_record a.file.now.bytes.now a.file.now.sections m) 0 < a.file.now.sections.counts.names = λ m l. (model_is a.file.now.bytes.now a.file.now.sections c.args.file.now.opened m l).name_below in
+    grind (serving, below)
 
 pub returns : goal.returns
-unfolding plus_one
+unfolding root_of model_at
 returns c = let a = c.args in
-    sym (ap plus_one (c.loop-m.invariant.1 ∙ find_end a.f.now a.s (is_root_name a.f.now a.s _) c.loop-m.m (omega arith)))
+    let long = models_long a.file.now.bytes.now a.file.now.sections in
+    first_over (λ m. same_text a.root.now (text_of (file_in a.file.now.bytes.now a.file.now.sections).names (word_of (model_record a.file.now.bytes.now a.file.now.sections m) 0))) (is_root_name a.file.now.bytes.now a.file.now.sections a.root.now) no_model (λ m b q k. search (rules, tests)) (file_in a.file.now.bytes.now a.file.now.sections).models
+    a.file.now.sections.counts.models _ _ refl (omega arith) (λ m l. sym (root_test a.file.now.bytes.now a.file.now.sections a.root.now m (omega arith))) c.position.ensures.ran c.map_or.ensures (λ k e. search (rules, tests))

@@ -1,5 +1,8 @@
+use borrow.Author.Tests.{ne_eqb}
 use Rattle.builder.proofs.laws.Refusals.{reached_flag}
 use Rattle.builder.proofs.models.reached.is_reached.Goals as goal
 
-pub returns : goal.returns
-returns c = rw (reached_flag c.args.f.now c.args.s c.requires.0 c.args.table.now c.requires.1 c.args.root c.args.m c.requires.2 c.requires.3)
+pub returns-else-m-root : goal.returns-else-m-root
+returns-else-m-root c = let a = c.args in
+    let p = c.requires in
+    rw (ne_eqb a.m a.root c.if-m-root.false) (reached_flag a.file.now.bytes.now a.file.now.sections c.args.file.now.opened a.table.now p.0 a.root a.m p.1 p.2)

@@ -1,4 +1,5 @@
 use native.Mathlib.Omega.{arith}
+use Rattle.std.proofs.lemmas.Grind.{common_steps}
 use Rattle.builder.proofs.laws.OpenRecords.{unknown_is}
 use Rattle.builder.proofs.laws.Refusals.{lists_itself_is}
 use Rattle.builder.proofs.models.reached.lists_itself.Goals as goal
@@ -6,10 +7,16 @@ use Rattle.builder.proofs.models.reached.lists_itself.Goals as goal
 pub bounds-classes-name : goal.bounds-classes-name
 bounds-classes-name c = let a = c.args in
     let p = c.requires in
-    omega (arith, (unknown_is a.f.now a.s p.0 a.u p.2).name_below, c.unknown-name.ensures.0, p.0.laid.within.names)
+    omega (arith, (unknown_is a.file.now.bytes.now a.file.now.sections c.args.file.now.opened a.u p.1).name_below, c.unknown-name.ensures.0, c.args.file.now.opened.laid.within.names)
 
-pub returns : goal.returns
-returns c = let a = c.args in
+pub returns-then-not-is_reserved : goal.returns-then-not-is_reserved
+returns-then-not-is_reserved c = let a = c.args in
     let p = c.requires in
-    let unknown = c.unknown-name in
-    rw (c.is_time.ensures, c.is_reserved.ensures, c.names_dep.ensures) (lists_itself_is a.f.now a.s p.0 a.classes.now p.1 a.u p.2 unknown.result unknown.ensures.0)
+    let law = lists_itself_is a.file.now.bytes.now a.file.now.sections c.args.file.now.opened a.classes.now p.0 a.u p.1 c.unknown-name.result c.unknown-name.ensures.0 in
+    grind (arith, common_steps, law)
+
+pub returns-else-not-is_reserved : goal.returns-else-not-is_reserved
+returns-else-not-is_reserved c = let a = c.args in
+    let p = c.requires in
+    let law = lists_itself_is a.file.now.bytes.now a.file.now.sections c.args.file.now.opened a.classes.now p.0 a.u p.1 c.unknown-name.result c.unknown-name.ensures.0 in
+    grind (arith, common_steps, law)

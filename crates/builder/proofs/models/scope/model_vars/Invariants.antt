@@ -1,4 +1,3 @@
-use Prim.Native.Nat.{◌-◌, ◌≤◌}
 use lib.ListN.{take}
 use Rattle.ast.specs.Opens.{file_in}
 use Rattle.definitions.specs.Variables.{variable_names}
@@ -7,7 +6,4 @@ use Rattle.builder.proofs.laws.ScopeTables.{Counted}
 use Rattle.builder.proofs.models.scope.model_vars.Given as goal
 
 abbrev pub invariant-loop-i : goal.invariant-loop-i
-invariant-loop-i l = (l.i ≤ l.count) × Counted l.s.counts.names (variable_names (file_in l.f l.s).names (model_at (file_in l.f l.s) l.m).unknowns) (take l.i (model_at (file_in l.f l.s) l.m).unknowns) l.out
-
-abbrev pub decreases-loop-i : goal.decreases-loop-i
-decreases-loop-i l = l.count - l.i
+invariant-loop-i l = Counted l.file.sections.counts.names (variable_names (file_in l.file.bytes.now l.file.sections).names (model_at (file_in l.file.bytes.now l.file.sections) l.m).unknowns) (take l.i (model_at (file_in l.file.bytes.now l.file.sections) l.m).unknowns) l.out

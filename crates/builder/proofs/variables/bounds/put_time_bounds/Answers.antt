@@ -10,11 +10,11 @@ unfolding bounds_from
 put_bounds-requires c = let a = c.args in
     let p = c.requires in
     let l = c.last_declared in
-    (p.0, l.ensures.within, stands_nans a.f.now a.s l.result _ a.time p.2 (last_stands a.f.now a.s a.m a.name l.result true l.ensures), omega arith)
+    (l.ensures.within, stands_nans a.file.now.bytes.now a.file.now.sections l.result _ a.time p.1 (last_stands a.file.now.bytes.now a.file.now.sections a.m a.name l.result true l.ensures), omega arith)
 
 pub returns : goal.returns
 unfolding bounds_from
 returns c = let a = c.args in
     let p = c.requires in
     let l = c.last_declared in
-    c.put_bounds.ensures ∙ rw (stands_bits a.f.now a.s l.result _ a.time p.2 (last_stands a.f.now a.s a.m a.name l.result true l.ensures)) refl
+    c.put_bounds.ensures ∙ rw (stands_bits a.file.now.bytes.now a.file.now.sections l.result _ a.time p.1 (last_stands a.file.now.bytes.now a.file.now.sections a.m a.name l.result true l.ensures)) refl

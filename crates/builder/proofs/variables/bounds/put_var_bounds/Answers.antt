@@ -12,20 +12,20 @@ use Rattle.builder.proofs.variables.bounds.put_var_bounds.Goals as goal
 pub put_bounds-requires : goal.put_bounds-requires
 put_bounds-requires c = let a = c.args in
     let p = c.requires in
-    (p.0.opened, omega arith, stands_nans a.f.now a.s 0 (bounds_from true) _ (from_floating true _ c.bounds_from.ensures) (inl (true, refl)), omega arith)
+    (omega arith, stands_nans a.file.now.bytes.now a.file.now.sections 0 (bounds_from true) _ (from_floating true _ c.bounds_from.ensures) (inl (true, refl)), omega arith)
 
 pub returns-then-v-eq0 : goal.returns-then-v-eq0
 returns-then-v-eq0 c = let a = c.args in
     let p = c.requires in
-    c.put_bounds.ensures ∙ rw (stands_bits a.f.now a.s 0 (bounds_from true) _ (from_floating true _ c.bounds_from.ensures) (inl (true, refl)), bounds_of_time (file_in a.f.now a.s).names (model_at (file_in a.f.now a.s) a.m).unknowns a.name a.v c.if-v-eq0.true) refl
+    c.put_bounds.ensures ∙ rw (stands_bits a.file.now.bytes.now a.file.now.sections 0 (bounds_from true) _ (from_floating true _ c.bounds_from.ensures) (inl (true, refl)), bounds_of_time (file_in a.file.now.bytes.now a.file.now.sections).names (model_at (file_in a.file.now.bytes.now a.file.now.sections) a.m).unknowns a.name a.v c.if-v-eq0.true) refl
 
 pub put_bounds-requires-2 : goal.put_bounds-requires-2
 put_bounds-requires-2 c = let a = c.args in
     let p = c.requires in
     let l = c.last_declared-u in
-    (p.0.opened, l.ensures.within, stands_nans a.f.now a.s l.result _ _ c.declared_bounds.ensures (declared_stands a.f.now a.s l.result false), omega arith)
+    (l.ensures.within, stands_nans a.file.now.bytes.now a.file.now.sections l.result _ _ c.declared_bounds.ensures (declared_stands a.file.now.bytes.now a.file.now.sections l.result false), omega arith)
 
 pub returns : goal.returns
 returns c = let a = c.args in
     let l = c.last_declared-u in
-    c.put_bounds-2.ensures ∙ rw (stands_bits a.f.now a.s l.result _ _ c.declared_bounds.ensures (declared_stands a.f.now a.s l.result false), bounds_of_other (file_in a.f.now a.s).names (model_at (file_in a.f.now a.s) a.m).unknowns a.name a.v c.if-v-eq0.false, l.ensures.bounds (bounds_from false)) refl
+    c.put_bounds-2.ensures ∙ rw (stands_bits a.file.now.bytes.now a.file.now.sections l.result _ _ c.declared_bounds.ensures (declared_stands a.file.now.bytes.now a.file.now.sections l.result false), bounds_of_other (file_in a.file.now.bytes.now a.file.now.sections).names (model_at (file_in a.file.now.bytes.now a.file.now.sections) a.m).unknowns a.name a.v c.if-v-eq0.false, l.ensures.bounds (bounds_from false)) refl

@@ -14,16 +14,16 @@ use Rattle.builder.proofs.variables.bounds.unknown_bounds.Goals as goal
 pub bounds-classes-unknown : goal.bounds-classes-unknown
 bounds-classes-unknown c = let a = c.args in
     let p = c.requires in
-    omega (arith, c.unknown.ensures.0, (unknown_is a.f.now a.s p.0 a.u p.3).name_below, p.2)
+    omega (arith, c.unknown.ensures.0, (unknown_is a.file.now.bytes.now a.file.now.sections c.args.file.now.opened a.u p.2).name_below, p.1)
 
 pub domain_bounds-requires : goal.domain_bounds-requires
 domain_bounds-requires c = let a = c.args in
     let p = c.requires in
-    domain_below a.f.now a.s a.u p.0 p.3 c.read_domain-domain.result c.read_domain-domain.ensures (length a.classes.now) p.2
+    domain_below a.file.now.bytes.now a.file.now.sections a.u c.args.file.now.opened p.2 c.domain-domain.result c.domain-domain.ensures (length a.classes.now) p.1
 
 pub returns : goal.returns
 returns c = let a = c.args in
     let p = c.requires in
-    let n : word_of (unknown_record a.f.now a.s a.u) 0 < length (Opens.file_in a.f.now a.s).names = omega (arith, (unknown_is a.f.now a.s p.0 a.u p.3).name_below, names_long a.f.now a.s) in
-    let t : c.is_time-time.result ≡ is_time (Opens.file_in a.f.now a.s).names (word_of (unknown_record a.f.now a.s a.u) 0) = c.is_time-time.ensures ∙ rw (c.unknown.ensures.0, p.1.class (word_of (unknown_record a.f.now a.s a.u) 0) n) (class_time (Opens.file_in a.f.now a.s).names (word_of (unknown_record a.f.now a.s a.u) 0)) in
-    unknown_floating a.f.now a.s a.u p.0 p.3 c.read_domain-domain.result c.read_domain-domain.ensures a.classes.now p.1 c.is_time-time.result t c.domain_bounds.result c.domain_bounds.ensures
+    let n : word_of (unknown_record a.file.now.bytes.now a.file.now.sections a.u) 0 < length (Opens.file_in a.file.now.bytes.now a.file.now.sections).names = omega (arith, (unknown_is a.file.now.bytes.now a.file.now.sections c.args.file.now.opened a.u p.2).name_below, names_long a.file.now.bytes.now a.file.now.sections) in
+    let t : c.is_time-time.result ≡ is_time (Opens.file_in a.file.now.bytes.now a.file.now.sections).names (word_of (unknown_record a.file.now.bytes.now a.file.now.sections a.u) 0) = c.is_time-time.ensures ∙ rw (c.unknown.ensures.0, p.0.class (word_of (unknown_record a.file.now.bytes.now a.file.now.sections a.u) 0) n) (class_time (Opens.file_in a.file.now.bytes.now a.file.now.sections).names (word_of (unknown_record a.file.now.bytes.now a.file.now.sections a.u) 0)) in
+    unknown_floating a.file.now.bytes.now a.file.now.sections a.u c.args.file.now.opened p.2 c.domain-domain.result c.domain-domain.ensures a.classes.now p.0 c.is_time-time.result t c.domain_bounds.result c.domain_bounds.ensures

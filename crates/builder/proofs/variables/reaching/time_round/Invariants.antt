@@ -1,5 +1,4 @@
 use mathlib.Core.Bool.{◌||◌}
-use Prim.Native.Nat.{◌-◌, ◌≤◌}
 use lib.Dec.{eqb}
 use Rattle.functions.specs.Lists.{any, flag}
 use Rattle.builder.specs.Reaching.{deps_in, marks_in, leads}
@@ -7,7 +6,4 @@ use Rattle.builder.proofs.laws.Filled.{Filled}
 use Rattle.builder.proofs.variables.reaching.time_round.Given as goal
 
 abbrev pub invariant-loop-v : goal.invariant-loop-v
-invariant-loop-v l = (l.v ≤ l.z.vars) × Filled 129 (λ w. flag (eqb w 0 || any (leads (marks_in l.area l.z)) (deps_in l.area l.z w))) l.v l.new
-
-abbrev pub decreases-loop-v : goal.decreases-loop-v
-decreases-loop-v l = l.z.vars - l.v
+invariant-loop-v l = Filled 129 (λ w. flag (eqb w 0 || any (leads (marks_in l.area l.z)) (deps_in l.area l.z w))) l.v l.new

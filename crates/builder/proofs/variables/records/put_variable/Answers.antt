@@ -4,10 +4,6 @@ use Rattle.builder.specs.VarRecords.{lead_words}
 use Rattle.builder.proofs.laws.VarLaws.{lead_and_bounds}
 use Rattle.builder.proofs.variables.records.put_variable.Goals as goal
 
-pub put_var_bounds-requires : goal.put_var_bounds-requires
-put_var_bounds-requires c = let p = c.requires in
-    (p.0, omega (arith, c.put_lead.auto.area))
-
 pub returns : goal.returns
 unfolding lead_words
 returns c = let a = c.args in

@@ -6,10 +6,6 @@ use Rattle.builder.specs.VarRecords.{head_words}
 use Rattle.area.proofs.Puts.{put_more}
 use Rattle.builder.proofs.variables.records.write_header.Goals as goal
 
-pub var_of-name-requires : goal.var_of-name-requires
-var_of-name-requires c = let p = c.requires in
-    (p.small, p.long, p.some, omega arith)
-
 pub put_counts-requires : goal.put_counts-requires
 unfolding stmts_at vars_at deps_at
 put_counts-requires c = let p = c.requires in
@@ -18,7 +14,7 @@ put_counts-requires c = let p = c.requires in
 pub put_time_bounds-requires : goal.put_time_bounds-requires
 unfolding stmts_at vars_at deps_at
 put_time_bounds-requires c = let p = c.requires in
-    (p.opened, p.model, rw c.var_of-name.ensures p.timed, omega (arith, p.long, c.put_counts.auto.area))
+    (p.model, rw c.var_of-name.ensures p.timed, omega (arith, p.long, c.put_counts.auto.area))
 
 pub returns : goal.returns
 unfolding head_words stmts_at vars_at deps_at

@@ -1,14 +1,14 @@
 use mathlib.Core.Path.{◌∙◌}
 use native.Mathlib.Omega.{arith}
 use Rattle.area.specs.Sections.{stmts_at, vars_at}
-use Rattle.builder.proofs.laws.VarsWritten.{next_room, next_end, next_put, lead_asked, record_room, next_written}
+use Rattle.builder.proofs.laws.VarsWritten.{next_room, next_end, lead_asked, record_room, next_written}
 use Rattle.builder.proofs.variables.records.write_var.Goals as goal
 
 pub set_dependents-end-requires : goal.set_dependents-end-requires
 set_dependents-end-requires c = let a = c.args in
     let p = c.requires in
     let name = c.var_of-name.ensures ∙ p.2.named in
-    (p.1, next_room a.f.now a.s a.m a.z a.area.now a.v a.done p.2 _ _ name c.deps_at-from.ensures)
+    (p.1, next_room a.file.now.bytes.now a.file.now.sections a.m a.z a.area.now a.v a.done p.2 _ _ name c.deps_at-from.ensures)
 
 pub lead_of-lead-requires : goal.lead_of-lead-requires
 lead_of-lead-requires c = let a = c.args in
@@ -16,8 +16,7 @@ lead_of-lead-requires c = let a = c.args in
     let name = c.var_of-name.ensures ∙ p.2.named in
     let at = c.deps_at-from.ensures in
     let behind = c.set_dependents-end.ensures in
-    let b = next_put a.f.now a.s a.m a.z a.area.now a.v a.done p.2 _ _ _ _ name at behind in
-    lead_asked a.f.now a.s a.m a.z a.area.now a.v a.done p.2 _ _ _ _ name at behind _ b
+    lead_asked a.file.now.bytes.now a.file.now.sections a.m a.z a.area.now a.v a.done p.2 _ _ _ _ name at behind
 
 pub overflow_add-place : goal.overflow_add-place
 unfolding stmts_at vars_at
@@ -30,10 +29,9 @@ put_variable-requires c = let a = c.args in
     let name = c.var_of-name.ensures ∙ p.2.named in
     let at = c.deps_at-from.ensures in
     let behind = c.set_dependents-end.ensures in
-    let b = next_put a.f.now a.s a.m a.z a.area.now a.v a.done p.2 _ _ _ _ name at behind in
     let lead = c.lead_of-lead.ensures in
-    let order = next_end a.f.now a.s a.m a.z a.area.now a.v a.done p.2 _ _ _ _ name at behind in
-    (p.0, record_room a.f.now a.s a.m a.z a.area.now a.v a.done p.2 _ _ _ _ name at behind _ b _ c.vars_at.ensures, omega (arith, lead.first_of, lead.end_of, order))
+    let order = next_end a.file.now.bytes.now a.file.now.sections a.m a.z a.area.now a.v a.done p.2 _ _ _ _ name at behind in
+    (p.0, record_room a.file.now.bytes.now a.file.now.sections a.m a.z a.area.now a.v a.done p.2 _ _ _ _ name at behind _ c.vars_at.ensures, omega (arith, lead.first_of, lead.end_of, order))
 
 pub returns : goal.returns
 returns c = let a = c.args in
@@ -41,5 +39,4 @@ returns c = let a = c.args in
     let name = c.var_of-name.ensures ∙ p.2.named in
     let at = c.deps_at-from.ensures in
     let behind = c.set_dependents-end.ensures in
-    let b = next_put a.f.now a.s a.m a.z a.area.now a.v a.done p.2 _ _ _ _ name at behind in
-    (next_end a.f.now a.s a.m a.z a.area.now a.v a.done p.2 _ _ _ _ name at behind, next_written a.f.now a.s a.m a.z a.area.now a.v a.done p.2 _ _ _ _ name at behind _ b _ _ _ c.vars_at.ensures c.lead_of-lead.ensures c.put_variable.ensures)
+    (next_end a.file.now.bytes.now a.file.now.sections a.m a.z a.area.now a.v a.done p.2 _ _ _ _ name at behind, next_written a.file.now.bytes.now a.file.now.sections a.m a.z a.area.now a.v a.done p.2 _ _ _ _ name at behind _ _ _ c.vars_at.ensures c.lead_of-lead.ensures c.put_variable.ensures)

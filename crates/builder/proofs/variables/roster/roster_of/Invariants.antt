@@ -1,5 +1,5 @@
 use mathlib.Core.Path.{◌≡◌}
-use Prim.Native.Nat.{◌+◌, ◌-◌, ◌≤◌}
+use Prim.Native.Nat.{◌+◌, ◌≤◌}
 use lib.ListN.{drop}
 use Rattle.ast.specs.Opens.{file_in}
 use Rattle.definitions.specs.Variables.{declare}
@@ -9,9 +9,6 @@ use Rattle.builder.specs.Allocating.{names_in}
 use Rattle.builder.proofs.variables.roster.roster_of.Given as goal
 
 abbrev pub invariant-loop-i : goal.invariant-loop-i
-invariant-loop-i l = (l.i ≤ l.count) × (l.z.vars ≤ l.i + 1) × Grown (record { nodes = l.n; stmts = l.q; vars = 1; deps = 0 }) l.z
-    × (Listing (names_in l.area l.z) (names_in l.area l.z) l.numbers × (roster_in l.f l.s l.m ≡ declare (file_in l.f l.s).names (names_in l.area l.z) (drop l.i (unknowns_in l.f l.s l.m))))
+invariant-loop-i l = (l.z.vars ≤ l.i + 1) × Grown (record { nodes = l.n; stmts = l.q; vars = 1; deps = 0 }) l.z
+    × (Listing (names_in l.area l.z) (names_in l.area l.z) l.numbers × (roster_in l.file.bytes.now l.file.sections l.m ≡ declare (file_in l.file.bytes.now l.file.sections).names (names_in l.area l.z) (drop l.i (unknowns_in l.file.bytes.now l.file.sections l.m))))
     × VarsAre l.z l.initial.area (area_vars l.area l.z) l.area
-
-abbrev pub decreases-loop-i : goal.decreases-loop-i
-decreases-loop-i l = l.count - l.i

@@ -1,5 +1,5 @@
 use mathlib.Core.Path.{◌≡◌}
-use Prim.Native.Nat.{◌-◌, ◌≤◌}
+use Prim.Native.Nat.{◌-◌}
 use mathlib.Core.Option.{none}
 use lib.ListN.{take}
 use Rattle.definitions.specs.Variables.{last_time}
@@ -7,7 +7,4 @@ use Rattle.builder.specs.VariableTables.{words_from}
 use Rattle.builder.proofs.variables.roster.time_index.Given as goal
 
 abbrev pub invariant-loop-i : goal.invariant-loop-i
-invariant-loop-i l = (l.first ≤ l.i) × (l.i ≤ l.end) × (last_time 0 none (words_from l.deps l.first l.end) ≡ last_time 0 none (take (l.i - l.first) (words_from l.deps l.first l.end)))
-
-abbrev pub decreases-loop-i : goal.decreases-loop-i
-decreases-loop-i l = l.i
+invariant-loop-i l = (last_time 0 none (words_from l.deps l.first l.end) ≡ last_time 0 none (take (l.i - l.first) (words_from l.deps l.first l.end)))

@@ -1,6 +1,0 @@
-use Rattle.ast.specs.Nodes.{name_node}
-use Rattle.ast.proofs.nodes.name_node.Goals as goal
-
-pub returns : goal.returns
-unfolding name_node
-returns c = rw (c.node_word.ensures.0, c.node_word-2.ensures.0, c.node_word-3.ensures.0, c.no_bits.ensures)

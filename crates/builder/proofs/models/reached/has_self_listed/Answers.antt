@@ -1,0 +1,19 @@
+use mathlib.Core.Path.{refl}
+use borrow.Author.Rules.{rules}
+use borrow.Author.Tests.{tests}
+use Rattle.std.proofs.iter.Serving.{serving}
+use Rattle.ast.specs.Opens.{file_in}
+use Rattle.definitions.specs.Flatten.{lists_itself}
+use Rattle.builder.proofs.laws.OpenRecords.{model_is}
+use Rattle.builder.proofs.laws.Runs.{unknowns_over}
+use Rattle.builder.proofs.models.reached.has_self_listed.Goals as goal
+
+pub any-requires-clause-callable : goal.any-requires-clause-callable
+any-requires-clause-callable c = let p = c.requires in
+    let r = (model_is c.args.file.now.bytes.now c.args.file.now.sections p.opened c.args.m p.model).unknowns_within in
+    grind (serving, r)
+
+pub returns : goal.returns
+returns c = let a = c.args in
+    let p = c.requires in
+    unknowns_over a.file.now.bytes.now a.file.now.sections p.opened a.m p.model _ _ refl c.any.ensures.ran c.model-first.ensures.0 c.model-count.ensures.0 (lists_itself (file_in a.file.now.bytes.now a.file.now.sections)) (λ u b q k. search (rules, tests))

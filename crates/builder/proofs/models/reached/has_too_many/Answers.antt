@@ -1,0 +1,19 @@
+use mathlib.Core.Path.{refl}
+use borrow.Author.Rules.{rules}
+use borrow.Author.Tests.{tests}
+use Rattle.std.proofs.iter.Serving.{serving}
+use Rattle.ast.specs.Opens.{file_in}
+use Rattle.definitions.specs.Flatten.{stmt_beyond}
+use Rattle.builder.proofs.laws.OpenRecords.{model_is}
+use Rattle.builder.proofs.laws.Runs.{stmts_over}
+use Rattle.builder.proofs.models.reached.has_too_many.Goals as goal
+
+pub any-requires-clause-callable : goal.any-requires-clause-callable
+any-requires-clause-callable c = let p = c.requires in
+    let r = (model_is c.args.file.now.bytes.now c.args.file.now.sections c.args.file.now.opened c.args.m p.1).stmts_within in
+    grind (serving, r)
+
+pub returns : goal.returns
+returns c = let a = c.args in
+    let p = c.requires in
+    stmts_over a.file.now.bytes.now a.file.now.sections c.args.file.now.opened a.m p.1 _ _ refl c.any.ensures.ran c.model-first.ensures.0 c.model-count.ensures.0 (stmt_beyond (file_in a.file.now.bytes.now a.file.now.sections)) (λ q b d k. search (rules, tests))
