@@ -14,7 +14,7 @@ import os
 import re
 import sys
 
-OWN = "functions ast definitions area keeping positions report builder lines replay release area_cases layout_cases".split()
+OWN = "functions ast definitions area keeping positions report cases files builder lines replay release area_cases layout_cases".split()
 OVERRIDE = {"is-nan": "is_nan_lem", "isRoot": "is_root_name", "time-dependent": "depends_on_time", "getD-held": "get_or_held", "getD-run": "get_or_run"}
 # Names of parameters and of modules as a file imports them.
 LOCAL = {"rateTable": "rate_table", "declaredDomain": "declared_domain"}

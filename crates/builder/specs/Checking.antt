@@ -2,6 +2,7 @@
 -- tables of a model's scope.
 use Rattle.std.specs.Prelude.{◌≡◌, true, not, List, [], ℕ, ◌+◌, ◌-◌, ◌≤◌, ◌<◌, eqb, get_or}
 use Rattle.std.proofs.Math.Option.{Option, none, some}
+use Rattle.functions.specs.declared.Rule.{Rule}
 use Rattle.functions.specs.Lists.{unless}
 use Rattle.ast.specs.Tree.{Args, Stmt, Unknown}
 use Rattle.ast.specs.Nodes.{kind_at, name_at, op_at, size_at, span_at, is_expr, args_fit, args_before, nodes_fit}
@@ -14,7 +15,7 @@ use Rattle.definitions.specs.Numbers.{most_names, most_models, call_kind, name_n
 use Rattle.definitions.specs.Variables.{Error, error}
 use Rattle.definitions.specs.Check.{Scope, lookup, dep_names, dependent_errors, variable_errors, call_errors}
 use Rattle.definitions.specs.Flatten.{model_at, scope_of, stmt_errors, errors_of}
-use Rattle.builder.specs.Tables.{Classes, RuleNumbers, Callees, VarsOf}
+use Rattle.builder.specs.Tables.{Classes, Rules, Callees, VarsOf}
 use Rattle.builder.specs.declared.errors.check.Run.{Run}
 
 -- ---- arguments
@@ -97,10 +98,10 @@ pub record Scoped (f : List ℕ) (s : Sections) (m : ℕ) (vs : List ℕ) : Type
   pub vars : VarsOf (scope_in f s m) vs
 
 -- What an expression of model m is checked against: the classes and rules of the names, and the model's variables.
-pub record Against (f : List ℕ) (s : Sections) (m : ℕ) (cs rs vs : List ℕ) : Type 0 where
+pub record Against (f : List ℕ) (s : Sections) (m : ℕ) (cs : List ℕ) (rs : List Rule) (vs : List ℕ) : Type 0 where
   pub scoped : Scoped f s m vs
   pub classes : Classes (scope_in f s m).names cs
-  pub rules : RuleNumbers (scope_in f s m).names rs
+  pub rules : Rules (scope_in f s m).names rs
 
 -- The classes of the names, and the models that the statements call.
 pub record Called (f : List ℕ) (s : Sections) (cs ts : List ℕ) : Type 0 where
@@ -109,10 +110,10 @@ pub record Called (f : List ℕ) (s : Sections) (cs ts : List ℕ) : Type 0 wher
   pub callees : Callees f s ts
 
 -- The tables that the models of a file are checked with: these, and the rules of the names.
-pub record TablesRead (f : List ℕ) (s : Sections) (cs rs ts : List ℕ) : Type 0 where
+pub record TablesRead (f : List ℕ) (s : Sections) (cs : List ℕ) (rs : List Rule) (ts : List ℕ) : Type 0 where
   pub opened : Open f s
   pub classes : Classes (file_in f s).names cs
-  pub rules : RuleNumbers (file_in f s).names rs
+  pub rules : Rules (file_in f s).names rs
   pub callees : Callees f s ts
 
 -- Statement q, with a depth of k models below it.

@@ -1,5 +1,8 @@
 -- Errors 16 and 17 over the records of an area: `rs` are the statements' records with their fates, `ns` the nodes, `model` is the root's span.
 use Rattle.std.specs.Prelude.{◌≡◌, ℕ, zero, suc, ◌-◌, ◌≤◌, ◌<◌, ◌+◌, ◌^◌, cond, List, [], ◌∷◌, ◌++◌, eqb, length, get_or}
+use Rattle.std.proofs.Math.Option.{Option, none, some}
+use Rattle.std.specs.declared.option.Option as answer
+use Rattle.std.specs.declared.option.Option.TheVariants.{None, Some}
 use Rattle.functions.specs.Lists.{place, plus_one, times}
 use Rattle.ast.specs.Tree.{Span}
 use Rattle.ast.specs.Opens.{Open}
@@ -13,6 +16,11 @@ use Rattle.area.specs.Fields.{stmt_right, var_held, var_initial}
 use Rattle.area.specs.Sections.{Small, deps_at, area_stmts, area_stmt, area_vars, column}
 use Rattle.builder.specs.Fating.{is_fated}
 use Rattle.area.specs.declared.sections.Sizes.{Sizes}
+
+-- a place that the code found, or none
+unfoldable pub place_as : answer.Option ℕ → Option ℕ
+place_as None = none
+place_as (Some i) = some i
 
 -- the span of the right side of statement i
 unfoldable pub right_span_in : List (List ℕ) → List (List ℕ) → ℕ → Span

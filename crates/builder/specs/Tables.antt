@@ -3,7 +3,6 @@ use Rattle.std.specs.Prelude.{ℕ, zero, suc, ◌+◌, ◌*◌, ◌<◌, ◌≡�
 use Rattle.std.proofs.Math.Option.{Option, none, some}
 use Rattle.functions.specs.Lists.{text, same_text, any, plus_one, reaches, flag, member, sum_of}
 use Rattle.functions.specs.declared.Rule.{Rule}
-use Rattle.functions.specs.declared.Rule.TheVariants.{One, Two, Interp1d, Piecewise, Any}
 use Rattle.functions.specs.Rules.{rule_of}
 use Rattle.ast.specs.Tree.{Stmt, own, submodel, File}
 use Rattle.ast.specs.Records.{stmt_of}
@@ -60,21 +59,9 @@ pub record Blank (n : ℕ) (table : List ℕ) : Type 0 where
   pub long : length table ≡ n
   pub zeros : (k : ℕ) → get_or table k 0 ≡ 0
 
--- ---- argument rules by number
-
-unfoldable pub rule_number : Rule → ℕ
-rule_number One = 1
-rule_number Two = 2
-rule_number Interp1d = 3
-rule_number Piecewise = 4
-rule_number Any = 0
-
--- the rule of a number
-unfoldable pub numbered : ℕ → Rule
-numbered n = cond (eqb n 1) One (cond (eqb n 2) Two (cond (eqb n 3) Interp1d (cond (eqb n 4) Piecewise Any)))
-
-pub record RuleNumbers (names : List (List ℕ)) (table : List ℕ) : Type 0 where
-  pub rule : (n : ℕ) → n < length names → get_or table n 0 ≡ rule_number (rule_of (text_of names n))
+-- the argument rule of each name
+pub record Rules (names : List (List ℕ)) (table : List Rule) : Type 0 where
+  pub rule : (n : ℕ) (d : Rule) → n < length names → get_or table n d ≡ rule_of (text_of names n)
 
 -- ---- statements: the number, plus 1, of the model that one calls, or 0
 

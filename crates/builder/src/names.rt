@@ -2,7 +2,7 @@
 ghost use Rattle.std.specs.Prelude.{◌≡◌, ◌&&◌, ◌<◌, eqb, leb, ltb};
 ghost use Rattle.ast.specs.Views.{file_seen};
 ghost use Rattle.definitions.specs.Names.{text_of, time_name};
-ghost use Rattle.builder.specs.Tables.{class_of, time_class, last_reserved, first_built_in, other_class, Classes, rule_number, numbered, RuleNumbers};
+ghost use Rattle.builder.specs.Tables.{class_of, time_class, last_reserved, first_built_in, other_class, Classes, Rules};
 
 use ast::layout::{MOST_NAMES, NAME_LENGTH, NAME_START};
 use ast::view::View;
@@ -102,45 +102,13 @@ pub fn time_name(file: &View, classes: &[u8; MOST_NAMES]) -> usize
         .map_or(0, |n| n + 1)
 }
 
-// The number of a rule.
-fn rule_number(rule: Rule) -> u8
-    ensures { result ≡ rule_number rule }
+// The argument rule of each name.
+pub fn rules(file: &View) -> [Rule; MOST_NAMES]
+    ensures { Rules (file_seen file.now).names result }
 {
-    match rule {
-        Rule::One => 1,
-        Rule::Two => 2,
-        Rule::Interp1d => 3,
-        Rule::Piecewise => 4,
-        Rule::Any => 0,
-    }
-}
-
-// The rule of a number that `rule_number` gives.
-pub fn numbered_rule(number: u8) -> Rule
-    ensures { result ≡ numbered number }
-{
-    if number == 1 {
-        return Rule::One;
-    }
-    if number == 2 {
-        return Rule::Two;
-    }
-    if number == 3 {
-        return Rule::Interp1d;
-    }
-    if number == 4 {
-        return Rule::Piecewise;
-    }
-    Rule::Any
-}
-
-// The argument rule of each name, by its number.
-pub fn rules(file: &View) -> [u8; MOST_NAMES]
-    ensures { RuleNumbers (file_seen file.now).names result }
-{
-    let mut out = [0u8; MOST_NAMES];
+    let mut out = [Rule::Any; MOST_NAMES];
     for n in 0..file.sections.counts.names {
-        out[n] = rule_number(function_rule(name_text(file, n)));
+        out[n] = function_rule(name_text(file, n));
     }
     out
 }

@@ -12,7 +12,7 @@ use lib.ListN.{length, get_or, length-map}
 use Rattle.functions.specs.Lists.{unless, is_some}
 use Rattle.functions.specs.Rules.{allows, rule_of, takes}
 use Rattle.functions.specs.declared.Rule.{Rule}
-use Rattle.functions.specs.declared.Rule.TheVariants.{One, Two, Interp1d, Piecewise, Any}
+use Rattle.functions.specs.declared.Rule.TheVariants.{One}
 use Rattle.ast.specs.Tree.{Span, Args, count}
 use Rattle.ast.specs.Nodes.{kind_at, name_at, op_at, size_at, span_at, tree_at}
 use Rattle.ast.specs.NodesIn.{nodes_in}
@@ -28,7 +28,7 @@ use Rattle.definitions.specs.Names.{text_of, is_built_in, allows_count}
 use Rattle.definitions.specs.Variables.{error, at}
 use Rattle.definitions.specs.Check.{Scope, lookup, count_fits, keyword_errors, dependent_errors, variable_errors, call_errors, expr_errors}
 use Rattle.definitions.specs.Flatten.{scope_of}
-use Rattle.builder.specs.Tables.{class_of, rule_number, numbered, entry_of}
+use Rattle.builder.specs.Tables.{class_of, entry_of}
 use Rattle.builder.specs.declared.errors.check.Run.{Run}
 use Rattle.builder.specs.Checking.{scope_in, args_in, run_of, kept_names, dependents_at, variable_at, call_at, name_absent, ExprIn, CallIn, ArgsIn, Scoped, Against}
 use Rattle.area.proofs.Listings.{Joins}
@@ -36,14 +36,6 @@ use Rattle.builder.proofs.laws.Classes.{class_built_in}
 use Rattle.builder.proofs.laws.Checks.{node_here}
 
 -- ---- entries of tables
-
-pub numbered_back : (r : Rule) → numbered (rule_number r) ≡ r
-unfolding numbered rule_number
-numbered_back One = refl
-numbered_back Two = refl
-numbered_back Interp1d = refl
-numbered_back Piecewise = refl
-numbered_back Any = refl
 
 pub length_names : (f : List ℕ) (s : Sections) (m : ℕ) → length (scope_in f s m).names ≡ s.counts.names
 unfolding scope_of file_of contents_of
@@ -152,7 +144,7 @@ module _ {f : List ℕ} {s : Sections} {m : ℕ} {vs : List ℕ} (g : Scoped f s
         record { is = rw (et, e, er, ex) (a_variable scope _ _ _ _ _ (call_count q) (λ w. h (e ∙ w))) }
 
 -- by the class and the rule of its name
-module _ {f : List ℕ} {s : Sections} {m : ℕ} {cs rs vs : List ℕ} (g : Against f s m cs rs vs) {b : List ℕ} {ns : Nodes} {i : ℕ} (q : CallIn s.counts.names b ns i) (x : ℕ) (ex : x ≡ name_at (nodes_in ns b) i) where
+module _ {f : List ℕ} {s : Sections} {m : ℕ} {cs : List ℕ} {rs : List Rule} {vs : List ℕ} (g : Against f s m cs rs vs) {b : List ℕ} {ns : Nodes} {i : ℕ} (q : CallIn s.counts.names b ns i) (x : ℕ) (ex : x ≡ name_at (nodes_in ns b) i) where
   abbrev nodes' : List (List ℕ)
   nodes' = nodes_in ns b
 
@@ -160,11 +152,11 @@ module _ {f : List ℕ} {s : Sections} {m : ℕ} {cs rs vs : List ℕ} (g : Agai
   scope' = scope_in f s m
 
   -- what the tables have of its name
-  rule_here : get_or rs x 0 ≡ rule_number (rule_of (text_of scope'.names (name_at nodes' i)))
+  rule_here : get_or rs x One ≡ rule_of (text_of scope'.names (name_at nodes' i))
   rule_here =
       let l = length_names f s m in
       let h : name_at nodes' i < length scope'.names = omega (arith, call_name q) in
-      rw ex (g.rules.rule _ h)
+      rw ex (g.rules.rule _ One h)
 
   class_here : get_or cs x 0 ≡ class_of (text_of scope'.names (name_at nodes' i))
   class_here =
@@ -172,12 +164,10 @@ module _ {f : List ℕ} {s : Sections} {m : ℕ} {cs rs vs : List ℕ} (g : Agai
       let h : name_at nodes' i < length scope'.names = omega (arith, call_name q) in
       rw ex (g.classes.class _ h)
 
-  module _ (u : Rule) (t : Bool) (r : Run) (eu : u ≡ numbered (get_or rs x 0)) (et : t ≡ allows u r.args) (er : r ≡ run_of nodes' i) where
+  module _ (t : Bool) (r : Run) (et : t ≡ allows (get_or rs x One) r.args) (er : r ≡ run_of nodes' i) where
     allowed : allows_count scope'.names (name_at nodes' i) (count (args_in nodes' (run_of nodes' i))) ≡ t
     unfolding allows_count takes
-    allowed =
-        let e = numbered_back (rule_of (text_of scope'.names (name_at nodes' i))) in
-        rw (et, eu, rule_here, e, er, call_count q) refl
+    allowed = rw (et, rule_here, er, call_count q) refl
 
     -- error 6, then by the class of its name
     call_first : Joins (call_at scope' nodes' i) (unless t (error 6 (span_at nodes' i) (x + 1)))

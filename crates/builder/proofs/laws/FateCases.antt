@@ -6,16 +6,14 @@ use Prim.Native.Nat.{ℕ, ◌+◌, ◌-◌}
 use native.Mathlib.Omega.{arith}
 use lib.ListN.{length, take, drop, get_or, get_or-map}
 use Rattle.std.proofs.lemmas.List.{drop-map, take_rest}
-use Rattle.std.specs.List.{list_any}
+use Rattle.functions.specs.Lists.{any}
 use Rattle.definitions.specs.Roles.{free}
 use Rattle.definitions.specs.Allocate.{is_rate_of, rate_fate}
 use Rattle.definitions.specs.Answer.{fate_number, fate_variable}
 use Rattle.builder.specs.declared.allocation.roles.Role.{Role}
 use Rattle.builder.specs.declared.allocation.roles.Role.TheVariants.{Neither, Initial, Rate}
-use Rattle.builder.specs.contracts.allocation.roles.RolePartialEq.TheImpl.{ghosts}
 use Rattle.builder.specs.Allocating.{role_as}
 use Rattle.builder.specs.Fating.{left_in, fate_in, fate_pair, queue_in}
-use Rattle.builder.proofs.laws.RoleLoops.{any_rate}
 
 module _ (roles : List Role) (i : ℕ) (queue : List ℕ) where
   abbrev pub numbers : ℕ × ℕ
@@ -47,12 +45,12 @@ module _ (roles : List Role) (i : ℕ) (queue : List ℕ) where
   initial_is v w g e = let r = role_here (Initial v) e in (rw (r, g) refl, rw r refl)
 
   -- a rate equation, with one of its variable behind it or with none
-  module _ (v w : ℕ) (g : w ≡ v) (e : get_or roles i Neither ≡ Rate v) (b : Bool) (later : b ≡ list_any (λ r. ghosts.eq r (Rate v)) (take (length roles - (i + 1)) (drop (i + 1) roles))) where
+  module _ (v w : ℕ) (g : w ≡ v) (e : get_or roles i Neither ≡ Rate v) (b : Bool) (later : b ≡ any (is_rate_of v) (map role_as (take (length roles - (i + 1)) (drop (i + 1) roles)))) where
     rate_is : (numbers ≡ fate_pair (rate_fate b v)) × (behind ≡ queue)
     unfolding role_as fate_in queue_in
     rate_is =
         let r = role_here (Rate v) e in
-        (rw (r, later, take_rest roles (i + 1), any_rate v (drop (i + 1) roles), drop-map) refl, rw r refl)
+        (rw (r, later, take_rest roles (i + 1), drop-map) refl, rw r refl)
 
     pub replaced_is : b ≡ true → (numbers ≡ (3, w)) × (behind ≡ queue)
     unfolding rate_fate fate_number fate_variable

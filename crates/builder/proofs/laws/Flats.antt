@@ -141,11 +141,11 @@ module _ (b : List ℕ) (z : Sizes) where
     -- an equation, by the answer for its left side
     module _ (e : word_of (area_stmt b z i) 0 ≡ 1) where
       -- whether it is too short
-      pub short_equation : short_by numbers indexes (flat_in b z i) ≡ is_short (start_at (area_nodes b z) numbers indexes (word_of (area_stmt b z i) 2))
+      pub short_equation : (l : ℕ) → l ≡ word_of (area_stmt b z i) 2 → (s : answer.Option Start) → s ≡ start_at (area_nodes b z) numbers indexes l → is_short s ≡ short_by numbers indexes (flat_in b z i)
       unfolding short_by
-      short_equation =
+      short_equation l g s k =
           let t = o.left i h e in
-          ap (short_by numbers indexes) (flat_equation i e) ∙ sym (short_start names (area_nodes b z) z.nodes o.nodes numbers indexes (word_of (area_stmt b z i) 2) t.0 t.1)
+          rw (k, g) (sym (ap (short_by numbers indexes) (flat_equation i e) ∙ sym (short_start names (area_nodes b z) z.nodes o.nodes numbers indexes (word_of (area_stmt b z i) 2) t.0 t.1)))
 
       -- its role
       pub role_equation : (rates : List ℕ) (lower : Float)

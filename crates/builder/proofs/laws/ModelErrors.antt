@@ -11,6 +11,7 @@ use lib.Dec.{eqb, leb}
 use lib.Ieee.{Float}
 use lib.ListN.{length, take, drop, get_or, take-append-drop}
 use lib.Seq.{take-suc, take_all}
+use Rattle.functions.specs.declared.Rule.{Rule}
 use Rattle.functions.specs.Lists.{unless, each, plus_one}
 use Rattle.functions.proofs.Lists.{clash, drop_here}
 use Rattle.ast.specs.Tree.{Span, Expr, Args, snoc, Domain, unstated, range, named, submodel, File}
@@ -254,7 +255,7 @@ module _ (f : File) (sub : ℕ → List Error) (n : ℕ) (a : Args) (p : Span) w
   one_found none c e h = absurd (h e)
   one_found (some m) c e h = let z : m ≡ c - 1 = omega arith in ap (λ (j : ℕ). sub j ++ order_errors a) z
 
-module _ {f : List ℕ} {s : Sections} {cs rs ts : List ℕ} (g : TablesRead f s cs rs ts) (q : ℕ) (l : q < s.counts.stmts) where
+module _ {f : List ℕ} {s : Sections} {cs : List ℕ} {rs : List Rule} {ts : List ℕ} (g : TablesRead f s cs rs ts) (q : ℕ) (l : q < s.counts.stmts) where
   abbrev record_s : List ℕ
   record_s = get_or (contents_in f s).stmts q []
 
@@ -304,6 +305,6 @@ module _ (f : File) where
   errors_more (suc k) m n = record { is = rw (sub-one (suc k)) refl }
 
 -- what its statements are checked against
-pub against : {f : List ℕ} {s : Sections} {cs rs ts : List ℕ} → TablesRead f s cs rs ts → (m : ℕ) → m < s.counts.models → {vs : List ℕ} → VarsOf (scope_in f s m) vs → Against f s m cs rs vs
+pub against : {f : List ℕ} {s : Sections} {cs : List ℕ} {rs : List Rule} {ts : List ℕ} → TablesRead f s cs rs ts → (m : ℕ) → m < s.counts.models → {vs : List ℕ} → VarsOf (scope_in f s m) vs → Against f s m cs rs vs
 unfolding scope_of
 against g m h v = record { scoped = record { opened = g.opened; model = h; vars = v }; classes = g.classes; rules = g.rules }

@@ -2,15 +2,8 @@
 use mathlib.Core.Path.{◌≡◌, refl, sym, ap, ◌∙◌}
 use mathlib.Core.Bool.{Bool, true, false, not, ◌&&◌, ◌||◌, or-true, or-false, or_comm}
 use mathlib.Core.List.{List, [], ◌∷◌, ◌++◌}
-use denote.Param.Members.{Mut}
-use Rattle.std.specs.Fn.{Called}
-use Rattle.std.specs.Iterator.{ChecksAny}
 use Rattle.std.specs.List.{list_any, range_with_len}
-use Rattle.std.proofs.iter.Yields.{nat_range_steps}
-use Rattle.std.proofs.lemmas.Iterator.{YieldsList-from_range}
-use Rattle.std.proofs.lemmas.Iterator.Search.{any_from_yields_List}
 use Rattle.std.proofs.lemmas.List.Folds.{list_any-append}
-use Rattle.std.specs.declared.ops.Range.{Range}
 use mathlib.Core.Option.{Option, none, some}
 use Prim.Native.Nat.{ℕ, zero, suc, ◌+◌, ◌-◌, ◌*◌, ◌≤◌, ◌<◌}
 use native.Mathlib.Omega.{arith}
@@ -36,25 +29,25 @@ use Rattle.builder.proofs.laws.Calling.{call_is, entry_below}
 use Rattle.builder.proofs.laws.Rounds.{reaching_flag}
 use Rattle.definitions.proofs.StmtKinds.{stmt_submodel}
 
--- ---- whether any model reached passes, by a chain over the models' numbers
+-- ---- whether any model reached passes, by the models' numbers
 
 range_last : (a n : ℕ) → range_with_len a (suc n) ≡ range_with_len a n ++ (a + n) ∷ []
 range_last a zero = let z : a ≡ a + 0 = omega arith in ap (λ (k : ℕ). k ∷ []) z
 range_last a (suc n) = let z : a + 1 + n ≡ a + suc n = omega arith in ap (λ (xs : List ℕ). a ∷ xs) (range_last (a + 1) n ∙ ap (λ (k : ℕ). range_with_len (a + 1) n ++ k ∷ []) z)
 
--- the code's test of model m is t, the definitions' p
 module _ (f : File) (root : ℕ) (t p : ℕ → Bool) where
-  reached_along : (n : ℕ) → ((m : ℕ) → m < n → t m ≡ p m) → list_any (λ m. (eqb m root || reached f root m) && t m) (range_with_len 0 n) ≡ any_reached f root p n
+  -- where t says of each of the first n models what p says
+  models_along : (n : ℕ) → ((m : ℕ) → m < n → t m ≡ p m) → list_any (λ m. (eqb m root || reached f root m) && t m) (range_with_len 0 n) ≡ any_reached f root p n
   unfolding any_reached
-  reached_along zero h = refl
-  reached_along (suc n) h =
+  models_along zero h = refl
+  models_along (suc n) h =
       let z : 0 + n ≡ n = omega arith in
       let test = λ (m : ℕ). (eqb m root || reached f root m) && t m in
-      ap (list_any test) (range_last 0 n) ∙ list_any-append test (range_with_len 0 n) _ ∙ or_comm (list_any test (range_with_len 0 n)) _ ∙ rw (z, or-false (test n), h n (omega arith), reached_along n (λ m l. h m (omega arith)))
+      ap (list_any test) (range_last 0 n) ∙ list_any-append test (range_with_len 0 n) _ ∙ or_comm (list_any test (range_with_len 0 n)) _ ∙ rw (z, or-false (test n), h n (omega arith), models_along n (λ m l. h m (omega arith)))
 
-  pub reached_over : {F : Type 0} {g : Mut F (ℕ × Unit {0}) Bool} {c : F} {from to : Range ℕ} {r : Bool} (n : ℕ) → n ≡ length f.models → from ≡ record { start = 0; end = n } → ChecksAny nat_range_steps g from c r to
-      → ((m : ℕ) (w : Bool) (q : F) → Called g c (m, tt) w q → (q ≡ c) × (w ≡ ((eqb m root || reached f root m) && t m))) → ((m : ℕ) → m < n → t m ≡ p m) → r ≡ any_reached f root p (length f.models)
-  reached_over {F} {g} {c} {from} {to} {r} n l e ran calls h = any_from_yields_List _ to c r ran (YieldsList-from_range 0 n n e (omega arith)) calls ∙ reached_along n h ∙ ap (any_reached f root p) l
+  -- of all models
+  pub reached_along : (n : ℕ) → length f.models ≡ n → ((m : ℕ) → m < n → t m ≡ p m) → list_any (λ m. (eqb m root || reached f root m) && t m) (range_with_len 0 n) ≡ any_reached f root p (length f.models)
+  reached_along n l h = rw l (models_along n h)
 
 -- ---- what the table of models reached says
 

@@ -4,12 +4,8 @@ use mathlib.Core.Bool.{Bool}
 use mathlib.Core.List.{List, []}
 use Prim.Native.Nat.{ℕ, ◌+◌, ◌≤◌, ◌<◌}
 use native.Mathlib.Omega.{arith}
-use denote.Param.Members.{Mut}
 use lib.ListN.{length, get_or}
-use Rattle.std.specs.Fn.{Called}
-use Rattle.std.specs.Iterator.{ChecksAny}
-use Rattle.std.proofs.iter.Yields.{nat_range_steps}
-use Rattle.std.specs.declared.ops.Range.{Range}
+use Rattle.std.specs.List.{list_any, range_with_len}
 use Rattle.functions.specs.Lists.{any}
 use Rattle.ast.specs.Tree.{Stmt, Unknown}
 use Rattle.definitions.specs.Flatten.{model_at}
@@ -19,7 +15,7 @@ use Rattle.ast.specs.Opens.{Open, contents_in, file_in}
 use Rattle.ast.specs.declared.sections.Sections.{Sections}
 use Rattle.builder.specs.Checking.{unknown_in, stmt_in}
 use Rattle.builder.proofs.laws.OpenRecords.{model_is, unknown_is}
-use Rattle.builder.proofs.laws.Ranges.{any_over}
+use Rattle.builder.proofs.laws.Ranges.{any_along}
 
 module _ (f : List ℕ) (s : Sections) (o : Open f s) (m : ℕ) (h : m < s.counts.models) (first count i : ℕ) where
   module _ (ef : first ≡ word_of (get_or (contents_in f s).models m []) 1) (ec : count ≡ word_of (get_or (contents_in f s).models m []) 2) where
@@ -32,23 +28,22 @@ module _ (f : List ℕ) (s : Sections) (o : Open f s) (m : ℕ) (h : m < s.count
     pub stmts_below : i < count → first + i < s.counts.stmts
     stmts_below l = omega (arith, (model_is f s o m h).stmts_within)
 
--- ---- whether any passes, by a chain over their numbers
+-- ---- whether any passes, by their numbers
 
-module _ (f : List ℕ) (s : Sections) (o : Open f s) (m : ℕ) (h : m < s.counts.models) (first count : ℕ)
-    {F : Type 0} {g : Mut F (ℕ × Unit {0}) Bool} {c : F} {from to : Range ℕ} {r : Bool} (e : from ≡ record { start = first; end = first + count }) (ran : ChecksAny nat_range_steps g from c r to) where
-  pub unknowns_over : first ≡ word_of (get_or (contents_in f s).models m []) 1 → count ≡ word_of (get_or (contents_in f s).models m []) 2 → (p : Unknown → Bool)
-      → ((u : ℕ) (w : Bool) (q : F) → Called g c (u, tt) w q → (q ≡ c) × (w ≡ p (unknown_in f s u))) → r ≡ any p (model_at (file_in f s) m).unknowns
-  unknowns_over ef ec p calls =
+module _ (f : List ℕ) (s : Sections) (o : Open f s) (m : ℕ) (h : m < s.counts.models) (first count : ℕ) where
+  pub unknowns_along : first ≡ word_of (get_or (contents_in f s).models m []) 1 → count ≡ word_of (get_or (contents_in f s).models m []) 2 → (p : Unknown → Bool)
+      → list_any (λ u. p (unknown_in f s u)) (range_with_len first count) ≡ any p (model_at (file_in f s) m).unknowns
+  unknowns_along ef ec p =
       let a = model_is f s o m h in
-      any_over (λ u. p (unknown_in f s u)) p (unknown_in f s 0) calls (model_at (file_in f s) m).unknowns first (first + count) e (omega (arith, a.unknowns_long, ec))
-      (λ k l. ap p (ap (λ (n : ℕ). unknown_in f s (n + k)) ef ∙ sym (a.unknown k _ (omega (arith, a.unknowns_long))))) ran
+      ap (λ (n : ℕ). list_any (λ u. p (unknown_in f s u)) (range_with_len first n)) (ec ∙ sym a.unknowns_long)
+      ∙ any_along (λ u. p (unknown_in f s u)) p (unknown_in f s 0) first (model_at (file_in f s) m).unknowns (λ k l. ap p (ap (λ (n : ℕ). unknown_in f s (n + k)) ef ∙ sym (a.unknown k _ (omega (arith, a.unknowns_long)))))
 
-  pub stmts_over : first ≡ word_of (get_or (contents_in f s).models m []) 3 → count ≡ word_of (get_or (contents_in f s).models m []) 4 → (p : Stmt → Bool)
-      → ((q : ℕ) (w : Bool) (d : F) → Called g c (q, tt) w d → (d ≡ c) × (w ≡ p (stmt_in f s q))) → r ≡ any p (model_at (file_in f s) m).stmts
-  stmts_over ef ec p calls =
+  pub stmts_along : first ≡ word_of (get_or (contents_in f s).models m []) 3 → count ≡ word_of (get_or (contents_in f s).models m []) 4 → (p : Stmt → Bool)
+      → list_any (λ q. p (stmt_in f s q)) (range_with_len first count) ≡ any p (model_at (file_in f s) m).stmts
+  stmts_along ef ec p =
       let a = model_is f s o m h in
-      any_over (λ q. p (stmt_in f s q)) p (stmt_in f s 0) calls (model_at (file_in f s) m).stmts first (first + count) e (omega (arith, a.stmts_long, ec))
-      (λ k l. ap p (ap (λ (n : ℕ). stmt_in f s (n + k)) ef ∙ sym (a.stmt k _ (omega (arith, a.stmts_long))))) ran
+      ap (λ (n : ℕ). list_any (λ q. p (stmt_in f s q)) (range_with_len first n)) (ec ∙ sym a.stmts_long)
+      ∙ any_along (λ q. p (stmt_in f s q)) p (stmt_in f s 0) first (model_at (file_in f s) m).stmts (λ k l. ap p (ap (λ (n : ℕ). stmt_in f s (n + k)) ef ∙ sym (a.stmt k _ (omega (arith, a.stmts_long)))))
 
 -- ---- an unknown of a model's run
 

@@ -2,15 +2,21 @@
 use mathlib.Core.Path.{◌≡◌, refl, sym, ap, ◌∙◌}
 use mathlib.Core.Bool.{Bool, true, false, cond, ◌&&◌, ◌||◌}
 use mathlib.Core.List.{List, [], ◌∷◌, ◌++◌}
-use mathlib.Core.Option.{some}
+use mathlib.Core.Option.{Option, none, some}
 use Prim.Native.Nat.{ℕ, zero, suc, ◌+◌, ◌-◌, ◌^◌, ◌≤◌, ◌<◌}
 use native.Mathlib.Omega.{arith}
-use native.Mathlib.Numerals.{add-one}
-use borrow.Author.Tests.{eq-eqb, ne_eqb, eqb-false, lt-ltb, le-ltb}
+use native.Mathlib.Numerals.{add-one, sub-one}
+use borrow.Author.Tests.{eq-eqb, ne_eqb, eqb-false}
+use Rattle.std.proofs.Common.{nat_cmp, Less, Equal, Greater}
+use Rattle.std.proofs.lemmas.Bool.Decides.{nat_tests}
 use lib.Dec.{eqb, ltb}
 use lib.ListN.{length, drop, get_or, length-append}
+use Rattle.std.specs.declared.option.Option as answer
+use Rattle.std.specs.declared.option.Option.TheVariants.{None, Some}
+use Rattle.std.specs.List.{find, range_with_len}
+use Rattle.std.specs.Option.{option_map}
 use Rattle.functions.specs.Lists.{place, place_from, plus_one, times, flag}
-use Rattle.functions.proofs.Lists.{clash, drop_past}
+use Rattle.functions.proofs.Lists.{clash, drop_here, drop_past}
 use Rattle.ast.specs.Tree.{Span}
 use Rattle.ast.specs.Words.{word_of, span_from}
 use Rattle.ast.specs.Records.{model_of}
@@ -26,9 +32,8 @@ use Rattle.area.specs.Sections.{stmts_at, area_stmts, area_stmt}
 use Rattle.area.specs.Listing.{Lists}
 use Rattle.area.specs.declared.sections.Sizes.{Sizes}
 use Rattle.builder.specs.Fating.{is_fated}
-use Rattle.builder.specs.Starting.{right_span_in, held_errors_in, state_errors_in, starting_in}
+use Rattle.builder.specs.Starting.{place_as, right_span_in, held_errors_in, state_errors_in, starting_in}
 use Rattle.area.proofs.Listings.{length_listed, lists_then}
-use Rattle.builder.proofs.laws.HeldSteps.{place_here, place_behind}
 use Rattle.builder.proofs.laws.OpenRecords.{long}
 
 -- a model's span by its record
@@ -39,47 +44,41 @@ model_span f s o m h = ap (λ x. x.span) (model_at_lem (contents_in f s) m no_mo
 -- ---- errors 14 and 15
 
 module _ (s : Span) (left states : ℕ) where
-  pub count_same : left ≡ states → count_errors s left states ≡ []
+  pub count_same : Equal ≡ nat_cmp left states → count_errors s left states ≡ []
   unfolding count_errors
-  count_same e = let t : eqb left states ≡ true = eq-eqb left states e in rw t refl
+  count_same e = let t : eqb left states ≡ true = grind (arith, nat_tests) in rw t refl
 
-  pub count_under : (left ≡ states → ⊥) → left < states → count_errors s left states ≡ error underdetermined s 0 ∷ []
+  pub count_under : Less ≡ nat_cmp left states → count_errors s left states ≡ error underdetermined s 0 ∷ []
   unfolding count_errors
-  count_under n l =
-      let t : eqb left states ≡ false = ne_eqb left states n in
-      let u : ltb left states ≡ true = lt-ltb left states l in
+  count_under e =
+      let t : eqb left states ≡ false = grind (arith, nat_tests) in
+      let u : ltb left states ≡ true = grind (arith, nat_tests) in
       rw (t, u) refl
 
-  pub count_over : (left ≡ states → ⊥) → states ≤ left → count_errors s left states ≡ error overdetermined s 0 ∷ []
+  pub count_over : Greater ≡ nat_cmp left states → count_errors s left states ≡ error overdetermined s 0 ∷ []
   unfolding count_errors
-  count_over n l =
-      let t : eqb left states ≡ false = ne_eqb left states n in
-      let u : ltb left states ≡ false = le-ltb left states l in
+  count_over e =
+      let t : eqb left states ≡ false = grind (arith, nat_tests) in
+      let u : ltb left states ≡ false = grind (arith, nat_tests) in
       rw (t, u) refl
 
--- ---- a variable's first condition
+-- ---- the first element that passes, by its place
 
-module _ (v : ℕ) (b : List ℕ) (z : Sizes) (i : ℕ) where
-  -- the test of a statement by the words read
-  fated_by_lem : (x y : ℕ) → x ≡ word_of (area_stmt b z i) 6 → y ≡ word_of (area_stmt b z i) 7 → is_fated 1 v (area_stmt b z i) ≡ (eqb x 1 && eqb y v)
-  unfolding is_fated
-  fated_by_lem x y ex ey = rw (ex, ey) refl
+module _ (p : List ℕ → Bool) (xs : List (List ℕ)) where
+  found_from : (n k : ℕ) → k + n ≡ length xs → place_as (find (λ i. p (get_or xs i [])) (range_with_len k n)) ≡ place_from k p (drop k xs)
+  unfolding place_as place_from
+  found_from zero k e = rw (drop_past xs k (omega arith)) refl
+  found_from (suc n) k e = rw (drop_here xs [] k (omega arith)) (by (p (get_or xs k [])) (found_from n (k + 1) (omega arith)))
+    where
+      by : (b : Bool) → place_as (find (λ i. p (get_or xs i [])) (range_with_len (k + 1) n)) ≡ place_from (k + 1) p (drop (k + 1) xs)
+          → place_as (cond b (Some k) (find (λ i. p (get_or xs i [])) (range_with_len (k + 1) n))) ≡ cond b (some k) (place_from (suc k) p (drop (k + 1) xs))
+      by true h = refl
+      by false h = h ∙ ap (λ (j : ℕ). place_from j p (drop (k + 1) xs)) (add-one k)
 
-  module _ (h : i < z.stmts) (x y : ℕ) (ex : x ≡ word_of (area_stmt b z i) 6) (ey : y ≡ word_of (area_stmt b z i) 7) where
-    there : i < length (area_stmts b z)
-    there = omega (arith, length_section 8 z.stmts (stmts_at z) b)
-
-    -- it is statement i, or one behind it
-    pub condition_here : (eqb x 1 && eqb y v) ≡ true → i + 1 ≡ plus_one (place_from i (is_fated 1 v) (drop i (area_stmts b z)))
-    condition_here e = place_here (is_fated 1 v) (area_stmts b z) [] i there (fated_by_lem x y ex ey ∙ e)
-
-    pub condition_behind : (eqb x 1 && eqb y v) ≡ false → plus_one (place_from (i + 1) (is_fated 1 v) (drop (i + 1) (area_stmts b z))) ≡ plus_one (place_from i (is_fated 1 v) (drop i (area_stmts b z)))
-    condition_behind e = place_behind (is_fated 1 v) (area_stmts b z) [] i there (fated_by_lem x y ex ey ∙ e)
-
-  -- there is none behind the last
-  pub condition_none : z.stmts ≤ i → plus_one (place_from i (is_fated 1 v) (drop i (area_stmts b z))) ≡ 0
-  unfolding place_from plus_one
-  condition_none h = ap (λ (xs : List (List ℕ)). plus_one (place_from i (is_fated 1 v) xs)) (drop_past (area_stmts b z) i (omega (arith, length_section 8 z.stmts (stmts_at z) b)))
+  pub found_place : (r : answer.Option ℕ) → option_map (λ i. i) r ≡ find (λ i. p (get_or xs i [])) (range_with_len 0 (length xs)) → place_as r ≡ place p xs
+  unfolding place_as place
+  found_place None e = rw (← e) at (found_from (length xs) 0 (omega arith))
+  found_place (Some i) e = rw (← e) at (found_from (length xs) 0 (omega arith))
 
 -- ---- errors 16 and 17 of a variable by the words of its record and the kind of the statement that it holds
 
@@ -138,12 +137,16 @@ module _ (model : Span) (ns rs : List (List ℕ)) (name v held : ℕ) (eh : held
     state_free e g = by_words ∙ one_passes (eqb kind 2) (eqb count 0) _ _ e g
 
     module _ (e : (eqb kind 2 || eqb count 0) ≡ false) where
-      pub state_algebraic : (k : ℕ) → k ≡ first → state_errors_in model ns rs name v ≡ error algebraic_initial_condition (right_span_in ns rs (k - 1)) name ∷ []
-      state_algebraic k g = rw g (by_words ∙ (none_passes (eqb kind 2) (eqb count 0) _ _ e).0)
+      pub state_algebraic : (i : ℕ) → some i ≡ place (is_fated 1 v) rs → state_errors_in model ns rs name v ≡ error algebraic_initial_condition (right_span_in ns rs i) name ∷ []
+      unfolding plus_one
+      state_algebraic i g = by_words ∙ (none_passes (eqb kind 2) (eqb count 0) _ _ e).0 ∙ rw (← g, sub-one (suc i)) refl
 
       -- there is a first condition
-      pub state_starts : (k : ℕ) → k ≡ first → 1 ≤ k
-      state_starts k g = omega (arith, g, eqb-false first 0 (no_first ∙ (none_passes (eqb kind 2) (eqb count 0) [] [] e).1))
+      pub state_starts : none ≡ place (is_fated 1 v) rs → state_errors_in model ns rs name v ≡ []
+      unfolding plus_one
+      state_starts g =
+          let f : first ≡ 0 = rw (← g) refl in
+          absurd (eqb-false first 0 (no_first ∙ (none_passes (eqb kind 2) (eqb count 0) [] [] e).1) f)
 
 -- ---- of all variables
 

@@ -10,6 +10,7 @@ ghost use Rattle.definitions.specs.Allocate.{fates_of};
 ghost use Rattle.builder.specs.Allocating.{role_as};
 ghost use Rattle.builder.specs.Fating.{fate_in, queue_in, fate_pair, with_fate, fated};
 
+use crate::allocation::pairing::has_rate;
 use crate::allocation::roles::Role;
 use area::layout::{FATE_AT, Fate, STMT_BYTES, VARIABLE_AT};
 use area::sections::{Sizes, stmts_at};
@@ -56,7 +57,7 @@ fn write_fate<'a>(
         }
         Role::Initial(v) => put_fate(area, z, i, Fate::Initial as u32, u32::from(v)),
         Role::Rate(v) => {
-            if roles[i + 1..].contains(&Role::Rate(v)) {
+            if has_rate(&roles[i + 1..], v) {
                 put_fate(area, z, i, Fate::Replaced as u32, u32::from(v));
             } else {
                 put_fate(area, z, i, Fate::Held as u32, u32::from(v));

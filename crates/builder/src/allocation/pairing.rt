@@ -1,6 +1,7 @@
 // The statements that are left, and the states that no rate equation goes to.
 ghost use Rattle.std.specs.Prelude.{◌≡◌, ◌≤◌, ◌<◌, map, length};
-ghost use Rattle.definitions.specs.Allocate.{left_count};
+ghost use Rattle.functions.specs.Lists.{any};
+ghost use Rattle.definitions.specs.Allocate.{is_rate_of, left_count};
 ghost use Rattle.area.specs.Sections.{Small, deps_at};
 ghost use Rattle.builder.specs.Tables.{lacks_in, lacking_in};
 ghost use Rattle.builder.specs.Allocating.{role_as, states_in};
@@ -18,6 +19,13 @@ pub fn left_count(roles: &[Role]) -> usize
     roles.iter().filter(|role| **role == Role::Neither).count()
 }
 
+// Whether a rate equation goes to variable v.
+pub fn has_rate(roles: &[Role], v: u16) -> bool
+    ensures { result ≡ any (is_rate_of v) (map role_as roles.now) }
+{
+    roles.contains(&Role::Rate(v))
+}
+
 // Whether variable v is a state that no rate equation goes to.
 fn lacks(roles: &[Role], area: &[u8], z: Sizes, v: u16) -> bool
     requires { (v < z.vars)
@@ -25,7 +33,7 @@ fn lacks(roles: &[Role], area: &[u8], z: Sizes, v: u16) -> bool
         × (deps_at z ≤ length area.now) }
     ensures { result ≡ lacks_in (map role_as roles.now) (states_in area.now z) v }
 {
-    (var_of(area, z, usize::from(v), VAR_STATE) == 1) & !roles.contains(&Role::Rate(v))
+    (var_of(area, z, usize::from(v), VAR_STATE) == 1) & !has_rate(roles, v)
 }
 
 // The states of an area that no rate equation goes to.

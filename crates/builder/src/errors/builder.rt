@@ -25,6 +25,7 @@ use ast::layout::{
 use ast::numbers::Domain;
 use ast::sections::{Nodes, node_word};
 use ast::view::View;
+use functions::Rule;
 
 // Statement `stmt` of a model, submodels gone through to a depth of so many models.
 #[derive(Clone, Copy)]
@@ -165,7 +166,7 @@ fn missing_error(file: &View, q: usize) -> Option<Found>
 fn own_errors(
     file: &View,
     classes: &[u8; MOST_NAMES],
-    rules: &[u8; MOST_NAMES],
+    rules: &[Rule; MOST_NAMES],
     vars: &[u16; MOST_NAMES],
     m: usize,
     q: usize,
@@ -199,7 +200,7 @@ fn own_errors(
 fn add_submodel(
     file: &View,
     classes: &[u8; MOST_NAMES],
-    rules: &[u8; MOST_NAMES],
+    rules: &[Rule; MOST_NAMES],
     callees: &[u8; MOST_STMTS],
     k: usize,
     q: usize,
@@ -228,7 +229,7 @@ fn add_submodel(
 fn stmt_errors(
     file: &View,
     classes: &[u8; MOST_NAMES],
-    rules: &[u8; MOST_NAMES],
+    rules: &[Rule; MOST_NAMES],
     callees: &[u8; MOST_STMTS],
     vars: &[u16; MOST_NAMES],
     place: Place,
@@ -256,7 +257,7 @@ fn stmt_errors(
 pub fn builder(
     file: &View,
     classes: &[u8; MOST_NAMES],
-    rules: &[u8; MOST_NAMES],
+    rules: &[Rule; MOST_NAMES],
     callees: &[u8; MOST_STMTS],
     k: usize,
     m: usize,

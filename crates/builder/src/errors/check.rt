@@ -13,7 +13,7 @@ ghost use Rattle.builder.specs.Checking.{variable_at, call_at, name_absent};
 ghost use Rattle.builder.specs.Checking.{ExprIn, CallIn, ArgsIn, Scoped, Against};
 
 use crate::models::scope::is_dep_of;
-use crate::names::{is_built_in, numbered_rule};
+use crate::names::is_built_in;
 use area::errors::{ErrorKind, Found, list};
 use ast::layout::{
     BINARY_KIND, MOST_NAMES, NAME_KIND, NODE_FROM, NODE_KIND, NODE_NAME, NODE_OP, NODE_SIZE,
@@ -21,6 +21,7 @@ use ast::layout::{
 };
 use ast::sections::{Nodes, node_field, node_word};
 use ast::view::View;
+use functions::{Rule, rule_allows};
 
 // What is checked, and against what: nodes by place, and the model whose variables count.
 #[derive(Clone, Copy)]
@@ -225,7 +226,7 @@ fn call_errors(
     file: &View,
     at: Checked,
     classes: &[u8; MOST_NAMES],
-    rules: &[u8; MOST_NAMES],
+    rules: &[Rule; MOST_NAMES],
     vars: &[u16; MOST_NAMES],
     i: usize,
     out: &mut [u8],
@@ -239,7 +240,7 @@ fn call_errors(
 {
     let name = node_word(b, at.nodes, i, NODE_NAME);
     let run = run_of(b, at.nodes, i);
-    let allowed = functions::rule_allows(numbered_rule(rules[name]), run.args);
+    let allowed = rule_allows(rules[name], run.args);
     let found = found_at(
         b,
         at.nodes,
@@ -273,7 +274,7 @@ pub fn check_expr(
     file: &View,
     at: Checked,
     classes: &[u8; MOST_NAMES],
-    rules: &[u8; MOST_NAMES],
+    rules: &[Rule; MOST_NAMES],
     vars: &[u16; MOST_NAMES],
     i: usize,
     out: &mut [u8],
@@ -317,7 +318,7 @@ fn check_args(
     file: &View,
     at: Checked,
     classes: &[u8; MOST_NAMES],
-    rules: &[u8; MOST_NAMES],
+    rules: &[Rule; MOST_NAMES],
     vars: &[u16; MOST_NAMES],
     run: Run,
     out: &mut [u8],

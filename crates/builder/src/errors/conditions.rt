@@ -1,16 +1,16 @@
 // The errors 14 to 17 of an answer: on the counts of statements and states, and on the states' initial conditions.
 ghost use Rattle.std.specs.Prelude.{[], ◌∷◌, ◌+◌, ◌≤◌, ◌<◌, get_or, ◌≡◌};
-ghost use Rattle.functions.specs.Lists.{place, plus_one};
+ghost use Rattle.functions.specs.Lists.{place};
 ghost use Rattle.ast.specs.Views.{file_seen};
 ghost use Rattle.definitions.specs.Numbers.{algebraic_initial_condition, initial_fate};
 ghost use Rattle.definitions.specs.Variables.{error};
 ghost use Rattle.definitions.specs.Flatten.{model_at};
 ghost use Rattle.definitions.specs.Allocate.{count_errors};
-ghost use Rattle.area.specs.Sections.{area_nodes, area_stmts};
+ghost use Rattle.area.specs.Sections.{area_nodes, area_stmts, area_stmt};
 ghost use Rattle.area.specs.Listing.{kind_number, found_as, Lists};
 ghost use Rattle.builder.specs.Allocating.{names_in};
 ghost use Rattle.builder.specs.Fating.{is_fated};
-ghost use Rattle.builder.specs.Starting.{Righted, Conditions, right_span_in, state_errors_in, starting_in};
+ghost use Rattle.builder.specs.Starting.{place_as, Righted, Conditions, right_span_in, state_errors_in, starting_in};
 
 use crate::allocation::statements::Left;
 use area::errors::{ErrorKind, Found, list};
@@ -22,6 +22,7 @@ use ast::layout::{
 };
 use ast::sections::record_word;
 use ast::view::View;
+use std::cmp::Ordering;
 
 // What is found wrong with model m as a whole.
 fn model_error(file: &View, m: usize, kind: ErrorKind, name: u32) -> Option<Found>
@@ -44,13 +45,11 @@ pub fn count_error(file: &View, m: usize, left: Left) -> Option<Found>
     ensures { found_as result ≡ count_errors (model_at (file_seen file.now) m).span left.stmts
         left.states }
 {
-    if left.stmts == left.states {
-        return None;
+    match left.stmts.cmp(&left.states) {
+        Ordering::Equal => None,
+        Ordering::Less => model_error(file, m, ErrorKind::Underdetermined, 0),
+        Ordering::Greater => model_error(file, m, ErrorKind::Overdetermined, 0),
     }
-    if left.stmts < left.states {
-        return model_error(file, m, ErrorKind::Underdetermined, 0);
-    }
-    model_error(file, m, ErrorKind::Overdetermined, 0)
 }
 
 // Error 17, at the right side of statement i.
@@ -71,19 +70,22 @@ fn condition_error(area: &[u8], z: Sizes, i: usize, name: u32) -> Option<Found>
     })
 }
 
-// The first initial condition of variable v, plus 1, or 0.
-fn first_condition(area: &[u8], z: Sizes, v: usize) -> usize
-    requires { Righted area.now z }
-    ensures { (result ≡ plus_one (place (is_fated initial_fate v) (area_stmts area.now z)))
-        × (result ≤ z.stmts) }
+// Whether statement i is an initial condition of variable v.
+fn is_condition(area: &[u8], z: Sizes, i: usize, v: usize) -> bool
+    requires { Righted area.now z
+        × (i < z.stmts) }
+    ensures { result ≡ is_fated initial_fate v (area_stmt area.now z i) }
 {
-    for i in 0..z.stmts {
-        let fate = stmt_of(area, z, i, STMT_FATE);
-        if (fate == Fate::Initial as usize) & (stmt_of(area, z, i, STMT_VARIABLE) == v) {
-            return i + 1;
-        }
-    }
-    0
+    let fate = stmt_of(area, z, i, STMT_FATE);
+    (fate == Fate::Initial as usize) & (stmt_of(area, z, i, STMT_VARIABLE) == v)
+}
+
+// The first initial condition of variable v.
+fn first_condition(area: &[u8], z: Sizes, v: usize) -> Option<usize>
+    requires { Righted area.now z }
+    ensures { place_as result ≡ place (is_fated initial_fate v) (area_stmts area.now z) }
+{
+    (0..z.stmts).find(|i| is_condition(area, z, *i, v))
 }
 
 // Errors 16 and 17 of variable v, by what its record says that it holds.
@@ -112,8 +114,10 @@ fn state_error(file: &View, m: usize, area: &[u8], z: Sizes, v: usize) -> Option
     if rate | none {
         return None;
     }
-    let first = first_condition(area, z, v);
-    condition_error(area, z, first - 1, var_of(area, z, v, VAR_NAME))
+    match first_condition(area, z, v) {
+        Some(i) => condition_error(area, z, i, var_of(area, z, v, VAR_NAME)),
+        None => None,
+    }
 }
 
 // Errors 16 and 17 of all variables.

@@ -1,5 +1,5 @@
 // The models reached from the root, and the refusals 6, 7 and 8 among them.
-ghost use Rattle.std.specs.Prelude.{◌≡◌, ◌||◌, ◌+◌, ◌-◌, ◌<◌, eqb, length};
+ghost use Rattle.std.specs.Prelude.{◌≡◌, cond, ◌||◌, ◌+◌, ◌-◌, ◌<◌, eqb, length};
 ghost use Rattle.functions.specs.Lists.{any};
 ghost use Rattle.ast.specs.Nodes.{kind_at, op_at, size_at, args_before};
 ghost use Rattle.ast.specs.Views.{contents_seen, file_seen};
@@ -18,15 +18,21 @@ use ast::layout::{
 };
 use ast::view::View;
 
+// 1 where y is 1, else x. A choice and no branch: the compiler then does many entries of a row at once, and without it a
+// build of 32 models deep takes half as long again.
+fn either(x: u8, y: u8) -> u8
+    ensures { result ≡ cond (eqb y 1) 1 x }
+{
+    if y == 1 { 1 } else { x }
+}
+
 // Adds to row a model c and the models that `old` says are reached from it.
 fn add_reached(old: &[u8], models: usize, c: usize, new: &mut [u8], a: usize)
     requires { RowsOf models c a old.now new.old }
     ensures { Added models a (λ y. onward old.now y c) new.old new.new }
 {
     for b in 0..models {
-        if old[MOST_MODELS * c + b] == 1 {
-            new[MOST_MODELS * a + b] = 1;
-        }
+        new[MOST_MODELS * a + b] = either(new[MOST_MODELS * a + b], old[MOST_MODELS * c + b]);
     }
     new[MOST_MODELS * a + c] = 1;
 }
@@ -158,8 +164,9 @@ pub fn cyclic(file: &View, table: &[u8; MODEL_PAIRS], root: usize) -> bool
         × (root < file.now.sections.counts.models) }
     ensures { result ≡ flatten.cyclic (file_seen file.now) root }
 {
-    (0..file.sections.counts.models).any(|m| is_reached(file, table, root, m)
-        && table[MOST_MODELS * m + m] == 1)
+    (0..file.sections.counts.models)
+        .filter(|m| is_reached(file, table, root, *m))
+        .any(|m| table[MOST_MODELS * m + m] == 1)
 }
 
 // Whether an unknown of model m lists itself.
@@ -184,8 +191,9 @@ pub fn self_listed(
         × ReachedIn file.now.bytes.now file.now.sections table.now }
     ensures { result ≡ flatten.self_listed (file_seen file.now) root }
 {
-    (0..file.sections.counts.models).any(|m| is_reached(file, table, root, m)
-        && has_self_listed(file, classes, m))
+    (0..file.sections.counts.models)
+        .filter(|m| is_reached(file, table, root, *m))
+        .any(|m| has_self_listed(file, classes, m))
 }
 
 // Whether a statement of model m calls a model with an argument beyond that model's unknowns.
@@ -212,6 +220,7 @@ pub fn overfull(
         × (root < file.now.sections.counts.models) }
     ensures { result ≡ flatten.overfull (file_seen file.now) root }
 {
-    (0..file.sections.counts.models).any(|m| is_reached(file, table, root, m)
-        && has_too_many(file, callees, m))
+    (0..file.sections.counts.models)
+        .filter(|m| is_reached(file, table, root, *m))
+        .any(|m| has_too_many(file, callees, m))
 }

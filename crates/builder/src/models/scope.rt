@@ -46,8 +46,9 @@ pub fn is_dep_of(
     }
     let first = file.model(m, MODEL_FIRST_UNKNOWN);
     let count = file.model(m, MODEL_UNKNOWNS);
-    (first..first + count).any(|u| file.unknown(u, UNKNOWN_NAME) == variable
-        && names_dep(file, u, name))
+    (first..first + count)
+        .filter(|u| file.unknown(*u, UNKNOWN_NAME) == variable)
+        .any(|u| names_dep(file, u, name))
 }
 
 // A table by name without marks. An entry has 16 bits: 1 plus a count of kept dependents is at most 1,025, 1 plus a

@@ -17,5 +17,5 @@ pub returns : goal.returns
 unfolding time_name
 returns c = let a = c.args in
     let long = names_long a.file.now.bytes.now a.file.now.sections in
-    first_over (λ n. eqb (get_or a.classes.now n 0) 0) (same_text (text "t")) [] (λ n b q k. search (rules, tests)) (file_in a.file.now.bytes.now a.file.now.sections).names
-    a.file.now.sections.counts.names _ _ refl (omega arith) (λ n l. sym (time_test (file_in a.file.now.bytes.now a.file.now.sections).names a.classes.now c.requires n l)) c.position.ensures.ran c.map_or.ensures (λ k e. search (rules, tests))
+    first_over (λ n. eqb (get_or a.classes.now n 0) 0) (same_text (text "t")) [] a.file.now.sections.counts.names _ _ (file_in a.file.now.bytes.now a.file.now.sections).names (omega arith) refl c.position.ensures.ran (λ n b q k. search (rules, tests))
+    (λ n l. sym (time_test (file_in a.file.now.bytes.now a.file.now.sections).names a.classes.now c.requires n l)) c.map_or.ensures (λ k e. search (rules, tests))

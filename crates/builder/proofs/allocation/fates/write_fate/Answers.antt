@@ -17,12 +17,12 @@ returns-in-Initial c =
     let f = initial_is c.args.roles.now c.args.i c.args.queue.now _ _ c.from-in-Initial.ensures c.in-Initial.is in
     (rw f.0 c.put_fate-in-Initial.ensures, sym f.1)
 
-pub returns-then-contains : goal.returns-then-contains
-returns-then-contains c =
-    let f = replaced_is c.args.roles.now c.args.i c.args.queue.now c.in-Rate.v _ c.from-then-contains.ensures c.in-Rate.is _ c.contains.ensures.value c.if-contains.true in
-    (rw f.0 c.put_fate-then-contains.ensures, sym f.1)
+pub returns-then-has_rate : goal.returns-then-has_rate
+returns-then-has_rate c =
+    let f = replaced_is c.args.roles.now c.args.i c.args.queue.now c.in-Rate.v _ c.from-then-has_rate.ensures c.in-Rate.is _ c.has_rate.ensures c.if-has_rate.true in
+    (rw f.0 c.put_fate-then-has_rate.ensures, sym f.1)
 
-pub returns-else-contains : goal.returns-else-contains
-returns-else-contains c =
-    let f = held_is c.args.roles.now c.args.i c.args.queue.now c.in-Rate.v _ c.from-else-contains.ensures c.in-Rate.is _ c.contains.ensures.value c.if-contains.false in
-    (rw f.0 c.put_fate-else-contains.ensures, sym f.1)
+pub returns-else-has_rate : goal.returns-else-has_rate
+returns-else-has_rate c =
+    let f = held_is c.args.roles.now c.args.i c.args.queue.now c.in-Rate.v _ c.from-else-has_rate.ensures c.in-Rate.is _ c.has_rate.ensures c.if-has_rate.false in
+    (rw f.0 c.put_fate-else-has_rate.ensures, sym f.1)

@@ -1,8 +1,7 @@
-use mathlib.Core.Path.{refl, ◌∙◌}
+use mathlib.Core.Path.{refl}
 use Rattle.builder.specs.Tables.{lacks_in}
-use Rattle.builder.proofs.laws.RoleLoops.{any_rate}
 use Rattle.builder.proofs.allocation.pairing.lacks.Goals as goal
 
 pub returns : goal.returns
 unfolding lacks_in
-returns c = rw (c.contains.ensures.value ∙ any_rate c.args.v c.args.roles.now, c.var_of.ensures, c.from.ensures) refl
+returns c = rw (c.has_rate.ensures, c.var_of.ensures, c.from.ensures) refl

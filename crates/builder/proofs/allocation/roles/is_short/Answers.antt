@@ -27,22 +27,19 @@ start_of-requires c =
 pub returns-in-Some-Short : goal.returns-in-Some-Short
 unfolding is_short
 returns-in-Some-Short c =
-    let is_equation : word_of (area_stmt c.args.area.now c.args.z c.args.i) 0 ≡ 1 = sym c.stmt_of.ensures.0 ∙ c.if-stmt_of-ne-EQUATION_KIND.false in
     let p = c.requires in
     let s = c.in-Some-Short in
-    sym (short_equation _ _ _ p.0.1 _ _ _ p.2 is_equation ∙ rw (← c.stmt_of-2.ensures.0, ← c.start_of.ensures, s.is, s.field-0-is) refl)
+    rw (s.is, s.field-0-is) at (short_equation _ _ _ p.0.1 _ _ _ p.2 (sym c.stmt_of.ensures.0 ∙ c.if-stmt_of-ne-EQUATION_KIND.false) _ c.stmt_of-2.ensures.0 _ c.start_of.ensures)
 
 pub returns-in-Some-Number : goal.returns-in-Some-Number
 unfolding is_short
 returns-in-Some-Number c =
-    let is_equation : word_of (area_stmt c.args.area.now c.args.z c.args.i) 0 ≡ 1 = sym c.stmt_of.ensures.0 ∙ c.if-stmt_of-ne-EQUATION_KIND.false in
     let p = c.requires in
     let s = c.in-Some-Number in
-    sym (short_equation _ _ _ p.0.1 _ _ _ p.2 is_equation ∙ rw (← c.stmt_of-2.ensures.0, ← c.start_of.ensures, s.is, s.field-0-is) refl)
+    rw (s.is, s.field-0-is) at (short_equation _ _ _ p.0.1 _ _ _ p.2 (sym c.stmt_of.ensures.0 ∙ c.if-stmt_of-ne-EQUATION_KIND.false) _ c.stmt_of-2.ensures.0 _ c.start_of.ensures)
 
 pub returns-in-None : goal.returns-in-None
 unfolding is_short
 returns-in-None c =
-    let is_equation : word_of (area_stmt c.args.area.now c.args.z c.args.i) 0 ≡ 1 = sym c.stmt_of.ensures.0 ∙ c.if-stmt_of-ne-EQUATION_KIND.false in
     let p = c.requires in
-    sym (short_equation _ _ _ p.0.1 _ _ _ p.2 is_equation ∙ rw (← c.stmt_of-2.ensures.0, ← c.start_of.ensures, c.in-None.is) refl)
+    rw c.in-None.is at (short_equation _ _ _ p.0.1 _ _ _ p.2 (sym c.stmt_of.ensures.0 ∙ c.if-stmt_of-ne-EQUATION_KIND.false) _ c.stmt_of-2.ensures.0 _ c.start_of.ensures)

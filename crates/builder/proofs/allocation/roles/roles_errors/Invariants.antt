@@ -1,4 +1,3 @@
-use Prim.Native.Nat.{◌-◌, ◌≤◌}
 use lib.ListN.{take}
 use Rattle.functions.specs.Lists.{each}
 use Rattle.area.specs.Listing.{Lists}

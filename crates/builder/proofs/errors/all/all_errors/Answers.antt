@@ -1,10 +1,5 @@
-use native.Mathlib.Omega.{arith}
 use Rattle.builder.proofs.laws.ErrorParts.{roles_room, count_room, starting_room, all_listed}
 use Rattle.builder.proofs.errors.all.all_errors.Goals as goal
-
-pub models_errors-built-requires : goal.models_errors-built-requires
-models_errors-built-requires c = let p = c.requires in
-    (p.0.called, p.0.model, record { long = omega (arith, p.1); few = omega (arith, p.0.few) })
 
 pub roles_errors-stated-requires : goal.roles_errors-stated-requires
 roles_errors-stated-requires c = let p = c.requires in

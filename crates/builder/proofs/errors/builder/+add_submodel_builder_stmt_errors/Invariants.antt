@@ -1,5 +1,5 @@
 -- `builder::builder::builder` and the two functions that it calls in turn meet their contracts: statement by statement, a submodel's by the model that it calls. The measure is three times the depth, and one or two more for a statement.
-use Prim.Native.Nat.{◌+◌, ◌-◌, ◌*◌, ◌≤◌}
+use Prim.Native.Nat.{◌+◌, ◌-◌, ◌*◌}
 use lib.ListN.{take}
 use Rattle.functions.specs.Lists.{each}
 use Rattle.ast.specs.Opens.{file_in}

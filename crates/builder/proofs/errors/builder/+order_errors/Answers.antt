@@ -14,9 +14,6 @@ pub overflow_sub-last : goal.overflow_sub-last
 overflow_sub-last t c = let l = arg_last c.requires.0.1 c.if-run-eq0.false in
     omega (arith, l.two)
 
-pub before_last-rest-requires : goal.before_last-rest-requires
-before_last-rest-requires t c = (c.requires.0, omega (arith, c.if-run-eq0.false))
-
 pub order_errors-before-requires : goal.order_errors-before-requires
 order_errors-before-requires t c = let if1 = c.if-run-eq0 in
     let before_last = c.before_last-rest in
@@ -42,9 +39,6 @@ list-requires t c = let before_last = c.before_last-rest in
     let e = order_more c.requires.0.1 c.if-run-eq0.false before_last.result before_last.ensures node_word.result node_word.ensures.0 has-keyword.result has-keyword.ensures in
     let r = room_then e _ _ c.requires.1 c.order_errors-before.ensures in
     (r.long, omega (arith, r.few))
-
-pub shape_of-out : goal.shape_of-out
-shape_of-out t c = omega arith
 
 pub returns : goal.returns
 returns t c = let before_last = c.before_last-rest in

@@ -4,13 +4,6 @@ use Rattle.area.proofs.Listings.{lists_then, room_then}
 use Rattle.builder.proofs.laws.ModelErrors.{unknown_small, unknown_more}
 use Rattle.builder.proofs.errors.builder.unknown_errors.Goals as goal
 
-pub domain_error-requires : goal.domain_error-requires
-domain_error-requires c = c.requires.0
-
-pub list-listed-requires : goal.list-listed-requires
-list-listed-requires c = let p = c.requires in
-    (p.1.long, omega (arith, p.1.few))
-
 pub bounds-classes-name : goal.bounds-classes-name
 bounds-classes-name c = let unknown = c.unknown-name in
     omega (arith, unknown_small c.requires.0 unknown.result unknown.ensures.0)

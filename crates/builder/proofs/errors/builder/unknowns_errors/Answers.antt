@@ -1,34 +1,15 @@
-use mathlib.Core.Path.{ap, ◌∙◌}
 use Prim.Native.Nat.{◌+◌}
-use native.Mathlib.Omega.{arith}
-use lib.ListN.{length}
 use Rattle.ast.specs.Opens.{file_in}
 use Rattle.definitions.specs.Variables.{unknown_errors}
 use Rattle.definitions.specs.Flatten.{model_at}
 use Rattle.builder.specs.Checking.{unknown_in}
-use Rattle.area.proofs.Listings.{length_listed}
 use Rattle.builder.proofs.laws.Runs.{unknowns_below}
 use Rattle.builder.proofs.laws.ModelErrors.{run_begins, run_room, run_goes, run_ends, unknown_here, unknown_there, unknowns_past}
 use Rattle.builder.proofs.errors.builder.unknowns_errors.Goals as goal
 
-pub model-first-requires : goal.model-first-requires
-model-first-requires c = let p = c.requires in
-    (p.1, omega arith)
-
-pub model-unknowns-requires : goal.model-unknowns-requires
-model-unknowns-requires c = let p = c.requires in
-    (p.1, omega arith)
-
 pub loop-i-init : goal.loop-i-init
 loop-i-init c = let a = c.args in
     run_begins (unknown_errors (file_in a.file.now.bytes.now a.file.now.sections).names) (model_at (file_in a.file.now.bytes.now a.file.now.sections) a.m).unknowns _ _
-
-pub overflow_add-first : goal.overflow_add-first
-overflow_add-first c = let a = c.args in
-    let p = c.requires in
-    let model = c.model-first in
-    let model2 = c.model-unknowns in
-    omega (arith, unknowns_below a.file.now.bytes.now a.file.now.sections c.args.file.now.opened a.m p.1 model.result model2.result c.loop-i.i model.ensures.0 model2.ensures.0 c.loop-i-test.true, c.args.file.now.opened.laid.within.unknowns)
 
 pub unknown_errors-listed-requires : goal.unknown_errors-listed-requires
 unknown_errors-listed-requires c = let a = c.args in
@@ -51,10 +32,6 @@ loop-i-preserved c = let a = c.args in
     let there = unknown_there a.file.now.bytes.now a.file.now.sections c.args.file.now.opened a.m p.1 model.result model2.result loop.i model.ensures.0 model2.ensures.0 loop-test.true in
     let here = unknown_here a.file.now.bytes.now a.file.now.sections c.args.file.now.opened a.m p.1 model.result model2.result loop.i model.ensures.0 model2.ensures.0 loop-test.true in
     run_goes (unknown_errors (file_in a.file.now.bytes.now a.file.now.sections).names) (model_at (file_in a.file.now.bytes.now a.file.now.sections) a.m).unknowns (unknown_in a.file.now.bytes.now a.file.now.sections (model.result + loop.i)) loop.i there here _ _ _ _ _ _ loop.invariant c.unknown_errors-listed.ensures
-
-pub shape_of-out : goal.shape_of-out
-shape_of-out c = let p = c.requires in
-    ap length c.loop-i.invariant.1 ∙ length_listed _ _ _ p.2.long
 
 pub returns : goal.returns
 returns c = let a = c.args in

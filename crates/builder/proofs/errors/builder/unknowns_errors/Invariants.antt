@@ -1,5 +1,4 @@
 -- `builder::builder::unknowns_errors` meets its contract: unknown by unknown.
-use Prim.Native.Nat.{◌-◌, ◌≤◌}
 use lib.ListN.{take}
 use Rattle.functions.specs.Lists.{each}
 use Rattle.ast.specs.Opens.{file_in}

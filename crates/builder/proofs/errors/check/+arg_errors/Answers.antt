@@ -12,9 +12,6 @@ pub overflow_sub-last : goal.overflow_sub-last
 overflow_sub-last t c = let l = arg_last c.requires.2 c.if-run-eq0.false in
     omega (arith, l.two)
 
-pub before_last-rest-requires : goal.before_last-rest-requires
-before_last-rest-requires t c = ((_, c.requires.2), omega (arith, c.if-run-eq0.false))
-
 pub arg_errors-before-requires : goal.arg_errors-before-requires
 arg_errors-before-requires t c = let if1 = c.if-run-eq0 in
     let before_last = c.before_last-rest in
@@ -43,9 +40,6 @@ list-requires t c = let if1 = c.if-run-eq0 in
     let r = room_then e _ _ c.requires.3 c.arg_errors-before.ensures in
     (r.long, omega (arith, r.few))
 
-pub shape_of-out-then-keyword-eq0 : goal.shape_of-out-then-keyword-eq0
-shape_of-out-then-keyword-eq0 t c = omega arith
-
 pub returns-then-keyword-eq0 : goal.returns-then-keyword-eq0
 returns-then-keyword-eq0 t c = let before_last = c.before_last-rest in
     let node_word = c.node_word-keyword in
@@ -54,9 +48,6 @@ returns-then-keyword-eq0 t c = let before_last = c.before_last-rest in
     let e = positional_more q c.if-run-eq0.false before_last.result before_last.ensures node_word.result node_word.ensures.0 _ has-keyword.result c.if-keyword-eq0.true has-keyword.ensures in
     let l = rw c.found_at-found.ensures at c.list.ensures in
     lists_then e _ _ _ _ _ _ c.arg_errors-before.ensures l
-
-pub overflow_sub-keyword : goal.overflow_sub-keyword
-overflow_sub-keyword t c = omega (arith, c.if-keyword-eq0.false)
 
 pub is_dep_of-kept-requires : goal.is_dep_of-kept-requires
 is_dep_of-kept-requires t c = (c.requires.0, c.requires.1, omega (arith, c.if-keyword-eq0.false, c.node_word-keyword.ensures.0, arg_keyword c.requires.2 c.if-run-eq0.false))
@@ -73,9 +64,6 @@ list-requires-2 t c = let if1 = c.if-run-eq0 in
     let e = named_more q if1.false before_last.result before_last.ensures node_word.result node_word.ensures.0 _ is-dep-of.result c.if-keyword-eq0.false is-dep-of.ensures in
     let r = room_then e _ _ c.requires.3 c.arg_errors-before.ensures in
     (r.long, omega (arith, r.few))
-
-pub shape_of-out : goal.shape_of-out
-shape_of-out t c = omega arith
 
 pub returns : goal.returns
 returns t c = let before_last = c.before_last-rest in

@@ -16,9 +16,6 @@ pub check_args-overflow_sub-last : goal.check_args-overflow_sub-last
 check_args-overflow_sub-last t c = let l = arg_last c.requires.1 c.if-run-eq0.false in
     omega (arith, l.two)
 
-pub check_args-before_last-rest-requires : goal.check_args-before_last-rest-requires
-check_args-before_last-rest-requires t c = ((_, c.requires.1), omega (arith, c.if-run-eq0.false))
-
 pub check_args-check_args-before-requires : goal.check_args-check_args-before-requires
 check_args-check_args-before-requires t c = let a = c.args in
     let if1 = c.if-run-eq0 in
@@ -40,9 +37,6 @@ check_args-check_expr-requires t c = let a = c.args in
     let e = args_more_errors q if1.false before_last.result before_last.ensures (scope_in a.file.now.bytes.now a.file.now.sections a.at.model) in
     (omega (arith, c.decreases, l.le, l.eq), (c.requires.0, arg_child q if1.false, room_then e _ _ c.requires.2 c.check_args-before.ensures))
 
-pub check_args-shape_of-out : goal.check_args-shape_of-out
-check_args-shape_of-out t c = omega arith
-
 pub check_args-returns : goal.check_args-returns
 check_args-returns t c = let a = c.args in
     let before_last = c.before_last-rest in
@@ -50,18 +44,9 @@ check_args-returns t c = let a = c.args in
     let e = args_more_errors q c.if-run-eq0.false before_last.result before_last.ensures (scope_in a.file.now.bytes.now a.file.now.sections a.at.model) in
     lists_then e _ _ _ _ _ _ c.check_args-before.ensures c.check_expr.ensures
 
-pub check_expr-node_word-kind-requires : goal.check_expr-node_word-kind-requires
-check_expr-node_word-kind-requires t c = (c.requires.1.formed.lie, c.requires.1.within, omega arith)
-
 pub check_expr-name_error-requires : goal.check_expr-name_error-requires
 check_expr-name_error-requires t c = let q = c.requires.1 in
     (q.formed.lie, q.within, name_small q (sym c.node_word-kind.ensures.0 ∙ c.if-kind-eq-NAME_KIND.true))
-
-pub check_expr-list-requires : goal.check_expr-list-requires
-check_expr-list-requires t c = (c.requires.2.long, omega (arith, c.requires.2.few))
-
-pub check_expr-shape_of-out-then-kind-eq-NAME_KIND : goal.check_expr-shape_of-out-then-kind-eq-NAME_KIND
-check_expr-shape_of-out-then-kind-eq-NAME_KIND t c = omega arith
 
 pub check_expr-returns-then-kind-eq-NAME_KIND : goal.check_expr-returns-then-kind-eq-NAME_KIND
 check_expr-returns-then-kind-eq-NAME_KIND t c = let if1 = c.if-kind-eq-NAME_KIND in
@@ -76,10 +61,6 @@ pub check_expr-overflow_sub-right : goal.check_expr-overflow_sub-right
 check_expr-overflow_sub-right t c = let node_word = c.node_word-kind in
     let w = binary_pos c.requires.1 node_word.result node_word.ensures.0 c.if-kind-eq-BINARY_KIND.true in
     omega arith
-
-pub check_expr-node_word-requires : goal.check_expr-node_word-requires
-check_expr-node_word-requires t c = let q = c.requires.1 in
-    (q.formed.lie, omega (arith, q.within), omega arith)
 
 pub check_expr-overflow_sub-left : goal.check_expr-overflow_sub-left
 check_expr-overflow_sub-left t c = let node_word = c.node_word-kind in
@@ -108,9 +89,6 @@ check_expr-check_expr-requires t c = let a = c.args in
     let e = binary_errors q node_word.result node_word.ensures.0 if3.true node-word2.result node-word2.ensures.0 (scope_in a.file.now.bytes.now a.file.now.sections a.at.model) in
     (omega (arith, c.decreases, w.right_less), (c.requires.0, w.right, room_then e _ _ c.requires.2 c.check_expr-first.ensures))
 
-pub check_expr-shape_of-out-then-kind-eq-BINARY_KIND : goal.check_expr-shape_of-out-then-kind-eq-BINARY_KIND
-check_expr-shape_of-out-then-kind-eq-BINARY_KIND t c = omega arith
-
 pub check_expr-returns-then-kind-eq-BINARY_KIND : goal.check_expr-returns-then-kind-eq-BINARY_KIND
 check_expr-returns-then-kind-eq-BINARY_KIND t c = let a = c.args in
     let node_word = c.node_word-kind in
@@ -131,16 +109,9 @@ check_expr-check_expr-requires-then-kind-eq-UNARY_KIND t c = let node_word = c.n
     let w = one_in q node_word.result node_word.ensures.0 if4.true in
     (omega (arith, c.decreases, w.less), (c.requires.0, w.child, rw (unary_errors q node_word.result node_word.ensures.0 if4.true _) at c.requires.2))
 
-pub check_expr-shape_of-out-then-kind-eq-UNARY_KIND : goal.check_expr-shape_of-out-then-kind-eq-UNARY_KIND
-check_expr-shape_of-out-then-kind-eq-UNARY_KIND t c = omega arith
-
 pub check_expr-returns-then-kind-eq-UNARY_KIND : goal.check_expr-returns-then-kind-eq-UNARY_KIND
 check_expr-returns-then-kind-eq-UNARY_KIND t c = let node_word = c.node_word-kind in
     rw (unary_errors c.requires.1 node_word.result node_word.ensures.0 c.if-kind-eq-UNARY_KIND.true _) c.check_expr-then-kind-eq-UNARY_KIND.ensures
-
-pub check_expr-node_word-requires-2 : goal.check_expr-node_word-requires-2
-check_expr-node_word-requires-2 t c = let q = c.requires.1 in
-    (q.formed.lie, q.within, omega arith)
 
 pub check_expr-call_errors-requires : goal.check_expr-call_errors-requires
 check_expr-call_errors-requires t c = let a = c.args in
@@ -152,9 +123,6 @@ check_expr-call_errors-requires t c = let a = c.args in
     let q = c.requires.1 in
     let e = call_errors_lem q node_word.result node_word.ensures.0 if1.false if2.false if3.false if4.false (scope_in a.file.now.bytes.now a.file.now.sections a.at.model) _ refl in
     (c.requires.0, is_call q node_word.result node_word.ensures.0 if1.false if2.false if3.false if4.false, room_first e c.requires.2)
-
-pub check_expr-shape_of-out-then-node_word-eq0 : goal.check_expr-shape_of-out-then-node_word-eq0
-check_expr-shape_of-out-then-node_word-eq0 t c = omega arith
 
 pub check_expr-returns-then-node_word-eq0 : goal.check_expr-returns-then-node_word-eq0
 unfolding args_errors
@@ -196,9 +164,6 @@ check_expr-check_args-requires t c = let a = c.args in
     let d = is_call q node_word.result node_word.ensures.0 if1.false if2.false if3.false if4.false in
     let e = call_errors_lem q node_word.result node_word.ensures.0 if1.false if2.false if3.false if4.false (scope_in a.file.now.bytes.now a.file.now.sections a.at.model) run_of.result run_of.ensures.0 in
     (omega (arith, c.decreases, call_less d run_of.result run_of.ensures.0), (c.requires.0, call_args d run_of.result run_of.ensures.0, room_then e _ _ c.requires.2 c.call_errors-own.ensures))
-
-pub check_expr-shape_of-out : goal.check_expr-shape_of-out
-check_expr-shape_of-out t c = omega arith
 
 pub check_expr-returns : goal.check_expr-returns
 check_expr-returns t c = let a = c.args in

@@ -19,9 +19,6 @@ pub returns-then-node_word-ne0 : goal.returns-then-node_word-ne0
 returns-then-node_word-ne0 t c = let node_word = c.node_word in
     sym (has_keyword_here c.requires.1 c.if-run-eq0.false node_word.result node_word.ensures.0 c.if-node_word-ne0.true)
 
-pub before_last-requires : goal.before_last-requires
-before_last-requires t c = (c.requires, omega (arith, c.if-run-eq0.false))
-
 pub has_keyword-requires : goal.has_keyword-requires
 has_keyword-requires t c = let if1 = c.if-run-eq0 in
     let before_last = c.before_last in

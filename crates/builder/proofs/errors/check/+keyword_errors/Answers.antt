@@ -13,9 +13,6 @@ pub overflow_sub-last : goal.overflow_sub-last
 overflow_sub-last t c = let l = arg_last c.requires.0.1 c.if-run-eq0.false in
     omega (arith, l.two)
 
-pub before_last-requires : goal.before_last-requires
-before_last-requires t c = (c.requires.0, omega (arith, c.if-run-eq0.false))
-
 pub keyword_errors-before-requires : goal.keyword_errors-before-requires
 keyword_errors-before-requires t c = let if1 = c.if-run-eq0 in
     let before_last = c.before_last in
@@ -37,9 +34,6 @@ list-requires t c = let before_last = c.before_last in
     let e = built_in_more c.requires.0.1 c.if-run-eq0.false before_last.result before_last.ensures node_word.result node_word.ensures.0 in
     let r = room_then e _ _ c.requires.1 keyword-errors.ensures in
     (r.long, omega (arith, r.few))
-
-pub shape_of-out : goal.shape_of-out
-shape_of-out t c = omega arith
 
 pub returns : goal.returns
 returns t c = let before_last = c.before_last in

@@ -1,5 +1,4 @@
 -- `builder::check::before_last` meets its contract: by the size of the last argument's node.
-use mathlib.Core.Path.{refl}
 use native.Mathlib.Omega.{arith}
 use Rattle.builder.proofs.laws.Checks.{arg_last, arg_within}
 use Rattle.builder.proofs.errors.check.before_last.Goals as goal
@@ -22,6 +21,3 @@ pub overflow_sub-total : goal.overflow_sub-total
 overflow_sub-total c = let p = c.requires in
     let l = arg_last p.0.1 (λ e. omega (arith, e, p.1)) in
     omega (arith, c.node_word-size.ensures.0, l.le)
-
-pub returns : goal.returns
-returns c = rw c.node_word-size.ensures.0 refl

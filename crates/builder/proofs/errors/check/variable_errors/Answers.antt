@@ -4,13 +4,6 @@ use Rattle.builder.proofs.laws.Calls.{call_small, call_args, call_missing, call_
 use Rattle.area.proofs.Listings.{lists_then, room_then}
 use Rattle.builder.proofs.errors.check.variable_errors.Goals as goal
 
-pub node_word-name-requires : goal.node_word-name-requires
-node_word-name-requires c = let p = c.requires in
-    (p.1.formed.lie, p.1.within, omega arith)
-
-pub run_of-run-requires : goal.run_of-run-requires
-run_of-run-requires c = (_, c.requires.1)
-
 pub bounds-vars-name : goal.bounds-vars-name
 bounds-vars-name c = let p = c.requires in
     omega (arith, c.node_word-name.ensures.0, call_small p.1)
@@ -19,27 +12,12 @@ pub found_at-found-requires : goal.found_at-found-requires
 found_at-found-requires c = let p = c.requires in
     (p.1.formed.lie, p.1.within, omega (arith, c.node_word-name.ensures.0, call_small p.1))
 
-pub list-requires : goal.list-requires
-list-requires c = let p = c.requires in
-    (p.2.long, omega (arith, p.2.few))
-
 pub returns-then-entry-eq0 : goal.returns-then-entry-eq0
 returns-then-entry-eq0 c = let p = c.requires in
     let node_word = c.node_word-name in
     let if1 = c.if-entry-eq0 in
     let l = rw c.found_at-found.ensures at c.list.ensures in
     rw (call_missing p.0 p.1 node_word.result node_word.ensures.0 if1.true) l
-
-pub is_count-counted-requires : goal.is_count-counted-requires
-is_count-counted-requires c = c.run_of-run.ensures.1
-
-pub found_at-found-requires-2 : goal.found_at-found-requires-2
-found_at-found-requires-2 c = let p = c.requires in
-    (p.1.formed.lie, p.1.within, omega (arith, c.node_word-name.ensures.0, call_small p.1))
-
-pub list-own-requires : goal.list-own-requires
-list-own-requires c = let p = c.requires in
-    (p.2.long, omega (arith, p.2.few))
 
 pub arg_errors-requires : goal.arg_errors-requires
 arg_errors-requires c = let p = c.requires in

@@ -3,12 +3,12 @@ use Rattle.area.specs.Listing.{found_as}
 use Rattle.builder.proofs.laws.StartingLaws.{count_same, count_under, count_over}
 use Rattle.builder.proofs.errors.conditions.count_error.Goals as goal
 
-pub returns-then-left : goal.returns-then-left
+pub returns-in-Equal : goal.returns-in-Equal
 unfolding found_as
-returns-then-left c = sym (count_same _ _ _ c.if-left.true)
+returns-in-Equal c = sym (count_same _ _ _ c.in-Equal.ensures)
 
-pub returns-then-left-2 : goal.returns-then-left-2
-returns-then-left-2 c = c.model_error.ensures ∙ sym (count_under _ _ _ c.if-left.false c.if-left-2.true)
+pub returns-in-Less : goal.returns-in-Less
+returns-in-Less c = c.model_error.ensures ∙ sym (count_under _ _ _ c.in-Less.ensures)
 
-pub returns : goal.returns
-returns c = c.model_error-2.ensures ∙ sym (count_over _ _ _ c.if-left.false c.if-left-2.false)
+pub returns-in-Greater : goal.returns-in-Greater
+returns-in-Greater c = c.model_error-in-Greater.ensures ∙ sym (count_over _ _ _ c.in-Greater.ensures)

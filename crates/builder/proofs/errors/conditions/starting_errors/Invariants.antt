@@ -1,4 +1,3 @@
-use Prim.Native.Nat.{◌-◌, ◌≤◌}
 use Rattle.ast.specs.Opens.{file_in}
 use Rattle.definitions.specs.Flatten.{model_at}
 use Rattle.area.specs.Sections.{area_nodes, area_stmts}

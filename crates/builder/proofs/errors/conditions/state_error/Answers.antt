@@ -8,6 +8,8 @@ use Rattle.definitions.specs.Flatten.{model_at}
 use Rattle.area.specs.Sections.{stmts_at, deps_at, area_nodes, area_stmts}
 use Rattle.area.specs.Listing.{found_as}
 use Rattle.builder.specs.Fating.{is_fated}
+use Rattle.builder.specs.Starting.{place_as}
+use Rattle.definitions.proofs.ListLaws.{place_below}
 use Rattle.builder.proofs.laws.HeldSteps.{place_few}
 use Rattle.builder.proofs.laws.StartingLaws.{state_bare, state_lacks, state_free, state_algebraic, state_starts}
 use Rattle.builder.proofs.errors.conditions.state_error.Goals as goal
@@ -37,22 +39,21 @@ returns-then-rate-none-2 c = let a = c.args in
     let p = c.requires in
     sym (state_free _ _ _ _ _ _ (c.var_of-held.ensures ∙ p.1.held a.v p.2) c.if-held-eq0.false _ _ c.stmt_of-rate.ensures.0 (c.var_of-none.ensures ∙ p.1.initial a.v p.2) c.if-rate-none.false c.if-rate-none-2.true)
 
-pub overflow_sub-first : goal.overflow_sub-first
-overflow_sub-first c =
-    let a = c.args in
-    let p = c.requires in
-    let started : 1 ≤ c.first_condition-first.result = let nodes = area_nodes a.area.now a.z in let model = (model_at (file_in a.file.now.bytes.now a.file.now.sections) a.m).span in state_starts model nodes (area_stmts a.area.now a.z) 0 a.v _ (c.var_of-held.ensures ∙ p.1.held a.v p.2) c.if-held-eq0.false _ _ c.stmt_of-rate.ensures.0 (c.var_of-none.ensures ∙ p.1.initial a.v p.2) c.if-rate-none-2.false _ c.first_condition-first.ensures.0 in
-    started
-
 pub condition_error-requires : goal.condition_error-requires
-condition_error-requires c =
-    let a = c.args in
-    let p = c.requires in
-    let started : 1 ≤ c.first_condition-first.result = let nodes = area_nodes a.area.now a.z in let model = (model_at (file_in a.file.now.bytes.now a.file.now.sections) a.m).span in state_starts model nodes (area_stmts a.area.now a.z) 0 a.v _ (c.var_of-held.ensures ∙ p.1.held a.v p.2) c.if-held-eq0.false _ _ c.stmt_of-rate.ensures.0 (c.var_of-none.ensures ∙ p.1.initial a.v p.2) c.if-rate-none-2.false _ c.first_condition-first.ensures.0 in
-    (p.1, omega (arith, c.first_condition-first.ensures.1, started))
+unfolding place_as place
+condition_error-requires c = let a = c.args in
+    let few = place_below (is_fated 1 a.v) 0 (area_stmts a.area.now a.z) c.in-Some.i (sym (c.in-Some.ensures)) in
+    (c.requires.1, omega (arith, few, length_section 8 a.z.stmts (stmts_at a.z) a.area.now))
 
-pub returns : goal.returns
-returns c = let a = c.args in
+pub returns-in-Some : goal.returns-in-Some
+unfolding place_as
+returns-in-Some c = let a = c.args in
     let p = c.requires in
-    let e = rw c.var_of-2.ensures at c.condition_error.ensures in
-    e ∙ sym (state_algebraic _ _ _ _ _ _ (c.var_of-held.ensures ∙ p.1.held a.v p.2) c.if-held-eq0.false _ _ c.stmt_of-rate.ensures.0 (c.var_of-none.ensures ∙ p.1.initial a.v p.2) c.if-rate-none-2.false _ c.first_condition-first.ensures.0)
+    let e = rw c.var_of-in-Some.ensures at c.condition_error.ensures in
+    e ∙ sym (state_algebraic _ _ _ _ _ _ (c.var_of-held.ensures ∙ p.1.held a.v p.2) c.if-held-eq0.false _ _ c.stmt_of-rate.ensures.0 (c.var_of-none.ensures ∙ p.1.initial a.v p.2) c.if-rate-none-2.false _ c.in-Some.ensures)
+
+pub returns-in-None : goal.returns-in-None
+unfolding found_as place_as
+returns-in-None c = let a = c.args in
+    let p = c.requires in
+    sym (state_starts _ _ _ _ _ _ (c.var_of-held.ensures ∙ p.1.held a.v p.2) c.if-held-eq0.false _ _ c.stmt_of-rate.ensures.0 (c.var_of-none.ensures ∙ p.1.initial a.v p.2) c.if-rate-none-2.false c.in-None.ensures)

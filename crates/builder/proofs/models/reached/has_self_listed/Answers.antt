@@ -1,11 +1,14 @@
-use mathlib.Core.Path.{refl}
+use mathlib.Core.Path.{refl, ◌∙◌}
+use Prim.Native.Nat.{ℕ}
+use Rattle.builder.specs.Checking.{unknown_in}
 use borrow.Author.Rules.{rules}
 use borrow.Author.Tests.{tests}
 use Rattle.std.proofs.iter.Serving.{serving}
 use Rattle.ast.specs.Opens.{file_in}
 use Rattle.definitions.specs.Flatten.{lists_itself}
 use Rattle.builder.proofs.laws.OpenRecords.{model_is}
-use Rattle.builder.proofs.laws.Runs.{unknowns_over}
+use Rattle.builder.proofs.laws.Ranges.{any_numbers}
+use Rattle.builder.proofs.laws.Runs.{unknowns_along}
 use Rattle.builder.proofs.models.reached.has_self_listed.Goals as goal
 
 pub any-requires-clause-callable : goal.any-requires-clause-callable
@@ -16,4 +19,6 @@ any-requires-clause-callable c = let p = c.requires in
 pub returns : goal.returns
 returns c = let a = c.args in
     let p = c.requires in
-    unknowns_over a.file.now.bytes.now a.file.now.sections p.opened a.m p.model _ _ refl c.any.ensures.ran c.model-first.ensures.0 c.model-count.ensures.0 (lists_itself (file_in a.file.now.bytes.now a.file.now.sections)) (λ u b q k. search (rules, tests))
+    let test = λ (u : ℕ). lists_itself (file_in a.file.now.bytes.now a.file.now.sections) (unknown_in a.file.now.bytes.now a.file.now.sections u) in
+    any_numbers c.model-first.result _ c.model-count.result refl test refl c.any.ensures.ran (λ u b q k. search (rules, tests))
+    ∙ unknowns_along a.file.now.bytes.now a.file.now.sections p.opened a.m p.model _ _ c.model-first.ensures.0 c.model-count.ensures.0 (lists_itself (file_in a.file.now.bytes.now a.file.now.sections))

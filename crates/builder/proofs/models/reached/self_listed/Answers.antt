@@ -1,12 +1,16 @@
-use mathlib.Core.Path.{refl, sym}
+use mathlib.Core.Path.{refl, ◌∙◌}
+use mathlib.Core.Bool.{◌||◌}
 use Prim.Native.Nat.{ℕ}
+use native.Mathlib.Omega.{arith}
 use borrow.Author.Rules.{rules}
 use borrow.Author.Tests.{tests}
+use lib.Dec.{eqb}
 use Rattle.functions.specs.Lists.{any}
 use Rattle.ast.specs.Opens.{file_in}
-use Rattle.definitions.specs.Flatten.{self_listed, lists_itself, model_at}
+use Rattle.definitions.specs.Flatten.{model_at, reached, lists_itself, self_listed}
 use Rattle.builder.proofs.laws.OpenRecords.{long}
-use Rattle.builder.proofs.laws.Refusals.{reached_over}
+use Rattle.builder.proofs.laws.Ranges.{any_filtered}
+use Rattle.builder.proofs.laws.Refusals.{reached_along}
 use Rattle.builder.proofs.models.reached.self_listed.Goals as goal
 
 pub returns : goal.returns
@@ -14,4 +18,5 @@ unfolding self_listed
 returns c = let a = c.args in
     let file = file_in a.file.now.bytes.now a.file.now.sections in
     let test = λ (m : ℕ). any (lists_itself file) (model_at file m).unknowns in
-    reached_over file a.root test test _ (sym (long a.file.now.bytes.now a.file.now.sections c.requires.0.opened).file_models) refl c.any.ensures.ran (λ m b q k. search (rules, tests)) (λ m l. refl)
+    any_filtered 0 _ a.file.now.sections.counts.models (omega arith) test (λ m. eqb m a.root || reached file a.root m) c.filter.ensures.source c.filter.ensures.closure c.any.ensures.ran (λ m b q k. search (rules, tests)) (λ m b q k. search (rules, tests))
+    ∙ reached_along file a.root test test _ (long a.file.now.bytes.now a.file.now.sections c.requires.0.opened).file_models (λ m l. refl)

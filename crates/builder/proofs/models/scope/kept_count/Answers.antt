@@ -1,11 +1,11 @@
-use Rattle.std.proofs.Common.{rules, arith, ℕ, ◌<◌, not, eqb, get_or, sym, ap}
+use Rattle.std.proofs.Common.{rules, arith, ℕ, ◌<◌, not, eqb, get_or, sym, ap, ◌∙◌, length}
 use borrow.Author.Tests.{tests}
 use Rattle.std.proofs.iter.Serving.{serving}
 use Rattle.ast.specs.Opens.{contents_in}
 use Rattle.builder.specs.Checking.{unknown_in}
 use Rattle.builder.specs.Tables.{kept_in}
 use Rattle.builder.proofs.laws.OpenRecords.{unknown_is, dep_below}
-use Rattle.builder.proofs.laws.Ranges.{count_over}
+use Rattle.builder.proofs.laws.Ranges.{count_filtered, count_along}
 use Rattle.builder.proofs.laws.Unknowns.{deps_at_lem}
 use Rattle.builder.proofs.models.scope.kept_count.Goals as goal
 
@@ -29,8 +29,11 @@ returns c = let a = c.args in
     let o = c.args.file.now.opened in
     let first = c.unknown-first in
     let u = unknown_is a.file.now.bytes.now a.file.now.sections o a.u c.requires.0 in
+    let deps = (unknown_in a.file.now.bytes.now a.file.now.sections a.u).deps in
+    let kept = λ (d : ℕ). not (eqb (get_or a.vars.now d 0) 0) in
+    let here = λ (d : ℕ). kept (get_or (contents_in a.file.now.bytes.now a.file.now.sections).deps d 0) in
     let few = rw c.filter.ensures.source at c.count.ensures.bound in (
-      count_over (λ d. not (eqb (get_or a.vars.now (get_or (contents_in a.file.now.bytes.now a.file.now.sections).deps d 0) 0) 0)) (λ d. not (eqb (get_or a.vars.now d 0) 0)) 0 (λ d b q k. search (rules, tests)) (unknown_in a.file.now.bytes.now a.file.now.sections a.u).deps
-          first.result _ _ c.filter.ensures.source c.filter.ensures.closure (omega arith) (λ k l. ap (λ d. not (eqb (get_or a.vars.now d 0) 0)) (sym (deps_at_lem o a.u k first.result first.ensures.0 (omega (arith, u.deps_long))))) c.count.ensures.ran,
+      count_filtered first.result _ (length deps) (omega arith) here c.filter.ensures.source c.filter.ensures.closure c.count.ensures.ran (λ d b q k. search (rules, tests))
+          ∙ count_along here kept 0 first.result deps (λ k l. ap kept (sym (deps_at_lem o a.u k first.result first.ensures.0 (omega (arith, u.deps_long))))),
       omega (arith, o.laid.within.deps),
     )
