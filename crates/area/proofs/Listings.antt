@@ -1,8 +1,8 @@
 -- Laws of errors listed in an area: one after the other, from the front, and the four words of one.
 use mathlib.Core.Path.{◌≡◌, refl, sym, ap, ◌∙◌}
-use mathlib.Core.Bool.{Bool, true, false, cond}
+use mathlib.Core.Bool.{true}
 use mathlib.Core.List.{List, [], ◌∷◌, ◌++◌, map, append_assoc, append-nil}
-use Prim.Native.Nat.{ℕ, zero, suc, ◌+◌, ◌*◌, ◌≤◌, ◌<◌}
+use Prim.Native.Nat.{ℕ, zero, suc, ◌+◌, ◌*◌, ◌^◌, ◌≤◌, ◌<◌}
 use native.Mathlib.Omega.{arith}
 use native.Mathlib.Nat.{add-zero}
 use lib.Dec.{ltb}
@@ -22,8 +22,7 @@ use Rattle.area.specs.declared.errors.ErrorKind.{ErrorKind}
 use Rattle.area.specs.declared.errors.ErrorKind.TheVariants.{UnknownDomain, ReservedName, SubmodelMissing, PositionalAfterKeyword, NameNotFound, CountAgainstTable, KeywordInBuiltIn, CountAgainstVariable, NoSuchDependent, PositionalAfterNamed, CallNotFound, WrongStart, RateInvalid, Underdetermined, Overdetermined, NoInitialCondition, AlgebraicInitialCondition}
 use Rattle.area.specs.declared.errors.Found.{Found}
 use Rattle.area.specs.contracts.errors.ErrorKind.{the_type}
-use Rattle.area.specs.Listing.{spanned, put_error, listed, Lists, Room, kind_number, found_as}
-use Rattle.area.proofs.Puts.{length_put}
+use Rattle.area.specs.Listing.{spanned, put_error, listed, Lists, kind_number, found_as}
 
 -- ---- one behind the other
 
@@ -34,26 +33,11 @@ listed_append d n (e ∷ a) b =
     let z : n + 1 + length a ≡ n + suc (length a) = omega arith in
     listed_append (put_error d n e) (n + 1) a b ∙ rw z
 
--- ---- the length stays
+-- ---- one's length
 
 length_error : (e : Error) → length (bytes_of (error_words e)) ≡ 16
 unfolding error_words
 length_error e = length_bytes (error_words e)
-
-length_put_error : (d : List ℕ) (n : ℕ) (e : Error) → 4096 ≤ length d → length (put_error d n e) ≡ length d
-unfolding put_error
-length_put_error d n e h = go (ltb n 256) refl
-  where
-    go : (b : Bool) → ltb n 256 ≡ b → length (cond b (put d (16 * n) (bytes_of (error_words e))) d) ≡ length d
-    go true t = let l : n < 256 = borrow.Author.Tests.ltb-true n 256 t in length_put d (bytes_of (error_words e)) (16 * n) (omega (arith, length_error e))
-    go false t = refl
-
-pub length_listed : (d : List ℕ) (n : ℕ) (es : List Error) → 4096 ≤ length d → length (listed d n es) ≡ length d
-unfolding listed
-length_listed d n [] h = refl
-length_listed d n (e ∷ es) h =
-    let l = length_put_error d n e h in
-    length_listed (put_error d n e) (n + 1) es (omega arith) ∙ l
 
 -- ---- from the front
 
@@ -146,9 +130,9 @@ module _ {es xs ys : List Error} (e : Joins es xs ys) where
   lists_then d d' d'' n r r' p q =
       (q.0 ∙ omega (arith, p.0, length-append xs ys, ap length e.is), q.1 ∙ rw (p.1, p.0, e.is) (sym (listed_append d n xs ys)))
 
-  pub room_first : {d : List ℕ} {n : ℕ} → Room d n es → Room d n xs
-  room_first h = record { long = h.long; few = omega (arith, h.few, length-append xs ys, ap length e.is) }
+  -- where all can be counted, so can the first, and the others behind them
+  pub room_first : (n : ℕ) → n + length es < 2 ^ 40 → n + length xs < 2 ^ 40
+  room_first n h = omega (arith, h, length-append xs ys, ap length e.is)
 
-  pub room_then : {d : List ℕ} {n : ℕ} (d' : List ℕ) (r : ℕ) → Room d n es → Lists d n xs r d' → Room d' r ys
-  room_then {d} {n} d' r h p =
-      record { long = omega (arith, h.long, ap length p.1, length_listed d n xs h.long); few = omega (arith, h.few, p.0, length-append xs ys, ap length e.is) }
+  pub room_then : (d d' : List ℕ) (n r : ℕ) → n + length es < 2 ^ 40 → Lists d n xs r d' → r + length ys < 2 ^ 40
+  room_then d d' n r h p = omega (arith, h, p.0, length-append xs ys, ap length e.is)

@@ -1,3 +1,4 @@
 pub mod Fields
 pub mod Sections
 pub mod Listing
+pub mod Views

@@ -1,12 +1,6 @@
-// The list of errors, apart from the area until it is whole: all are counted, the first 256 are listed, four words
-// each: kind, span, name plus 1 or 0.
-ghost use Rattle.std.specs.Prelude.{◌≡◌, [], ◌∷◌, ◌*◌, ◌^◌, min, ◌≤◌, ◌<◌, length};
-ghost use Rattle.definitions.specs.Numbers.{most_listed, error_length};
-ghost use Rattle.definitions.specs.Variables.{error};
-ghost use Rattle.area.specs.Listing.{spanned, list_length, Lists, kind_number, found_as};
-
+// What is found wrong, and the list of it.
 use super::layout::{ERROR_BYTES, ERRORS_BYTES, MOST_LISTED};
-use super::words::put_words;
+use ast::words::put_record;
 
 // The kinds of errors. `Numbers` of definitions has their numbers; `as u32` is the word of one.
 #[derive(Clone, Copy, Debug, PartialEq, Eq)]
@@ -47,46 +41,63 @@ pub struct Found {
     pub name: u32,
 }
 
-// A list without errors.
-pub fn no_errors() -> [u8; ERRORS_BYTES]
-    ensures { length result ≡ list_length }
-{
-    [0u8; ERRORS_BYTES]
+// The list of errors, apart from the area until it is whole: all are counted, the first 256 are listed, four words
+// each: kind, span, name plus 1 or 0.
+#[derive(Drop)]
+pub struct Errors {
+    pub bytes: [u8; ERRORS_BYTES],
+    pub count: usize,
 }
 
-// Lists an error behind `count` of them and gives their new number.
-pub fn put_error(out: &mut [u8], count: usize, e: Found) -> usize
-    requires { (list_length ≤ length out.old)
-        × (count < 2 ^ 40) }
-    ensures { Lists out.old count (error (kind_number e.kind) (spanned e.from e.to) e.name ∷ []) result
-        out.new }
-{
-    if count < MOST_LISTED {
-        put_words(
-            out,
-            ERROR_BYTES * count,
-            &[e.kind as u32, e.from, e.to, e.name],
-        );
+impl Errors {
+    ghost use Rattle.std.specs.Prelude.{◌≡◌, [], ◌∷◌, ◌*◌, ◌^◌, min, ◌≤◌, ◌<◌, length};
+    ghost use Rattle.definitions.specs.Numbers.{most_listed, error_length};
+    ghost use Rattle.definitions.specs.Variables.{error};
+    ghost use Rattle.area.specs.Listing.{spanned, list_length, Listed, kind_number, found_as};
+
+    // None.
+    pub fn new() -> Errors
+        ensures { (result.count ≡ 0)
+            × (length result.bytes ≡ list_length) }
+    {
+        Errors {
+            bytes: [0u8; ERRORS_BYTES],
+            count: 0,
+        }
     }
-    count + 1
-}
 
-// Lists what is found behind `count` errors and gives their new number.
-pub fn list(out: &mut [u8], count: usize, found: Option<Found>) -> usize
-    requires { (list_length ≤ length out.old)
-        × (count < 2 ^ 40) }
-    ensures { Lists out.old count (found_as found) result out.new }
-{
-    match found {
-        None => count,
-        Some(e) => put_error(out, count, e),
+    // Lists an error behind the others.
+    pub fn put(&mut self, e: Found)
+        requires { self.old.count < 2 ^ 40 }
+        ensures { Listed self.old (error (kind_number e.kind) (spanned e.from e.to) e.name ∷ [])
+            self.new }
+    {
+        let before = self.count;
+        self.count += 1;
+        if before >= MOST_LISTED {
+            return;
+        }
+        let bytes: &mut [u8] = &mut self.bytes;
+        let at = ERROR_BYTES * before;
+        put_record(&mut bytes[at..], &[e.kind as u32, e.from, e.to, e.name]);
     }
-}
 
-// The bytes of those among `count` errors that are listed.
-pub fn errors_length(count: usize) -> usize
-    ensures { (result ≡ 4 * error_length * min count most_listed)
-        × (result ≤ list_length) }
-{
-    ERROR_BYTES * count.min(MOST_LISTED)
+    // Lists what is found behind the others.
+    pub fn list(&mut self, found: Option<Found>)
+        requires { self.old.count < 2 ^ 40 }
+        ensures { Listed self.old (found_as found) self.new }
+    {
+        match found {
+            None => {}
+            Some(e) => self.put(e),
+        }
+    }
+
+    // The bytes of those that are listed.
+    pub fn length(&self) -> usize
+        ensures { (result ≡ 4 * error_length * min self.now.count most_listed)
+            × (result ≤ list_length) }
+    {
+        ERROR_BYTES * self.count.min(MOST_LISTED)
+    }
 }

@@ -7,7 +7,7 @@ ghost use Rattle.area.specs.Sections.{Small};
 
 use super::layout::NODES_AT;
 use super::sections::Sizes;
-use super::words::put_words;
+use ast::words::put_record;
 
 // Writes the counts: nodes, statements, variables, dependents, errors, instances.
 pub fn put_counts(area: &mut [u8], z: Sizes, errors: usize, instances: usize)
@@ -18,9 +18,8 @@ pub fn put_counts(area: &mut [u8], z: Sizes, errors: usize, instances: usize)
     ensures { area.new ≡ put area.old 0
         (bytes_of (z.nodes ∷ z.stmts ∷ z.vars ∷ z.deps ∷ errors ∷ instances ∷ [])) }
 {
-    put_words(
-        area,
-        NODES_AT,
+    put_record(
+        &mut area[NODES_AT..],
         &[
             z.nodes as u32,
             z.stmts as u32,

@@ -8,4 +8,3 @@ pub mod layout;
 pub mod lent;
 pub mod records;
 pub mod sections;
-pub mod words;

@@ -1,53 +1,118 @@
 // The records of an answer area by number.
 #![tactic(auto, unfolding(crate::specs::Sections::stmts_at, crate::specs::Sections::vars_at, crate::specs::Sections::deps_at))]
 
-ghost use Rattle.std.specs.Prelude.{◌≡◌, ◌^◌, ◌≤◌, ◌<◌, length, get_or};
-ghost use Rattle.ast.specs.Words.{word_of};
-ghost use Rattle.ast.specs.Nodes.{node_at};
-ghost use Rattle.definitions.specs.Numbers.{node_length, stmt_length, variable_length};
-ghost use Rattle.area.specs.Sections.{Small, nodes_end, vars_at, deps_at, area_nodes, area_stmt, area_vars, column, with_word, VarsAre};
+ghost use Rattle.std.specs.Prelude.{◌≤◌, ◌<◌, length};
+ghost use Rattle.definitions.specs.Numbers.{variable_length};
+ghost use Rattle.area.specs.Sections.{Small, deps_at, area_vars, with_word, VarsAre};
 
 use super::layout::{HEADER_BYTES, STMT_WORDS, VAR_BYTES, VAR_WORDS, WORD_BYTES};
 use super::sections::{Sizes, stmts_at, vars_at};
-use ast::sections::{Nodes, node_word, record_word};
+use ast::kinds::{NodeKind, StmtKind};
+use ast::layout::{NODE_KIND, NODE_WORDS, STMT_KIND};
+use ast::numbers::record_bits;
+use ast::sections::record_word;
 use ast::words::put_word;
 
-// Word k of node i.
-pub fn node_of(area: &[u8], z: Sizes, i: usize, k: usize) -> usize
-    requires { (nodes_end z.nodes ≤ length area.now)
-        × (i < z.nodes)
-        × (k < node_length) }
-    ensures { (result ≡ word_of (node_at (area_nodes area.now z) i) k)
-        × (result < 2 ^ 32) }
-{
-    let ns = Nodes {
-        at: HEADER_BYTES,
-        count: z.nodes,
-    };
-    node_word(area, ns, i, k)
+// An answer's area as it is read: its bytes, and how many records each section has.
+#[derive(Clone, Copy)]
+pub struct Area<'a> {
+    pub bytes: &'a [u8],
+    pub sizes: Sizes,
 }
 
-// Word k of statement i.
-pub fn stmt_of(area: &[u8], z: Sizes, i: usize, k: usize) -> usize
-    requires { Small z
-        × (vars_at z ≤ length area.now)
-        × (i < z.stmts)
-        × (k < stmt_length) }
-    ensures { (result ≡ word_of (area_stmt area.now z i) k)
-        × (result < 2 ^ 32) }
-{
-    record_word(area, stmts_at(z), STMT_WORDS, z.stmts, i, k) as usize
-}
+impl Area<'_> {
+    ghost use Rattle.std.specs.Prelude.{◌≡◌, ◌+◌, ◌^◌, eqb, get_or};
+    ghost use Rattle.ast.specs.Words.{word_of, float_from};
+    ghost use Rattle.ast.specs.Nodes.{node_at, kind_at};
+    ghost use Rattle.ast.specs.Kinds.{node_number, stmt_number};
+    ghost use Rattle.area.specs.Fields.{stmt_kind};
+    ghost use Rattle.definitions.specs.Numbers.{node_length, stmt_length};
+    ghost use Rattle.area.specs.Sections.{nodes_end, vars_at, column};
+    ghost use Rattle.area.specs.Views.{nodes_seen, stmt_seen, vars_seen};
 
-// Word k of variable v.
-pub fn var_of(area: &[u8], z: Sizes, v: usize, k: usize) -> u32
-    requires { Small z
-        × (deps_at z ≤ length area.now)
-        × (v < z.vars)
-        × (k < variable_length) }
-    ensures { result ≡ get_or (column k (area_vars area.now z)) v 0 }
-{
-    record_word(area, vars_at(z), VAR_WORDS, z.vars, v, k)
+    // Word k of node i: as it stands, and as an index.
+    pub fn node_word(&self, i: usize, k: usize) -> u32
+        requires { (nodes_end self.now.sizes.nodes ≤ length self.now.bytes.now)
+            × (i < self.now.sizes.nodes)
+            × (k < node_length) }
+        ensures { result ≡ word_of (node_at (nodes_seen self.now) i) k }
+    {
+        record_word(self.bytes, HEADER_BYTES, NODE_WORDS, self.sizes.nodes, i, k)
+    }
+
+    pub fn node(&self, i: usize, k: usize) -> usize
+        requires { (nodes_end self.now.sizes.nodes ≤ length self.now.bytes.now)
+            × (i < self.now.sizes.nodes)
+            × (k < node_length) }
+        ensures { (result ≡ word_of (node_at (nodes_seen self.now) i) k)
+            × (result < 2 ^ 32) }
+    {
+        self.node_word(i, k) as usize
+    }
+
+    // Whether node i is of a kind.
+    pub fn is_node(&self, i: usize, kind: NodeKind) -> bool
+        requires { (nodes_end self.now.sizes.nodes ≤ length self.now.bytes.now)
+            × (i < self.now.sizes.nodes) }
+        ensures { result ≡ eqb (kind_at (nodes_seen self.now) i) (node_number kind) }
+    {
+        self.node(i, NODE_KIND) == kind as usize
+    }
+
+    // The 64 bits at word k of node i.
+    pub fn node_bits(&self, i: usize, k: usize) -> u64
+        requires { (nodes_end self.now.sizes.nodes ≤ length self.now.bytes.now)
+            × (i < self.now.sizes.nodes)
+            × (k + 1 < node_length) }
+        ensures { result ≡ float_from (node_at (nodes_seen self.now) i) k }
+    {
+        record_bits(self.bytes, HEADER_BYTES, NODE_WORDS, self.sizes.nodes, i, k)
+    }
+
+    // Word k of statement i: as it stands, and as an index.
+    pub fn stmt_word(&self, i: usize, k: usize) -> u32
+        requires { Small self.now.sizes
+            × (vars_at self.now.sizes ≤ length self.now.bytes.now)
+            × (i < self.now.sizes.stmts)
+            × (k < stmt_length) }
+        ensures { result ≡ word_of (stmt_seen self.now i) k }
+    {
+        let z = self.sizes;
+        record_word(self.bytes, stmts_at(z), STMT_WORDS, z.stmts, i, k)
+    }
+
+    pub fn stmt(&self, i: usize, k: usize) -> usize
+        requires { Small self.now.sizes
+            × (vars_at self.now.sizes ≤ length self.now.bytes.now)
+            × (i < self.now.sizes.stmts)
+            × (k < stmt_length) }
+        ensures { (result ≡ word_of (stmt_seen self.now i) k)
+            × (result < 2 ^ 32) }
+    {
+        self.stmt_word(i, k) as usize
+    }
+
+    // Whether statement i is of a kind.
+    pub fn is_stmt(&self, i: usize, kind: StmtKind) -> bool
+        requires { Small self.now.sizes
+            × (vars_at self.now.sizes ≤ length self.now.bytes.now)
+            × (i < self.now.sizes.stmts) }
+        ensures { result ≡ eqb (word_of (stmt_seen self.now i) stmt_kind) (stmt_number kind) }
+    {
+        self.stmt(i, STMT_KIND) == kind as usize
+    }
+
+    // Word k of variable v.
+    pub fn var(&self, v: usize, k: usize) -> u32
+        requires { Small self.now.sizes
+            × (deps_at self.now.sizes ≤ length self.now.bytes.now)
+            × (v < self.now.sizes.vars)
+            × (k < variable_length) }
+        ensures { result ≡ get_or (column k (vars_seen self.now)) v 0 }
+    {
+        let z = self.sizes;
+        record_word(self.bytes, vars_at(z), VAR_WORDS, z.vars, v, k)
+    }
 }
 
 // Writes word k of variable v.

@@ -1,4 +1,4 @@
-// The numbers of a tree file: its form, its mosts, the lengths of its records, the word of each field, and the kinds.
+// The numbers of a tree file: its form, its mosts, the lengths of its records, and the word of each field.
 // `FileNumbers` has them for the definitions.
 pub const FORM: usize = 1;
 
@@ -130,42 +130,6 @@ pub const TRAILER_STMTS: usize = 5;
 pub const TRAILER_MODELS: usize = 6;
 
 pub const TRAILER_FORM: usize = 7;
-
-// The signs of operators.
-pub const TIMES: usize = 42;
-
-pub const PLUS: usize = 43;
-
-pub const MINUS: usize = 45;
-
-pub const DIVIDED: usize = 47;
-
-// The kinds of nodes.
-pub const NAME_KIND: usize = 1;
-
-pub const NUMBER_KIND: usize = 2;
-
-pub const BINARY_KIND: usize = 3;
-
-pub const UNARY_KIND: usize = 4;
-
-pub const CALL_KIND: usize = 5;
-
-pub const ARGUMENT_KIND: usize = 6;
-
-// The kinds of statements.
-pub const EQUATION_KIND: usize = 1;
-
-pub const RATE_KIND: usize = 2;
-
-pub const SUBMODEL_KIND: usize = 3;
-
-// The domains of unknowns.
-pub const NO_DOMAIN: usize = 0;
-
-pub const RANGE_DOMAIN: usize = 1;
-
-pub const NAMED_DOMAIN: usize = 2;
 
 // Both words of a missing span.
 pub const MISSING: u64 = 4294967295;

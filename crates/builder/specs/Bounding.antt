@@ -1,5 +1,5 @@
 -- Bounds in floats, as the code works them out by an unknown's domain, and in bits; and the unknown that declares a name last.
-use Rattle.std.specs.Prelude.{ℕ, ◌-◌, ◌^◌, ◌≤◌, ◌<◌, ◌≡◌, Bool, true, cond, List, [], eqb, length, get_or, Float}
+use Rattle.std.specs.Prelude.{ℕ, ◌^◌, ◌≤◌, ◌<◌, ◌≡◌, Bool, false, cond, List, [], length, get_or, Float, Option, None, Some, IfSome}
 use Rattle.std.specs.Float.{binary64}
 use Rattle.std.specs.Float.Ieee.{is_nan, to_bits}
 use Rattle.ast.specs.Words.{float_from}
@@ -8,11 +8,13 @@ use Rattle.ast.specs.Numbers.{number_of}
 use Rattle.ast.specs.Opens.{Open, contents_in, file_in}
 use Rattle.ast.specs.declared.numbers.Bounds as declared
 use Rattle.ast.specs.declared.numbers.Domain.{Domain}
-use Rattle.ast.specs.declared.numbers.Domain.TheVariants.{None, Span, Named}
+use Rattle.ast.specs.declared.numbers.Domain.TheVariants as domain
 use Rattle.ast.specs.declared.sections.Sections.{Sections}
 use Rattle.definitions.specs.Variables.{Bounds, from_zero, unbounded, domain_bounds, last_bounds}
 use Rattle.definitions.specs.Flatten.{model_at}
-use Rattle.builder.specs.Tables.{non_negative, Classes}
+use Rattle.builder.specs.declared.names.Class.{Class}
+use Rattle.builder.specs.declared.names.Class.TheVariants.{Time}
+use Rattle.builder.specs.Tables.{non_negative_class, Classes}
 
 -- from 0 to infinity, or unbounded
 unfoldable pub bounds_from : Bool → Bounds
@@ -29,16 +31,16 @@ pub record Floating (b : Bounds) (x : declared.Bounds) : Type 0 where
   pub upper_small : b.upper < 2 ^ 64
 
 -- Each case of a domain: none, where a time begins at 0; the range itself; a name by its class, where NonNegative begins at 0.
-unfoldable pub case_bounds : Domain → Bool → List ℕ → declared.Bounds
-case_bounds None time classes = floats (bounds_from time)
-case_bounds (Span l u) time classes = record { lower = l; upper = u }
-case_bounds (Named n) time classes = floats (bounds_from (eqb (get_or classes n 0) non_negative))
+unfoldable pub case_bounds : Domain → Bool → List Class → declared.Bounds
+case_bounds domain.None time classes = floats (bounds_from time)
+case_bounds (domain.Span l u) time classes = record { lower = l; upper = u }
+case_bounds (domain.Named n) time classes = floats (bounds_from (non_negative_class (get_or classes n Time)))
 
 -- a domain's name is one of k
 unfoldable pub NamedBelow : ℕ → Domain → Type 0
-NamedBelow k None = Unit {0}
-NamedBelow k (Span l u) = Unit {0}
-NamedBelow k (Named n) = n < k
+NamedBelow k domain.None = Unit {0}
+NamedBelow k (domain.Span l u) = Unit {0}
+NamedBelow k (domain.Named n) = n < k
 
 module _ (f : List ℕ) (s : Sections) where
   -- The bounds of unknown u by its record.
@@ -47,36 +49,39 @@ module _ (f : List ℕ) (s : Sections) where
       let r = get_or (contents_in f s).unknowns u [] in
       domain_bounds (file_in f s).names (name_of_unknown r) (domain_of r)
 
-  -- Of unknown r - 1, and `b` where r is 0.
-  unfoldable pub declared_bounds : ℕ → Bounds → Bounds
-  declared_bounds r b = cond (eqb r 0) b (unknown_bounds (r - 1))
+  -- Of the unknown that declares them, and `b` where none does.
+  unfoldable pub declared_bounds : Option ℕ → Bounds → Bounds
+  declared_bounds None b = b
+  declared_bounds (Some u) b = unknown_bounds u
 
-  -- Unknown r - 1 declares the name last among those of model m, or none does and r is 0.
-  pub record LastDeclared (m name r : ℕ) : Type 0 where
-    pub within : r ≤ s.counts.unknowns
+  -- r is the unknown that declares the name last among those of model m, or none does.
+  pub record LastDeclared (m name : ℕ) (r : Option ℕ) : Type 0 where
+    pub within : IfSome r (λ u. u < s.counts.unknowns)
     pub bounds : (b : Bounds) → last_bounds (file_in f s).names name b (model_at (file_in f s) m).unknowns ≡ declared_bounds r b
 
   -- Time's bounds: those that model m declares last for a name (plus 1), and from 0 where it declares none.
   abbrev pub time_in : ℕ → ℕ → Bounds
   time_in m name = last_bounds (file_in f s).names name from_zero (model_at (file_in f s) m).unknowns
 
-  -- The bits of a bound that unknown r - 1 declares: those of its number. A NaN has none of its own: those of the file, from word k of the unknown on.
-  unfoldable pub bound_bits : ℕ → ℕ → Float → ℕ
-  bound_bits r k x = cond (is_nan x) (float_from (get_or (contents_in f s).unknowns (r - 1) []) k) (to_bits binary64 x)
+  -- The bits of a bound: those of its number. A NaN that an unknown declares has none of its own: those of the file, from word k of the unknown on.
+  unfoldable pub bound_bits : Option ℕ → ℕ → Float → ℕ
+  bound_bits None k x = to_bits binary64 x
+  bound_bits (Some u) k x = cond (is_nan x) (float_from (get_or (contents_in f s).unknowns u []) k) (to_bits binary64 x)
 
-  unfoldable pub bounds_bits : ℕ → declared.Bounds → Bounds
+  unfoldable pub bounds_bits : Option ℕ → declared.Bounds → Bounds
   bounds_bits r x = record { lower = bound_bits r 4 x.lower; upper = bound_bits r 6 x.upper }
 
 -- A NaN is an unknown's.
-abbrev pub NanDeclared : ℕ → Float → Type 0
-NanDeclared r x = is_nan x ≡ true → 0 < r
+unfoldable pub NanDeclared : Option ℕ → Float → Type 0
+NanDeclared None x = is_nan x ≡ false
+NanDeclared (Some u) x = Unit {0}
 
 -- Of each of two bounds.
-abbrev pub NansDeclared : ℕ → declared.Bounds → Type 0
+abbrev pub NansDeclared : Option ℕ → declared.Bounds → Type 0
 NansDeclared r x = NanDeclared r x.lower × NanDeclared r x.upper
 
 -- Model m of an open file, and the classes of the names: what bounds of its variables are read from.
-pub record Bounded (f : List ℕ) (s : Sections) (classes : List ℕ) (m : ℕ) : Type 0 where
+pub record Bounded (f : List ℕ) (s : Sections) (classes : List Class) (m : ℕ) : Type 0 where
   pub opened : Open f s
   pub classed : Classes (file_in f s).names classes
   pub long : s.counts.names ≤ length classes

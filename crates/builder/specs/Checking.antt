@@ -16,6 +16,7 @@ use Rattle.definitions.specs.Variables.{Error, error}
 use Rattle.definitions.specs.Check.{Scope, lookup, dep_names, dependent_errors, variable_errors, call_errors}
 use Rattle.definitions.specs.Flatten.{model_at, scope_of, stmt_errors, errors_of}
 use Rattle.builder.specs.Tables.{Classes, Rules, Callees, VarsOf}
+use Rattle.builder.specs.declared.names.Class.{Class}
 use Rattle.builder.specs.declared.errors.check.Run.{Run}
 
 -- ---- arguments
@@ -98,19 +99,19 @@ pub record Scoped (f : List ℕ) (s : Sections) (m : ℕ) (vs : List ℕ) : Type
   pub vars : VarsOf (scope_in f s m) vs
 
 -- What an expression of model m is checked against: the classes and rules of the names, and the model's variables.
-pub record Against (f : List ℕ) (s : Sections) (m : ℕ) (cs : List ℕ) (rs : List Rule) (vs : List ℕ) : Type 0 where
+pub record Against (f : List ℕ) (s : Sections) (m : ℕ) (cs : List Class) (rs : List Rule) (vs : List ℕ) : Type 0 where
   pub scoped : Scoped f s m vs
   pub classes : Classes (scope_in f s m).names cs
   pub rules : Rules (scope_in f s m).names rs
 
 -- The classes of the names, and the models that the statements call.
-pub record Called (f : List ℕ) (s : Sections) (cs ts : List ℕ) : Type 0 where
+pub record Called (f : List ℕ) (s : Sections) (cs : List Class) (ts : List ℕ) : Type 0 where
   pub opened : Open f s
   pub classes : Classes (file_in f s).names cs
   pub callees : Callees f s ts
 
 -- The tables that the models of a file are checked with: these, and the rules of the names.
-pub record TablesRead (f : List ℕ) (s : Sections) (cs : List ℕ) (rs : List Rule) (ts : List ℕ) : Type 0 where
+pub record TablesRead (f : List ℕ) (s : Sections) (cs : List Class) (rs : List Rule) (ts : List ℕ) : Type 0 where
   pub opened : Open f s
   pub classes : Classes (file_in f s).names cs
   pub rules : Rules (file_in f s).names rs
@@ -122,7 +123,7 @@ pub record StmtAt (s : Sections) (q k : ℕ) : Type 0 where
   pub deep : k ≤ most_models
 
 -- Unknown u, and the classes of the names.
-pub record UnknownIn (f : List ℕ) (s : Sections) (cs : List ℕ) (u : ℕ) : Type 0 where
+pub record UnknownIn (f : List ℕ) (s : Sections) (cs : List Class) (u : ℕ) : Type 0 where
   pub opened : Open f s
   pub classes : Classes (file_in f s).names cs
   pub within : u < s.counts.unknowns

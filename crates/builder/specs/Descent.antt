@@ -11,7 +11,6 @@ use Rattle.ast.specs.Opens.{Open, contents_in, file_in}
 use Rattle.ast.specs.declared.sections.Sections.{Sections}
 use Rattle.definitions.specs.Numbers.{most_names, most_nodes, most_models, call_kind, argument_kind, submodel_kind}
 use Rattle.definitions.specs.Flatten.{replacements, model_at, stmt_flats, flatten}
-use Rattle.builder.specs.Tables.{Callees}
 
 module _ (f : List ℕ) (s : Sections) where
   -- The flattened statements of model m to a depth of k models, their names replaced by the rows below a level.
@@ -45,11 +44,6 @@ module _ (f : List ℕ) (s : Sections) where
   -- The rows of the levels below one are as they were.
   abbrev pub RowsKept : ℕ → List ℕ → List ℕ → Type 0
   RowsKept level rows rows' = (length rows' ≡ length rows) × (take (most_names * level) rows' ≡ take (most_names * level) rows) × RowsIn rows'
-
-  -- The file is open, and a table says which models its statements call.
-  pub record Linked (table : List ℕ) : Type 0 where
-    pub opened : Open f s
-    pub callees : Callees f s table
 
   -- Node i is the top of an expression.
   pub record ExprAt (i : ℕ) : Type 0 where

@@ -2,6 +2,7 @@ pub mod Tables
 pub mod VariableTables
 pub mod Rounds
 pub mod Checking
+pub mod Seen
 pub mod Descent
 pub mod Extents
 pub mod Overlay
@@ -15,3 +16,4 @@ pub mod Starting
 pub mod Refusals
 pub mod Root
 pub mod Laying
+pub mod Areas

@@ -31,6 +31,7 @@ use Rattle.builder.specs.Descent.{RowsIn}
 use Rattle.area.specs.declared.sections.Sizes.{Sizes}
 use Rattle.std.specs.Prelude as std
 use Rattle.std.specs.Prelude.{Ok, Err}
+use Rattle.builder.specs.declared.names.Class.{Class}
 use Rattle.builder.specs.declared.refusal.Refusal.{Refusal}
 use Rattle.builder.specs.Refusals.{number_of}
 use Rattle.builder.specs.declared.extent.measure.Extent.{Extent}
@@ -95,10 +96,9 @@ pub record ExtentOf (f : File) (m i q n : ℕ) : Type 0 where
   pub nodes : n ≡ sum_of flat_size (flats_of f m)
   pub small : too_big f m (flats_of f m) ≡ false
 
--- What the answer of model m is worked out from: the classes of the names, the submodel calls, rows for as many models as there are, and an area of the
--- most bytes.
-pub record Sources (f : List ℕ) (s : Sections) (classes callees rows : List ℕ) (m : ℕ) (area : List ℕ) : Type 0 where
-  pub called : checking.Called f s classes callees
+-- What the answer of model m is worked out from: the classes of the names, rows for as many models as there are, and an area of the most bytes.
+pub record Sources (f : List ℕ) (s : Sections) (classes : List Class) (rows : List ℕ) (m : ℕ) (area : List ℕ) : Type 0 where
+  pub classed : Classes (file_in f s).names classes
   pub classes_long : length classes ≡ most_names
   pub model : m < s.counts.models
   pub rows_long : most_names * s.counts.models ≤ length rows
@@ -147,7 +147,7 @@ pub record SizesOf (f : File) (m : ℕ) (z : Sizes) : Type 0 where
   pub deps : z.deps ≡ length (each (λ x. x.deps) (scope_at f m).vars)
 
 -- What is known of root model m of an open file: the classes of its names, its variables by name, and the sizes.
-pub record Known (f : List ℕ) (s : Sections) (m : ℕ) (classes numbers : List ℕ) (z : Sizes) : Type 0 where
+pub record Known (f : List ℕ) (s : Sections) (m : ℕ) (classes : List Class) (numbers : List ℕ) (z : Sizes) : Type 0 where
   pub is_open : Open f s
   pub model : m < s.counts.models
   pub classed : Classes (file_in f s).names classes
@@ -156,10 +156,9 @@ pub record Known (f : List ℕ) (s : Sections) (m : ℕ) (classes numbers : List
   pub numbers_long : length numbers ≡ most_names
   pub sizes : SizesOf (file_in f s) m z
 
--- The same with the models that statements call, the instances, and time's bounds as floats: what its answer is written from.
-pub record Rooted (f : List ℕ) (s : Sections) (classes callees numbers : List ℕ) (m i : ℕ) (z : Sizes) (time : floats.Bounds) : Type 0 where
+-- The same with the instances, and time's bounds as floats: what its answer is written from.
+pub record Rooted (f : List ℕ) (s : Sections) (classes : List Class) (numbers : List ℕ) (m i : ℕ) (z : Sizes) (time : floats.Bounds) : Type 0 where
   pub known : Known f s m classes numbers z
-  pub called : checking.Called f s classes callees
   pub instances : i ≡ definition.instances (file_in f s) (length (file_in f s).models) m
   pub few : i ≤ most_instances
   pub timed : Floating (time_at (file_in f s) m) time
@@ -216,7 +215,7 @@ module _ (b : List ℕ) (z : Sizes) (numbers : List ℕ) (lower : Float) where
       errors_of f (length f.models) m ++ each (role_errors_by numbers (indexes_in b z) (rates_in b z) lower) (flats_in b z) ++ count_errors (model_at f m).span left states ++ starting_in (model_at f m).span (area_nodes b z) (area_stmts b z) (names_in b z) z.vars
 
 -- What the errors of root model m are found from: the file's tables, the area with fates, and few enough errors to count.
-pub record Erring (f : List ℕ) (s : Sections) (classes callees b numbers : List ℕ) (m : ℕ) (z : Sizes) : Type 0 where
+pub record Erring (f : List ℕ) (s : Sections) (classes : List Class) (callees b numbers : List ℕ) (m : ℕ) (z : Sizes) : Type 0 where
   pub called : checking.Called f s classes callees
   pub model : m < s.counts.models
   pub righted : Righted b z

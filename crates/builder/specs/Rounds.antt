@@ -2,11 +2,8 @@
 use Rattle.std.specs.Prelude.{ℕ, ◌+◌, ◌*◌, ◌≤◌, ◌<◌, ◌≡◌, Bool, cond, ◌||◌, List, eqb, length, get_or}
 use Rattle.functions.specs.Lists.{any, flag}
 use Rattle.ast.specs.Tree.{File}
-use Rattle.ast.specs.Opens.{Open}
-use Rattle.ast.specs.declared.sections.Sections.{Sections}
 use Rattle.definitions.specs.Numbers.{most_models}
 use Rattle.definitions.specs.Flatten.{submodels}
-use Rattle.builder.specs.Tables.{Callees}
 
 -- The entries of a table of models reached: one for each two models.
 abbrev pub model_pairs : ℕ
@@ -32,12 +29,6 @@ pub record Stepped (f : File) (n : ℕ) (old : List ℕ) (a : ℕ) (new : List �
   pub size : length new ≡ model_pairs
   pub rows : (x y : ℕ) → x < a → y < n → get_or new (most_models * x + y) 0 ≡ flag (steps_on f old x y)
   pub rest : (z : ℕ) → most_models * a ≤ z → z < model_pairs → get_or new z 0 ≡ 0
-
--- An open file, the model that each of its statements calls, and the last table of models reached: what a round reads.
-pub record RoundOf (f : List ℕ) (s : Sections) (table old : List ℕ) : Type 0 where
-  pub opened : Open f s
-  pub callees : Callees f s table
-  pub old_long : length old ≡ model_pairs
 
 -- Two of so many models, and two tables of models reached: model c's row of the last table goes to model a's row of the next.
 pub record RowsOf (models c a : ℕ) (old new : List ℕ) : Type 0 where

@@ -11,7 +11,6 @@ use Rattle.ast.specs.Words.{word_of}
 use Rattle.ast.specs.Nodes.{span_at}
 use Rattle.definitions.specs.Numbers.{initial_fate, held_fate, no_initial_condition, algebraic_initial_condition}
 use Rattle.definitions.specs.Variables.{Error, error}
-use Rattle.area.specs.Listing.{list_length}
 use Rattle.area.specs.Fields.{stmt_right, var_held, var_initial}
 use Rattle.area.specs.Sections.{Small, deps_at, area_stmts, area_stmt, area_vars, column}
 use Rattle.builder.specs.Fating.{is_fated}
@@ -52,10 +51,9 @@ pub record Righted (b : List ℕ) (z : Sizes) : Type 0 where
   pub held : (v : ℕ) → v < z.vars → get_or (column var_held (area_vars b z)) v 0 ≡ plus_one (place (is_fated held_fate v) (area_stmts b z))
   pub initial : (v : ℕ) → v < z.vars → get_or (column var_initial (area_vars b z)) v 0 ≡ times (is_fated initial_fate v) (area_stmts b z)
 
--- What errors 16 and 17 of root model m are found from, and room to list them behind `count` errors: one for each variable at the most.
-pub record Conditions (f : List ℕ) (s : Sections) (m : ℕ) (b : List ℕ) (z : Sizes) (out : List ℕ) (count : ℕ) : Type 0 where
+-- What errors 16 and 17 of root model m are found from, so few that they can be counted behind `count` errors: one for each variable at the most.
+pub record Conditions (f : List ℕ) (s : Sections) (m : ℕ) (b : List ℕ) (z : Sizes) (count : ℕ) : Type 0 where
   pub opened : Open f s
   pub model : m < s.counts.models
   pub righted : Righted b z
-  pub long : list_length ≤ length out
   pub few : count + z.vars < 2 ^ 40

@@ -1,7 +1,7 @@
 -- The tables that the code works out of an open file, by number, and what each entry says.
-use Rattle.std.specs.Prelude.{ℕ, zero, suc, ◌+◌, ◌*◌, ◌<◌, ◌≡◌, Bool, cond, not, ◌&&◌, eqb, List, [], ◌∷◌, ◌++◌, length, get_or}
+use Rattle.std.specs.Prelude.{ℕ, zero, suc, ◌+◌, ◌*◌, ◌<◌, ◌≡◌, Bool, true, false, cond, not, ◌&&◌, eqb, List, [], ◌∷◌, ◌++◌, length, get_or}
 use Rattle.std.proofs.Math.Option.{Option, none, some}
-use Rattle.functions.specs.Lists.{text, same_text, any, plus_one, reaches, flag, member, sum_of}
+use Rattle.functions.specs.Lists.{text, same_text, one_of, any, plus_one, reaches, flag, member, sum_of}
 use Rattle.functions.specs.declared.Rule.{Rule}
 use Rattle.functions.specs.Rules.{rule_of}
 use Rattle.ast.specs.Tree.{Stmt, own, submodel, File}
@@ -9,47 +9,43 @@ use Rattle.ast.specs.Records.{stmt_of}
 use Rattle.ast.specs.Opens.{Open, contents_in, file_in}
 use Rattle.ast.specs.declared.sections.Sections.{Sections}
 use Rattle.definitions.specs.Numbers.{most_names, most_models}
-use Rattle.definitions.specs.Names.{text_of}
+use Rattle.definitions.specs.Names.{text_of, reserved, built_ins}
 use Rattle.definitions.specs.Variables.{at}
 use Rattle.definitions.specs.Check.{Scope, lookup}
 use Rattle.definitions.specs.Flatten.{model_named, submodels}
 use Rattle.definitions.specs.Roles.{Role}
 use Rattle.definitions.specs.Allocate.{is_rate_of}
+use Rattle.builder.specs.declared.names.Class.{Class}
+use Rattle.builder.specs.declared.names.Class.TheVariants.{Time, Reserved, NonNegative, Real, BuiltIn, Other}
 
--- ---- classes of names: the place of a text among those that decide something, or 18
+-- ---- classes of names
 
-unfoldable pub deciding : List (List ℕ)
-deciding = text "t" ∷ text "u" ∷ text "dudt" ∷ text "F" ∷ text "G" ∷ text "input" ∷ text "NonNegative" ∷ text "R" ∷ text "sin" ∷ text "cos" ∷ text "tan" ∷ text "pow" ∷ text "exp" ∷ text "log" ∷ text "sqrt" ∷ text "abs" ∷ text "interp1d" ∷ text "piecewise" ∷ []
+-- The class of a name's text: t's is its own, ahead of the other reserved names.
+unfoldable pub class_of : List ℕ → Class
+class_of x =
+    cond (same_text x (text "t")) Time
+    (cond (one_of x reserved) Reserved
+    (cond (same_text x (text "NonNegative")) NonNegative
+    (cond (same_text x (text "R")) Real
+    (cond (one_of x built_ins) BuiltIn Other))))
 
-unfoldable pub class_from : ℕ → List (List ℕ) → List ℕ → ℕ
-class_from i [] x = i
-class_from i (y ∷ ys) x = cond (same_text x y) i (class_from (i + 1) ys x)
+-- whether names of a class are reserved
+unfoldable pub reserved_class : Class → Bool
+reserved_class Time = true
+reserved_class Reserved = true
+reserved_class c = false
 
-unfoldable pub class_of : List ℕ → ℕ
-class_of x = class_from 0 deciding x
-
--- of t, the last reserved name, NonNegative, the first built-in function, and every text that decides nothing
-abbrev pub time_class : ℕ
-time_class = 0
-
-abbrev pub last_reserved : ℕ
-last_reserved = 5
-
-abbrev pub non_negative : ℕ
-non_negative = 6
-
-abbrev pub first_built_in : ℕ
-first_built_in = 8
-
-abbrev pub other_class : ℕ
-other_class = 18
+-- whether it is the class of the domain that begins at 0
+unfoldable pub non_negative_class : Class → Bool
+non_negative_class NonNegative = true
+non_negative_class c = false
 
 -- the class of each name
-pub record Classes (names : List (List ℕ)) (table : List ℕ) : Type 0 where
-  pub class : (n : ℕ) → n < length names → get_or table n 0 ≡ class_of (text_of names n)
+pub record Classes (names : List (List ℕ)) (table : List Class) : Type 0 where
+  pub class : (n : ℕ) (d : Class) → n < length names → get_or table n d ≡ class_of (text_of names n)
 
 -- Model m of an open file, and the class of each name: what the model's variables are found by.
-pub record ClassedModel (f : List ℕ) (s : Sections) (classes : List ℕ) (m : ℕ) : Type 0 where
+pub record ClassedModel (f : List ℕ) (s : Sections) (classes : List Class) (m : ℕ) : Type 0 where
   pub opened : Open f s
   pub classed : Classes (file_in f s).names classes
   pub model : m < s.counts.models
@@ -63,7 +59,11 @@ pub record Blank (n : ℕ) (table : List ℕ) : Type 0 where
 pub record Rules (names : List (List ℕ)) (table : List Rule) : Type 0 where
   pub rule : (n : ℕ) (d : Rule) → n < length names → get_or table n d ≡ rule_of (text_of names n)
 
--- ---- statements: the number, plus 1, of the model that one calls, or 0
+-- ---- statements: the model that one calls, if it calls one; and its number plus 1, or 0
+
+unfoldable pub called_by : File → Stmt → Option ℕ
+called_by f (own q) = none
+called_by f (submodel n a c s) = model_named f n
 
 unfoldable pub callee_of : File → Stmt → ℕ
 callee_of f (own q) = 0

@@ -10,31 +10,30 @@ ghost use Rattle.builder.specs.Root.{Sources, answered_as, used_in, bytes_in, fi
 use crate::answer::fill;
 use crate::extent::measure::measure;
 use crate::flattening::laid::{blank, no_rows};
-use crate::models::called::{callees, find_root};
-use crate::names::classes;
+use crate::models::called::{Calls, find_calls, find_root};
+use crate::names::{Class, classes};
 use crate::numbers::{FEW_MODELS, FEW_ROWS, ROWS};
 use crate::refusal::Refusal;
 use area::layout::{HIGH, MOST_BYTES};
 use area::lent::{clear, hand_out, refuse};
-use ast::layout::{MOST_NAMES, MOST_STMTS};
+use ast::layout::MOST_NAMES;
 use ast::open::open;
 use ast::view::View;
 
-// The answer of model m, by the classes of the names, the submodel calls and rows for as many models as there are.
+// The answer of model m, by the submodel calls, the classes of the names and rows for as many models as there are.
 fn answer_with(
-    file: &View,
-    classes: &[u8; MOST_NAMES],
-    callees: &[u8; MOST_STMTS],
+    calls: &Calls,
+    classes: &[Class; MOST_NAMES],
     rows: &mut [u16],
     m: usize,
     area: &mut [u8],
 ) -> Result<usize, Refusal>
-    requires { Sources file.now.bytes.now file.now.sections classes.now callees.now rows.old m area.old }
-    ensures { (answered_as result area.new ≡ bytes_in (answer_of_model (file_seen file.now) m))
+    requires { Sources calls.now.file.bytes.now calls.now.file.sections classes.now rows.old m area.old }
+    ensures { (answered_as result area.new ≡ bytes_in (answer_of_model (file_seen calls.now.file) m))
         × (used_in result ≤ most_bytes) }
 {
-    let extent = measure(file, classes, callees, rows, m)?;
-    fill(file, classes, callees, rows, m, area, extent)
+    let extent = measure(calls, classes, rows, m)?;
+    fill(calls, classes, rows, m, area, extent)
 }
 
 // The answer of model m, by N entries of rows. Each length of rows is a function of its own for the compiler, so that a
@@ -48,9 +47,9 @@ fn answer<const N: usize>(file: &View, m: usize, area: &mut [u8]) -> Result<usiz
         × (used_in result ≤ most_bytes) }
 {
     let classed = classes(file);
-    let called = callees(file);
+    let calls = find_calls(file);
     let mut rows: [u16; N] = no_rows();
-    answer_with(file, &classed, &called, &mut rows, m, area)
+    answer_with(&calls, &classed, &mut rows, m, area)
 }
 
 // A refusal, or the answer handed out.
@@ -125,14 +124,13 @@ fn build_opened(file: &View, root: &[u8], area: &mut [u8]) -> u64
         × (area.new ≡ result_area (length area.old)
         (definition.build file.now.bytes.now root.now (length area.old))) }
 {
-    let m = find_root(file, root);
-    if m == 0 {
+    let Some(m) = find_root(file, root) else {
         return refuse(area, Refusal::NoRoot.number());
-    }
+    };
     if area.len() < MOST_BYTES {
-        return build_apart(file, m - 1, area);
+        return build_apart(file, m, area);
     }
-    build_within(file, m - 1, area)
+    build_within(file, m, area)
 }
 
 // The number in the low 32 bits, 0 or a refusal's, and the bytes used in the high ones.

@@ -5,4 +5,5 @@
 pub mod all;
 pub mod builder;
 pub mod check;
+pub mod checked;
 pub mod conditions;

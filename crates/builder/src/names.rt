@@ -1,74 +1,72 @@
 // What a name's text decides, each text looked at once: a class and an argument rule for every name number.
-ghost use Rattle.std.specs.Prelude.{◌≡◌, ◌&&◌, ◌<◌, eqb, leb, ltb};
+ghost use Rattle.std.specs.Prelude.{◌≡◌, ◌<◌};
+ghost use Rattle.functions.specs.Lists.{plus_one};
 ghost use Rattle.ast.specs.Views.{file_seen};
 ghost use Rattle.definitions.specs.Names.{text_of, time_name};
-ghost use Rattle.builder.specs.Tables.{class_of, time_class, last_reserved, first_built_in, other_class, Classes, Rules};
+ghost use Rattle.builder.specs.Tables.{class_of, reserved_class, Classes, Rules};
+ghost use Rattle.builder.specs.Starting.{place_as};
 
 use ast::layout::{MOST_NAMES, NAME_LENGTH, NAME_START};
 use ast::view::View;
 use functions::{Rule, function_rule, same_bytes};
 
-// The classes of names: t, the other reserved names, two domains, the built-ins, and every other name.
-pub const TIME: u8 = 0;
+// What a name's text makes of it.
+#[derive(Clone, Copy, Debug, PartialEq, Eq)]
+pub enum Class {
+    // t: reserved, and the name of time.
+    Time,
+    // Another reserved name, which no unknown may have.
+    Reserved,
+    // The domain that begins at 0.
+    NonNegative,
+    // The domain without bounds.
+    Real,
+    // A built-in function, ahead of a variable of that name.
+    BuiltIn,
+    // Any other name.
+    Other,
+}
 
-const LAST_RESERVED: u8 = 5;
-
-pub const NON_NEGATIVE: u8 = 6;
-
-pub const REAL: u8 = 7;
-
-const FIRST_BUILT_IN: u8 = 8;
-
-pub const OTHER: u8 = 18;
-
-// The texts that decide something, each at the place of its class.
-const DECIDING: [&[u8]; 18] = [
-    b"t",
-    b"u",
-    b"dudt",
-    b"F",
-    b"G",
-    b"input",
-    b"NonNegative",
-    b"R",
-    b"sin",
-    b"cos",
-    b"tan",
-    b"pow",
-    b"exp",
-    b"log",
-    b"sqrt",
-    b"abs",
-    b"interp1d",
-    b"piecewise",
+// The class of each text that decides something.
+const DECIDING: [(&[u8], Class); 18] = [
+    (b"t", Class::Time),
+    (b"u", Class::Reserved),
+    (b"dudt", Class::Reserved),
+    (b"F", Class::Reserved),
+    (b"G", Class::Reserved),
+    (b"input", Class::Reserved),
+    (b"NonNegative", Class::NonNegative),
+    (b"R", Class::Real),
+    (b"sin", Class::BuiltIn),
+    (b"cos", Class::BuiltIn),
+    (b"tan", Class::BuiltIn),
+    (b"pow", Class::BuiltIn),
+    (b"exp", Class::BuiltIn),
+    (b"log", Class::BuiltIn),
+    (b"sqrt", Class::BuiltIn),
+    (b"abs", Class::BuiltIn),
+    (b"interp1d", Class::BuiltIn),
+    (b"piecewise", Class::BuiltIn),
 ];
 
 // The class of a name's text.
-pub fn class_of(name: &[u8]) -> u8
+pub fn class_of(name: &[u8]) -> Class
     ensures { result ≡ class_of name.now }
 {
-    DECIDING
-        .iter()
-        .position(|text| same_bytes(name, text))
-        .map_or(OTHER, |i| i as u8)
+    for (known, class) in &DECIDING {
+        if same_bytes(name, known) {
+            return *class;
+        }
+    }
+    Class::Other
 }
 
-pub fn is_time(class: u8) -> bool
-    ensures { result ≡ eqb class time_class }
+// Whether the names of a class are reserved: t's and the others'.
+#[tactic(auto, unfolding(crate::specs::Tables::reserved_class))]
+pub fn is_reserved(class: Class) -> bool
+    ensures { result ≡ reserved_class class }
 {
-    class == TIME
-}
-
-pub fn is_reserved(class: u8) -> bool
-    ensures { result ≡ leb class last_reserved }
-{
-    class <= LAST_RESERVED
-}
-
-pub fn is_built_in(class: u8) -> bool
-    ensures { result ≡ (leb first_built_in class && ltb class other_class) }
-{
-    (FIRST_BUILT_IN..OTHER).contains(&class)
+    matches!(class, Class::Time | Class::Reserved)
 }
 
 // The text of name n.
@@ -82,24 +80,22 @@ pub fn name_text<'a>(file: &View<'a>, n: usize) -> &'a [u8]
 }
 
 // The class of each name.
-pub fn classes(file: &View) -> [u8; MOST_NAMES]
+pub fn classes(file: &View) -> [Class; MOST_NAMES]
     ensures { Classes (file_seen file.now).names result }
 {
-    let mut out = [OTHER; MOST_NAMES];
+    let mut out = [Class::Other; MOST_NAMES];
     for n in 0..file.sections.counts.names {
         out[n] = class_of(name_text(file, n));
     }
     out
 }
 
-// The number, plus 1, of the first name that is t, or 0.
-pub fn time_name(file: &View, classes: &[u8; MOST_NAMES]) -> usize
+// The number of the first name that is t.
+pub fn time_name(file: &View, classes: &[Class; MOST_NAMES]) -> Option<usize>
     requires { Classes (file_seen file.now).names classes.now }
-    ensures { result ≡ time_name (file_seen file.now).names }
+    ensures { plus_one (place_as result) ≡ time_name (file_seen file.now).names }
 {
-    (0..file.sections.counts.names)
-        .position(|n| is_time(classes[n]))
-        .map_or(0, |n| n + 1)
+    (0..file.sections.counts.names).position(|n| classes[n] == Class::Time)
 }
 
 // The argument rule of each name.

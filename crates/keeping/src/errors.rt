@@ -1,33 +1,33 @@
 // Listed errors of an area: kind, span, name plus 1 or 0.
-ghost use Rattle.std.specs.Prelude.{◌≡◌, ◌<◌};
+ghost use Rattle.std.specs.Prelude.{◌≡◌, ◌≤◌, ◌<◌};
 ghost use Rattle.functions.specs.Lists.{all};
-ghost use Rattle.ast.specs.RecordsIn.{records_in, record_in};
+ghost use Rattle.ast.specs.Views.{records_seen, record_seen};
 ghost use Rattle.definitions.specs.Layout.{error_fits};
-ghost use Rattle.keeping.specs.Placed.{ErrorsLie};
+ghost use Rattle.definitions.specs.Numbers.{error_length};
 
 use area::layout::{ERROR_FROM, ERROR_KIND, ERROR_NAME, ERROR_TO};
 use ast::layout::MOST_NAMES;
-use ast::sections::{Records, word_of};
+use ast::places::RecordView;
 
 // The kinds that exist are 1 to `kinds`.
-fn error_fits(area: &[u8], rs: Records, i: usize, kinds: usize) -> bool
-    requires { ErrorsLie rs area.now
-        × (i < rs.count) }
-    ensures { result ≡ error_fits kinds (record_in rs area.now i) }
+fn error_fits(rs: &RecordView, i: usize, kinds: usize) -> bool
+    requires { (error_length ≤ rs.now.records.width)
+        × (i < rs.now.records.count) }
+    ensures { result ≡ error_fits kinds (record_seen rs.now i) }
 {
-    let kind = word_of(area, rs, i, ERROR_KIND);
+    let kind = rs.word(i, ERROR_KIND);
     (1 <= kind)
         & (kind <= kinds)
-        & (word_of(area, rs, i, ERROR_FROM) <= word_of(area, rs, i, ERROR_TO))
-        & (word_of(area, rs, i, ERROR_NAME) <= MOST_NAMES)
+        & (rs.word(i, ERROR_FROM) <= rs.word(i, ERROR_TO))
+        & (rs.word(i, ERROR_NAME) <= MOST_NAMES)
 }
 
-pub fn errors_fit(area: &[u8], rs: Records, kinds: usize) -> bool
-    requires { ErrorsLie rs area.now }
-    ensures { result ≡ all (error_fits kinds) (records_in rs area.now) }
+pub fn errors_fit(rs: &RecordView, kinds: usize) -> bool
+    requires { error_length ≤ rs.now.records.width }
+    ensures { result ≡ all (error_fits kinds) (records_seen rs.now) }
 {
-    for i in 0..rs.count {
-        if !error_fits(area, rs, i, kinds) {
+    for i in 0..rs.records.count {
+        if !error_fits(rs, i, kinds) {
             return false;
         }
     }

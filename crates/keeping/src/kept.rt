@@ -12,6 +12,7 @@ use super::zeros::all_zeros;
 use area::layout::HEADER_BYTES;
 use ast::layout::MOST_NAMES;
 use ast::nodes::nodes_fit;
+use ast::places::{NodeView, RecordView};
 use ast::unknowns::deps_fit;
 
 fn records_fit(area: &[u8], s: Sections, kinds: usize) -> bool
@@ -19,12 +20,28 @@ fn records_fit(area: &[u8], s: Sections, kinds: usize) -> bool
         × (s ≡ sections_of plain (header_in area.now)) }
     ensures { result ≡ records_fit kinds (records_at plain (header_in area.now) area.now) }
 {
-    nodes_fit(area, s.nodes, MOST_NAMES)
-        & rows_fit(area, s.nodes, s.stmts, s.vars.count)
-        & variables_fit(area, s.vars, s.stmts.count, s.deps.count)
-        & names_differ(area, s.vars)
+    let nodes = NodeView {
+        bytes: area,
+        nodes: s.nodes,
+    };
+    let stmts = RecordView {
+        bytes: area,
+        records: s.stmts,
+    };
+    let vars = RecordView {
+        bytes: area,
+        records: s.vars,
+    };
+    let errors = RecordView {
+        bytes: area,
+        records: s.errors,
+    };
+    nodes_fit(&nodes, MOST_NAMES)
+        & rows_fit(&nodes, &stmts, s.vars.count)
+        & variables_fit(&vars, s.stmts.count, s.deps.count)
+        & names_differ(&vars)
         & deps_fit(area, s.deps.at, s.deps.count, s.vars.count)
-        & errors_fit(area, s.errors, kinds)
+        & errors_fit(&errors, kinds)
 }
 
 // Whether the area keeps the layout of document 01, with errors of the kinds 1 to `kinds`.

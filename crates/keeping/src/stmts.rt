@@ -1,23 +1,23 @@
 // Statements of an area: the tree file's words, whose trees fill the nodes in order, then fate and variable.
 ghost use Rattle.std.specs.Prelude.{◌≡◌, ◌^◌, ◌≤◌, ◌<◌};
-ghost use Rattle.ast.specs.NodesIn.{nodes_in, NodesLie};
-ghost use Rattle.ast.specs.RecordsIn.{records_in, record_in};
+ghost use Rattle.ast.specs.Views.{nodes_seen, records_seen, record_seen};
 ghost use Rattle.definitions.specs.Layout.{fate_fits, row_fits, rows_fit};
-ghost use Rattle.keeping.specs.Placed.{RowsLie};
+ghost use Rattle.definitions.specs.Numbers.{stmt_length};
 
 use area::layout::{Fate, STMT_FATE, STMT_VARIABLE};
-use ast::layout::{MOST_NAMES, STMT_KIND, STMT_RIGHT, SUBMODEL_KIND};
-use ast::sections::{Nodes, Records, word_of};
+use ast::kinds::StmtKind;
+use ast::layout::{MOST_NAMES, STMT_KIND, STMT_RIGHT};
+use ast::places::{NodeView, RecordView};
 use ast::stmts::stmt_fits;
 
 // A fate is 1 to 4, of a variable that exists; 4, left over, has variable 0.
-fn fate_fits(area: &[u8], rs: Records, i: usize, vars: usize) -> bool
-    requires { RowsLie rs area.now
-        × (i < rs.count) }
-    ensures { result ≡ fate_fits vars (record_in rs area.now i) }
+fn fate_fits(rs: &RecordView, i: usize, vars: usize) -> bool
+    requires { (stmt_length ≤ rs.now.records.width)
+        × (i < rs.now.records.count) }
+    ensures { result ≡ fate_fits vars (record_seen rs.now i) }
 {
-    let fate = word_of(area, rs, i, STMT_FATE);
-    let variable = word_of(area, rs, i, STMT_VARIABLE);
+    let fate = rs.word(i, STMT_FATE);
+    let variable = rs.word(i, STMT_VARIABLE);
     if fate == Fate::LeftOver as usize {
         return variable == 0;
     }
@@ -25,31 +25,29 @@ fn fate_fits(area: &[u8], rs: Records, i: usize, vars: usize) -> bool
 }
 
 // A statement whose trees go on from node `first`, and that is no submodel statement.
-fn row_fits(area: &[u8], ns: Nodes, rs: Records, i: usize, vars: usize, first: usize) -> bool
-    requires { NodesLie ns area.now
-        × RowsLie rs area.now
-        × (i < rs.count)
+fn row_fits(ns: &NodeView, rs: &RecordView, i: usize, vars: usize, first: usize) -> bool
+    requires { (stmt_length ≤ rs.now.records.width)
+        × (i < rs.now.records.count)
         × (first ≤ 2 ^ 32) }
-    ensures { result ≡ row_fits ns.count (nodes_in ns area.now) vars first
-        (record_in rs area.now i) }
+    ensures { result ≡ row_fits ns.now.nodes.count (nodes_seen ns.now) vars first
+        (record_seen rs.now i) }
 {
-    stmt_fits(area, ns, rs, i, MOST_NAMES, first)
-        & (word_of(area, rs, i, STMT_KIND) != SUBMODEL_KIND)
-        & fate_fits(area, rs, i, vars)
+    stmt_fits(ns, rs, i, MOST_NAMES, first)
+        & (rs.word(i, STMT_KIND) != StmtKind::Submodel as usize)
+        & fate_fits(rs, i, vars)
 }
 
-pub fn rows_fit(area: &[u8], ns: Nodes, rs: Records, vars: usize) -> bool
-    requires { NodesLie ns area.now
-        × RowsLie rs area.now }
-    ensures { result ≡ rows_fit ns.count (nodes_in ns area.now) vars 0
-        (records_in rs area.now) }
+pub fn rows_fit(ns: &NodeView, rs: &RecordView, vars: usize) -> bool
+    requires { stmt_length ≤ rs.now.records.width }
+    ensures { result ≡ rows_fit ns.now.nodes.count (nodes_seen ns.now) vars 0
+        (records_seen rs.now) }
 {
     let mut first: usize = 0;
-    for i in 0..rs.count {
-        if !row_fits(area, ns, rs, i, vars, first) {
+    for i in 0..rs.records.count {
+        if !row_fits(ns, rs, i, vars, first) {
             return false;
         }
-        first = word_of(area, rs, i, STMT_RIGHT) + 1;
+        first = rs.word(i, STMT_RIGHT) + 1;
     }
-    first == ns.count
+    first == ns.nodes.count
 }

@@ -8,6 +8,7 @@ ghost use Rattle.report.specs.Tabled.{Printed};
 
 use super::text::places;
 use area::layout::MOST_LISTED;
+use ast::places::RecordView;
 use files::failure;
 use keeping::sections::sections_in;
 use positions::{Entry, Place};
@@ -39,9 +40,13 @@ fn lines_of(
         × Printed area.now (take result out.new) }
 {
     let s = sections_in(area);
-    note_starts(area, s.errors, entries);
+    let errors = RecordView {
+        bytes: area,
+        records: s.errors,
+    };
+    note_starts(&errors, entries);
     places(rt, path, entries);
-    put_lines(area, s.errors, entries, out)
+    put_lines(&errors, entries, out)
 }
 
 // Prints the lines of an area and of the text in a file.

@@ -1,15 +1,14 @@
 // One line for each listed error, from the table of their starts and the places of these.
 ghost use Rattle.std.specs.Prelude.{◌≡◌, ◌+◌, ◌*◌, ◌≤◌, ◌<◌, length};
 ghost use Rattle.ast.specs.Bytes.{front, put};
-ghost use Rattle.ast.specs.RecordsIn.{records_in, record_in};
-ghost use Rattle.definitions.specs.Numbers.{most_listed};
-ghost use Rattle.keeping.specs.Placed.{ErrorsLie};
+ghost use Rattle.ast.specs.Views.{records_seen, record_seen};
+ghost use Rattle.definitions.specs.Numbers.{most_listed, error_length};
 ghost use Rattle.report.specs.Lines.{line_for, most_line};
 ghost use Rattle.report.specs.Tabled.{tabled_place, tabled_lines, Tabled};
 
 use super::decimals::put_field;
 use area::layout::{ERROR_FROM, ERROR_KIND, ERROR_TO};
-use ast::sections::{Records, word_of};
+use ast::places::RecordView;
 use positions::shown::shown;
 use positions::{Entry, Place};
 
@@ -30,30 +29,30 @@ fn put_line(out: &mut [u8], at: usize, place: Place, kind: u64) -> usize
 }
 
 // What is shown for error i, whose start has a place.
-fn place_of(area: &[u8], es: Records, i: usize, place: Place) -> Place
-    requires { ErrorsLie es area.now
-        × (i < es.count) }
-    ensures { result ≡ tabled_place place (record_in es area.now i) }
+fn place_of(es: &RecordView, i: usize, place: Place) -> Place
+    requires { (error_length ≤ es.now.records.width)
+        × (i < es.now.records.count) }
+    ensures { result ≡ tabled_place place (record_seen es.now i) }
 {
-    let from = word_of(area, es, i, ERROR_FROM) as u64;
-    let to = word_of(area, es, i, ERROR_TO) as u64;
+    let from = es.word(i, ERROR_FROM) as u64;
+    let to = es.word(i, ERROR_TO) as u64;
     shown(from, to, place)
 }
 
 // Writes the lines of all errors at the front, and gives their length.
-pub fn put_lines(area: &[u8], es: Records, entries: &[Entry], out: &mut [u8]) -> usize
-    requires { Tabled es area.now entries.now
-        × (es.count ≤ most_listed)
+pub fn put_lines(es: &RecordView, entries: &[Entry], out: &mut [u8]) -> usize
+    requires { Tabled es.now.records es.now.bytes.now entries.now
+        × (es.now.records.count ≤ most_listed)
         × (most_listed * most_line ≤ length out.old) }
     ensures { (result ≡ length (tabled_lines entries.now
-        (records_in es area.now)))
+        (records_seen es.now)))
         × (out.new ≡ front out.old (tabled_lines entries.now
-        (records_in es area.now))) }
+        (records_seen es.now))) }
 {
     let mut at = 0;
-    for i in 0..es.count {
-        let place = place_of(area, es, i, entries[i].place);
-        let kind = word_of(area, es, i, ERROR_KIND) as u64;
+    for i in 0..es.records.count {
+        let place = place_of(es, i, entries[i].place);
+        let kind = es.word(i, ERROR_KIND) as u64;
         at = put_line(out, at, place, kind);
     }
     at

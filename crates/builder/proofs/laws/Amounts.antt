@@ -1,21 +1,22 @@
 -- How many instances a model has, statement by statement; and the model that a statement calls.
 use mathlib.Core.Path.{◌≡◌, refl, sym, ap, ◌∙◌}
 use mathlib.Core.List.{List, [], ◌∷◌}
-use mathlib.Core.Option.{Option, none, some}
+use mathlib.Core.Option.{none, some}
 use Prim.Native.Nat.{ℕ, zero, suc, ◌+◌, ◌-◌, ◌≤◌, ◌<◌}
 use native.Mathlib.Omega.{arith}
 use native.Mathlib.Numerals.{add-one, sub-one}
 use lib.ListN.{length, take, get_or}
 use lib.Seq.{take-suc, take_all}
-use Rattle.functions.specs.Lists.{each, sum_of, to_list, plus_one}
-use Rattle.ast.specs.Tree.{Stmt, own, submodel, File}
+use Rattle.functions.specs.Lists.{each, sum_of}
+use Rattle.ast.specs.Tree.{Stmt, File}
 use Rattle.ast.specs.Records.{first_stmt, stmt_count}
 use Rattle.ast.specs.Rows.{at_most}
 use Rattle.ast.specs.Opens.{Open, file_in}
 use Rattle.ast.specs.declared.sections.Sections.{Sections}
-use Rattle.definitions.specs.Flatten.{model_named, model_at, stmt_models, submodels, instances}
-use Rattle.builder.specs.Tables.{callee_of}
+use Rattle.definitions.specs.Flatten.{model_at, stmt_models, submodels, instances}
+use Rattle.builder.specs.Tables.{called_by}
 use Rattle.builder.specs.Checking.{stmt_in}
+use Rattle.builder.proofs.laws.Calling.{calls_none, calls_one}
 use Rattle.builder.proofs.laws.Open.{model_record}
 use Rattle.builder.proofs.laws.OpenRecords.{model_is}
 use Rattle.definitions.proofs.ListLaws.{sum_append}
@@ -44,42 +45,20 @@ unfolding sum_of each
 sum_each g h [] = refl
 sum_each g h (x ∷ xs) = sum_append g (h x) (each h xs) ∙ ap (λ (n : ℕ). sum_of g (h x) + n) (sum_each g h xs)
 
--- ---- the model that a statement calls
+-- ---- instances, to a depth of k models
 
 module _ (f : File) where
-  to_list_none : (o : Option ℕ) (c : ℕ) → c ≡ plus_one o → c ≡ 0 → to_list o ≡ []
-  unfolding plus_one to_list
-  to_list_none none c e z = refl
-  to_list_none (some i) c e z = absurd (omega arith)
-
-  to_list_some : (o : Option ℕ) (c : ℕ) → c ≡ plus_one o → (c ≡ 0 → ⊥) → to_list o ≡ (c - 1) ∷ []
-  unfolding plus_one to_list
-  to_list_some none c e n = absurd (n e)
-  to_list_some (some i) c e n = ap (λ (x : ℕ). x ∷ []) (omega arith)
-
-  pub calls_none : (q : Stmt) (c : ℕ) → c ≡ callee_of f q → c ≡ 0 → stmt_models f q ≡ []
-  unfolding stmt_models callee_of
-  calls_none (own q) c e z = refl
-  calls_none (submodel x a t s) c e z = to_list_none (model_named f x) c e z
-
-  pub calls_one : (q : Stmt) (c : ℕ) → c ≡ callee_of f q → (c ≡ 0 → ⊥) → stmt_models f q ≡ (c - 1) ∷ []
-  unfolding stmt_models callee_of
-  calls_one (own q) c e n = absurd (n e)
-  calls_one (submodel x a t s) c e n = to_list_some (model_named f x) c e n
-
-  -- ---- instances, to a depth of k models
-
   -- those of the model that a statement calls
   abbrev pub called_instances : ℕ → Stmt → ℕ
   called_instances k q = sum_of (λ j. instances f k j) (stmt_models f q)
 
-  pub called_none : (k : ℕ) (q : Stmt) (c : ℕ) → c ≡ callee_of f q → c ≡ 0 → 0 ≡ called_instances k q
+  pub called_none : (k : ℕ) (q : Stmt) → called_by f q ≡ none → 0 ≡ called_instances k q
   unfolding sum_of
-  called_none k q c e z = sym (ap (λ (js : List ℕ). sum_of (λ j. instances f k j) js) (calls_none q c e z))
+  called_none k q e = sym (ap (λ (js : List ℕ). sum_of (λ j. instances f k j) js) (calls_none f q e))
 
-  pub called_one : (k : ℕ) (q : Stmt) (c : ℕ) → c ≡ callee_of f q → (c ≡ 0 → ⊥) → called_instances k q ≡ instances f k (c - 1)
+  pub called_one : (k : ℕ) (q : Stmt) (c : ℕ) → called_by f q ≡ some c → called_instances k q ≡ instances f k c
   unfolding sum_of
-  called_one k q c e n = ap (λ (js : List ℕ). sum_of (λ j. instances f k j) js) (calls_one q c e n) ∙ omega arith
+  called_one k q c e = ap (λ (js : List ℕ). sum_of (λ j. instances f k j) js) (calls_one f q c e) ∙ omega arith
 
   pub instances_zero : (k m : ℕ) → k ≡ 0 → 0 ≡ instances f k m
   unfolding instances

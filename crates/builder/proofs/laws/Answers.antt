@@ -2,13 +2,13 @@
 use mathlib.Core.Path.{◌≡◌, refl, sym, ap, ◌∙◌}
 use mathlib.Core.List.{List, ◌++◌}
 use mathlib.Core.Bool.{Bool, true, false, cond}
-use mathlib.Core.Option.{Option, none, some}
-use Prim.Native.Nat.{ℕ, ◌-◌, ◌≤◌}
+use mathlib.Core.Option.{none, some}
+use Prim.Native.Nat.{ℕ, ◌≤◌}
 use native.Mathlib.Omega.{arith}
 use lib.Dec.{eqb}
 use lib.ListN.{length, take, drop, length-drop, length-append}
 use lib.Seq.{take-append-le}
-use Rattle.functions.specs.Lists.{sum_of, plus_one}
+use Rattle.functions.specs.Lists.{sum_of}
 use Rattle.functions.proofs.Lists.{clash}
 use Rattle.ast.specs.Tree.{File, flat_size}
 use Rattle.ast.specs.File as file
@@ -108,17 +108,6 @@ given_within area ys last a r b h g l k =
     (k.0 ∙ ap told e, k.1 ∙ ap (λ (n : ℕ). result_area n (fitted_in (length (ys ++ drop 55384 area)) (answered_as a (ys ++ drop 55384 area)))) room ∙ ap (result_area (length area)) e)
 
 -- ---- a build
-
--- a number that is some place plus 1
-pub place_of : (o : Option ℕ) (k : ℕ) → k ≡ plus_one o → (k ≡ 0 → ⊥) → o ≡ some (k - 1)
-unfolding plus_one
-place_of none k e n = absurd (n e)
-place_of (some i) k e n = let h : i ≡ k - 1 = omega (arith, e) in ap some h
-
-pub place_none : (o : Option ℕ) (k : ℕ) → k ≡ plus_one o → k ≡ 0 → o ≡ none
-unfolding plus_one
-place_none none k e z = refl
-place_none (some i) k e z = absurd (omega (arith, e, z))
 
 -- what is written of an answer
 pub writes : (room : ℕ) (r : Result Answer) → written room r ≡ fitted_in room (bytes_in r)

@@ -3,16 +3,18 @@ use mathlib.Core.Path.{◌≡◌, refl, sym, ap, ◌∙◌}
 use mathlib.Core.Logic.{◌⊎◌, inl, inr}
 use mathlib.Core.Bool.{Bool, true, false, cond}
 use mathlib.Core.List.{List, [], ◌∷◌, ◌++◌}
-use Prim.Native.Nat.{ℕ, zero, suc, ◌+◌, ◌-◌, ◌/◌, ◌%◌, ◌^◌, ◌≤◌, ◌<◌}
+use Prim.Native.Nat.{ℕ, zero, suc, ◌+◌, ◌/◌, ◌%◌, ◌^◌, ◌≤◌, ◌<◌}
 use native.Mathlib.Omega.{arith}
 use native.Mathlib.Numerals.{add-one}
-use borrow.Author.Tests.{eq-eqb, ne_eqb}
 use lib.Dec.{eqb}
 use lib.Ieee.{Float, binary64, of_bits, to_bits, is_nan}
 use lib.Ieee.Bits.{to_bits-of_bits}
 use lib.ListN.{length, take, drop, get_or}
 use lib.Seq.{take_all, take-suc, drop-drop}
+use Rattle.std.specs.Prelude.{Option, None, Some}
 use Rattle.std.specs.Int.{w64, to_le_bytes}
+use Rattle.std.specs.List.{find}
+use Rattle.std.proofs.lemmas.Option.{none-some, same_Some}
 use Rattle.functions.specs.Lists.{each}
 use Rattle.functions.proofs.Lists.{clash}
 use Rattle.ast.specs.Tree.{Unknown, Domain, unstated, range, named}
@@ -30,12 +32,15 @@ use Rattle.definitions.specs.Names.{is_time, is_non_negative}
 use Rattle.definitions.specs.Variables.{Bounds, infinity, minus_infinity, from_zero, unbounded, domain_bounds, last_bounds}
 use Rattle.definitions.specs.Flatten.{model_at}
 use Rattle.definitions.specs.Answer.{bounds_words}
+use Rattle.builder.specs.declared.names.Class.{Class}
+use Rattle.builder.specs.declared.names.Class.TheVariants.{Time}
 use Rattle.builder.specs.Tables.{Classes}
 use Rattle.builder.specs.Bounding.{bounds_from, floats, Floating, case_bounds, NamedBelow, unknown_bounds, declared_bounds, LastDeclared, bound_bits, bounds_bits, NanDeclared}
 use Rattle.builder.proofs.laws.Domains.{domain_formed, coded, says_coded}
-use Rattle.builder.proofs.laws.Classes.{class_non_negative}
+use Rattle.builder.proofs.laws.Classes.{class_from_zero, class_non_negative}
 use Rattle.builder.proofs.laws.Open.{model_record, unknown_record, names_long}
 use Rattle.builder.proofs.laws.OpenRecords.{unknown_is, model_is}
+use Rattle.builder.proofs.laws.Ranges.{downward}
 use Rattle.area.proofs.Puts.{put_more}
 
 -- ---- the bits of a number
@@ -74,13 +79,13 @@ pub below_is : (k n : ℕ) (d : declared_domain.Domain) → d ≡ Named n → Na
 unfolding NamedBelow
 below_is k n d e h = rw e at h
 
-module _ (texts : List (List ℕ)) (classes : List ℕ) (t : Classes texts classes) (n : ℕ) where
+module _ (texts : List (List ℕ)) (classes : List Class) (t : Classes texts classes) (n : ℕ) where
   -- Bounds worked out in floats are the bounds' floats.
   case_floats : (d : Domain) → DomainFormed (length texts) d → case_bounds (coded d) (is_time texts n) classes ≡ floats (domain_bounds texts n d)
   unfolding case_bounds domain_bounds bounds_from floats
   case_floats unstated h = refl
   case_floats (range l u) h = refl
-  case_floats (named m) h = rw (t.class m h, class_non_negative texts m) refl
+  case_floats (named m) h = rw (← class_from_zero (get_or classes m Time), class_non_negative t m h) refl
 
   case_small : (d : Domain) → DomainFormed (length texts) d → ((domain_bounds texts n d).lower < 2 ^ 64) × ((domain_bounds texts n d).upper < 2 ^ 64)
   unfolding domain_bounds bounds_from
@@ -88,13 +93,13 @@ module _ (texts : List (List ℕ)) (classes : List ℕ) (t : Classes texts class
   case_small (range l u) h = h
   case_small (named m) h = from_small (is_non_negative texts m)
 
--- Bounds that unknown r - 1 of a file declares: from 0 or unbounded, or its range; `r` may be 0 for the first two.
+-- Bounds that an unknown of a file may declare: from 0 or unbounded, or its range.
 module _ (f : List ℕ) (s : Sections) where
   abbrev range_of : ℕ → Bounds
   range_of u = record { lower = float_from (unknown_record f s u) 4; upper = float_from (unknown_record f s u) 6 }
 
-  abbrev pub Stands : ℕ → Bounds → Type 0
-  Stands r d = ((b : Bool) × (d ≡ bounds_from b)) ⊎ ((0 < r) × (d ≡ range_of (r - 1)))
+  abbrev pub Stands : Option ℕ → Bounds → Type 0
+  Stands r d = ((b : Bool) × (d ≡ bounds_from b)) ⊎ ((u : ℕ) × (r ≡ Some u) × (d ≡ range_of u))
 
   unknown_stands : (u : ℕ) → ((b : Bool) × (unknown_bounds f s u ≡ bounds_from b)) ⊎ (unknown_bounds f s u ≡ range_of u)
   unfolding unknown_bounds domain_of domain_bounds bounds_from
@@ -105,64 +110,70 @@ module _ (f : List ℕ) (s : Sections) where
       go false true e g = inr (rw (e, g) refl)
       go false false e g = inl (is_non_negative (file_in f s).names (word_of (unknown_record f s u) 4), rw (e, g) refl)
 
-  pub declared_stands : (r : ℕ) (floor : Bool) → Stands r (declared_bounds f s r (bounds_from floor))
+  pub declared_stands : (r : Option ℕ) (floor : Bool) → Stands r (declared_bounds f s r (bounds_from floor))
   unfolding declared_bounds
-  declared_stands r floor = go (eqb r 0) refl
+  declared_stands None floor = inl (floor, refl)
+  declared_stands (Some u) floor = go (unknown_stands u)
     where
-      above : (n : ℕ) → eqb n 0 ≡ false → 0 < n
-      above zero e = clash (cc)
-      above (suc n) e = omega arith
+      go : ((b : Bool) × (unknown_bounds f s u ≡ bounds_from b)) ⊎ (unknown_bounds f s u ≡ range_of u) → Stands (Some u) (unknown_bounds f s u)
+      go (inl b) = inl b
+      go (inr e) = inr (u, refl, e)
 
-      some : 0 < r → ((b : Bool) × (unknown_bounds f s (r - 1) ≡ bounds_from b)) ⊎ (unknown_bounds f s (r - 1) ≡ range_of (r - 1)) → Stands r (unknown_bounds f s (r - 1))
-      some p (inl b) = inl b
-      some p (inr e) = inr (p, e)
-
-      go : (t : Bool) → eqb r 0 ≡ t → Stands r (declared_bounds f s r (bounds_from floor))
-      go true e = rw e (inl (floor, refl))
-      go false e = rw e (some (above r e) (unknown_stands (r - 1)))
-
-  pub last_stands : (m name r : ℕ) (floor : Bool) → LastDeclared f s m name r → Stands r (last_bounds (file_in f s).names name (bounds_from floor) (model_at (file_in f s) m).unknowns)
+  pub last_stands : (m name : ℕ) (r : Option ℕ) (floor : Bool) → LastDeclared f s m name r → Stands r (last_bounds (file_in f s).names name (bounds_from floor) (model_at (file_in f s) m).unknowns)
   last_stands m name r floor l = rw (l.bounds (bounds_from floor)) (declared_stands r floor)
 
-  module _ (r : ℕ) (d : Bounds) (x : declared.Bounds) (h : Floating d x) where
+  module _ (r : Option ℕ) (d : Bounds) (x : declared.Bounds) (h : Floating d x) where
     -- a NaN among them is a bound of the range
-    nans : Stands r d
-        → (is_nan (number_of d.lower) ≡ true → (0 < r) × (d.lower ≡ float_from (unknown_record f s (r - 1)) 4))
-        × (is_nan (number_of d.upper) ≡ true → (0 < r) × (d.upper ≡ float_from (unknown_record f s (r - 1)) 6))
+    abbrev Ranged : ℕ → ℕ → Type 0
+    Ranged k b = is_nan (number_of b) ≡ true → (u : ℕ) × (r ≡ Some u) × (b ≡ float_from (unknown_record f s u) k)
+
+    nans : Stands r d → Ranged 4 d.lower × Ranged 6 d.upper
     nans (inl (b, e)) =
         let (l, u) = from_numbers b in
         (λ t. let z : is_nan (number_of d.lower) ≡ false = rw e l in clash (cc), λ t. let z : is_nan (number_of d.upper) ≡ false = rw e u in clash (cc))
-    nans (inr (p, e)) = (λ t. (p, ap (λ (y : Bounds). y.lower) e), λ t. (p, ap (λ (y : Bounds). y.upper) e))
+    nans (inr (u, p, e)) = (λ t. (u, p, ap (λ (y : Bounds). y.lower) e), λ t. (u, p, ap (λ (y : Bounds). y.upper) e))
+
+    bits_back : (k b : ℕ) → b < 2 ^ 64 → Ranged k b → bound_bits f s r k (number_of b) ≡ b
+    unfolding bound_bits
+    bits_back k b l e = go r (is_nan (number_of b)) refl e
+      where
+        go : (r : Option ℕ) (t : Bool) → is_nan (number_of b) ≡ t → (is_nan (number_of b) ≡ true → (u : ℕ) × (r ≡ Some u) × (b ≡ float_from (unknown_record f s u) k)) → bound_bits f s r k (number_of b) ≡ b
+        go None true g e = absurd (none-some (e g).0 (e g).1)
+        go None false g e = number_back b l g
+        go (Some u) true g e = let (v, p, q) = e g in rw (g, same_Some u v p) (sym q)
+        go (Some u) false g e = rw g (number_back b l g)
+
+    number_declared : (o : Option ℕ) (y : Float) → (is_nan y ≡ true → (u : ℕ) × (o ≡ Some u)) → NanDeclared o y
+    unfolding NanDeclared
+    number_declared None y e = go (is_nan y) refl
+      where
+        go : (t : Bool) → is_nan y ≡ t → t ≡ false
+        go true g = absurd (none-some (e g).0 (e g).1)
+        go false g = refl
+    number_declared (Some u) y e = tt
 
     pub stands_nans : Stands r d → NanDeclared r x.lower × NanDeclared r x.upper
     unfolding floats
-    stands_nans g = let (l, u) = nans g in rw h.same (λ t. (l t).0, λ t. (u t).0)
-
-    bits_back : (k b : ℕ) → b < 2 ^ 64 → (is_nan (number_of b) ≡ true → b ≡ float_from (unknown_record f s (r - 1)) k) → bound_bits f s r k (number_of b) ≡ b
-    unfolding bound_bits
-    bits_back k b l e = go (is_nan (number_of b)) refl
-      where
-        go : (t : Bool) → is_nan (number_of b) ≡ t → bound_bits f s r k (number_of b) ≡ b
-        go true g = rw g (sym (e g))
-        go false g = rw g (number_back b l g)
+    stands_nans g = let (l, u) = nans g in rw h.same (number_declared r _ (λ t. let q = l t in (q.0, q.1)), number_declared r _ (λ t. let q = u t in (q.0, q.1)))
 
     -- their bits are the bounds
     pub stands_bits : Stands r d → bounds_bits f s r x ≡ d
     unfolding bounds_bits floats
     stands_bits g =
         let (l, u) = nans g in
-        rw (h.same, bits_back 4 d.lower h.lower_small (λ t. (l t).1), bits_back 6 d.upper h.upper_small (λ t. (u t).1)) refl
+        rw (h.same, bits_back 4 d.lower h.lower_small l, bits_back 6 d.upper h.upper_small u) refl
 
 -- ---- the bits of a bound, as the code finds them
 
-module _ (f : List ℕ) (s : Sections) (u k : ℕ) (x : Float) where
-  pub nan_bits : (r : ℕ) → is_nan x ≡ true → r ≡ float_from (get_or (contents_in f s).unknowns (u - 1) []) k → r ≡ bound_bits f s u k x
+module _ (f : List ℕ) (s : Sections) (k : ℕ) (x : Float) where
+  pub nan_bits : (u b : ℕ) → is_nan x ≡ true → b ≡ float_from (get_or (contents_in f s).unknowns u []) k → b ≡ bound_bits f s (Some u) k x
   unfolding bound_bits
-  nan_bits r t e = rw t e
+  nan_bits u b t e = rw t e
 
-  pub number_bits : is_nan x ≡ false → to_bits binary64 x ≡ bound_bits f s u k x
+  pub number_bits : (r : Option ℕ) → is_nan x ≡ false → to_bits binary64 x ≡ bound_bits f s r k x
   unfolding bound_bits
-  number_bits t = rw t refl
+  number_bits None t = refl
+  number_bits (Some u) t = rw t refl
 
 -- the bytes of a number are those of its two words
 bits_bytes : (x : ℕ) → x < 2 ^ 64 → to_le_bytes w64 x ≡ bytes_of (low x ∷ high x ∷ [])
@@ -183,7 +194,7 @@ unfolding put bytes_of bytes4 each
 bits_put x d bytes p n h e l = rw (e ∙ bits_bytes x h, l, drop-drop 8 p d) refl
 
 -- two numbers written one behind the other
-pub both_put : (f : List ℕ) (s : Sections) (r : ℕ) (x : declared.Bounds) (d d₁ d₂ : List ℕ) (p l u : ℕ) → l ≡ bound_bits f s r 4 x.lower → u ≡ bound_bits f s r 6 x.upper → p ≤ length d
+pub both_put : (f : List ℕ) (s : Sections) (r : Option ℕ) (x : declared.Bounds) (d d₁ d₂ : List ℕ) (p l u : ℕ) → l ≡ bound_bits f s r 4 x.lower → u ≡ bound_bits f s r 6 x.upper → p ≤ length d
     → d₁ ≡ put d p (bytes_of (low l ∷ high l ∷ [])) → d₂ ≡ put d₁ (p + 8) (bytes_of (low u ∷ high u ∷ [])) → d₂ ≡ put d p (bytes_of (bounds_words (bounds_bits f s r x)))
 unfolding bounds_words bounds_bits
 both_put f s r x d d₁ d₂ p l u el eu h e₁ e₂ = e₂ ∙ rw (← el, ← eu) (put_more d d₁ (low l ∷ high l ∷ []) p (p + 8) refl e₁ (low u ∷ high u ∷ []) h)
@@ -200,7 +211,7 @@ module _ (f : List ℕ) (s : Sections) (u : ℕ) where
         rw (says_coded d _ e.says) (named_below (length (file_in f s).names) k (domain_of (unknown_record f s u)) (omega (arith, names_long f s)) its_formed)
 
     -- its bounds in floats
-    pub unknown_floating : (classes : List ℕ) → Classes (file_in f s).names classes → (time : Bool) → time ≡ is_time (file_in f s).names (word_of (unknown_record f s u) 0)
+    pub unknown_floating : (classes : List Class) → Classes (file_in f s).names classes → (time : Bool) → time ≡ is_time (file_in f s).names (word_of (unknown_record f s u) 0)
         → (x : declared.Bounds) → x ≡ case_bounds d time classes → Floating (unknown_bounds f s u) x
     unfolding unknown_bounds
     unknown_floating classes t time et x ex =
@@ -208,15 +219,6 @@ module _ (f : List ℕ) (s : Sections) (u : ℕ) where
         let q = domain_of (unknown_record f s u) in
         let (a, b) = case_small (file_in f s).names classes t n q its_formed in
         record { same = ex ∙ rw (says_coded d _ e.says, et) (case_floats (file_in f s).names classes t n q its_formed); lower_small = a; upper_small = b }
-
-  -- where one is declared, and where none is
-  pub declared_none : (b : Bounds) → u ≡ 0 → declared_bounds f s u b ≡ b
-  unfolding declared_bounds
-  declared_none b e = rw (eq-eqb u 0 e) refl
-
-  pub declared_some : (b : Bounds) → (u ≡ 0 → ⊥) → declared_bounds f s u b ≡ unknown_bounds f s (u - 1)
-  unfolding declared_bounds
-  declared_some b e = rw (ne_eqb u 0 e) refl
 
 -- ---- the unknown that declares a name last
 
@@ -240,45 +242,43 @@ module _ (f : List ℕ) (s : Sections) (o : Open f s) (m : ℕ) (h : m < s.count
   decided_all i e b =
       sym (ap (last_bounds (file_in f s).names name b) (take_all i (model_at (file_in f s) m).unknowns (omega (arith, (model_is f s o m h).unknowns_long))))
 
-  pub decided_none : (i : ℕ) → i ≡ 0 → DecidedBy i → LastDeclared f s m name 0
+  decided_none : DecidedBy 0 → LastDeclared f s m name None
   unfolding declared_bounds
-  decided_none i e d = record { within = omega arith; bounds = λ b. d b ∙ rw e (last_none (file_in f s).names name b) }
+  decided_none d = record { within = tt; bounds = λ b. d b ∙ last_none (file_in f s).names name b }
 
-  module _ (i first w : ℕ) (p : 0 < i) (l : i ≤ word_of (model_record f s m) 2) (e : first ≡ word_of (model_record f s m) 1) (g : w ≡ word_of (unknown_record f s (first + (i - 1))) 0) (d : DecidedBy i) where
-    -- unknown i - 1 of the model
-    last : Unknown
-    last = unknown_of (contents_in f s).deps (unknown_record f s (first + (i - 1)))
+  module _ (first : ℕ) (e : first ≡ word_of (model_record f s m) 1) where
+    module _ (n : ℕ) (l : n < word_of (model_record f s m) 2) (d : DecidedBy (suc n)) where
+      -- unknown n of the model
+      last : Unknown
+      last = unknown_of (contents_in f s).deps (unknown_record f s (first + n))
 
-    one_more : take i (model_at (file_in f s) m).unknowns ≡ take (i - 1) (model_at (file_in f s) m).unknowns ++ last ∷ []
-    unfolding last
-    one_more =
-        let n : suc (i - 1) ≡ i = omega arith in
-        let k : word_of (model_record f s m) 1 + (i - 1) ≡ first + (i - 1) = omega arith in
-        let j : i - 1 < word_of (model_record f s m) 2 = omega arith in
-        let none = unknown_of [] [] in
-        ap (λ (x : ℕ). take x (model_at (file_in f s) m).unknowns) (sym n)
-        ∙ take-suc (model_at (file_in f s) m).unknowns (i - 1) none (omega (arith, (model_is f s o m h).unknowns_long))
-        ∙ ap (λ (u : Unknown). take (i - 1) (model_at (file_in f s) m).unknowns ++ u ∷ []) ((model_is f s o m h).unknown (i - 1) none j ∙ ap (λ (x : ℕ). unknown_of (contents_in f s).deps (unknown_record f s x)) k)
+      one_more : take (suc n) (model_at (file_in f s) m).unknowns ≡ take n (model_at (file_in f s) m).unknowns ++ last ∷ []
+      unfolding last
+      one_more =
+          let k : word_of (model_record f s m) 1 + n ≡ first + n = omega arith in
+          let none = unknown_of [] [] in
+          take-suc (model_at (file_in f s) m).unknowns n none (omega (arith, (model_is f s o m h).unknowns_long))
+          ∙ ap (λ (u : Unknown). take n (model_at (file_in f s) m).unknowns ++ u ∷ []) ((model_is f s o m h).unknown n none l ∙ ap (λ (x : ℕ). unknown_of (contents_in f s).deps (unknown_record f s x)) k)
 
-    its_name : last.name ≡ w
-    unfolding last unknown_of
-    its_name = sym g
+      decided_here : (b : Bounds) → last_bounds (file_in f s).names name b (model_at (file_in f s) m).unknowns
+          ≡ cond (eqb (suc last.name) name) (domain_bounds (file_in f s).names last.name last.domain) (last_bounds (file_in f s).names name b (take n (model_at (file_in f s) m).unknowns))
+      decided_here b = d b ∙ ap (last_bounds (file_in f s).names name b) one_more ∙ last_behind (file_in f s).names name b (take n (model_at (file_in f s) m).unknowns) last
 
-    decided_here : (b : Bounds) → last_bounds (file_in f s).names name b (model_at (file_in f s) m).unknowns
-        ≡ cond (eqb (suc w) name) (domain_bounds (file_in f s).names last.name last.domain) (last_bounds (file_in f s).names name b (take (i - 1) (model_at (file_in f s) m).unknowns))
-    decided_here b =
-        d b ∙ ap (last_bounds (file_in f s).names name b) one_more ∙ last_behind (file_in f s).names name b (take (i - 1) (model_at (file_in f s) m).unknowns) last
-        ∙ ap (λ (x : ℕ). cond (eqb (suc x) name) (domain_bounds (file_in f s).names last.name last.domain) (last_bounds (file_in f s).names name b (take (i - 1) (model_at (file_in f s) m).unknowns))) its_name
+      decided_found : eqb (word_of (unknown_record f s (first + n)) 0 + 1) name ≡ true → LastDeclared f s m name (Some (first + n))
+      unfolding declared_bounds unknown_bounds last unknown_of
+      decided_found t = let z = rw add-one at t in record { within = omega (arith, (model_is f s o m h).unknowns_within); bounds = λ b. decided_here b ∙ rw z refl }
 
-    pub decided_found : w + 1 ≡ name → LastDeclared f s m name (first + (i - 1) + 1)
-    unfolding declared_bounds unknown_bounds last unknown_of
-    decided_found k =
-        let t : eqb (suc w) name ≡ true = eq-eqb (suc w) name (sym (add-one w) ∙ k) in
-        let z : eqb (first + (i - 1) + 1) 0 ≡ false = ne_eqb (first + (i - 1) + 1) 0 (λ q. omega arith) in
-        let u : first + (i - 1) + 1 - 1 ≡ first + (i - 1) = omega arith in
-        record { within = omega (arith, (model_is f s o m h).unknowns_within); bounds = λ b. decided_here b ∙ rw (t, z, u) refl }
+      decided_next : eqb (word_of (unknown_record f s (first + n)) 0 + 1) name ≡ false → DecidedBy n
+      unfolding last unknown_of
+      decided_next t b = let z = rw add-one at t in decided_here b ∙ rw z refl
 
-    pub decided_next : (w + 1 ≡ name → ⊥) → DecidedBy (i - 1)
-    decided_next k b =
-        let t : eqb (suc w) name ≡ false = ne_eqb (suc w) name (λ q. k (add-one w ∙ q)) in
-        decided_here b ∙ rw t refl
+    -- the last of the first n that bears the name
+    pub last_found : (n : ℕ) → n ≤ word_of (model_record f s m) 2 → DecidedBy n → LastDeclared f s m name (find (λ u. eqb (word_of (unknown_record f s u) 0 + 1) name) (downward first n))
+    last_found zero l d = decided_none d
+    last_found (suc n) l d = go (eqb (word_of (unknown_record f s (first + n)) 0 + 1) name) refl (last_found n (omega arith))
+      where
+        go : (t : Bool) → eqb (word_of (unknown_record f s (first + n)) 0 + 1) name ≡ t
+            → (DecidedBy n → LastDeclared f s m name (find (λ u. eqb (word_of (unknown_record f s u) 0 + 1) name) (downward first n)))
+            → LastDeclared f s m name (cond t (Some (first + n)) (find (λ u. eqb (word_of (unknown_record f s u) 0 + 1) name) (downward first n)))
+        go true z before = decided_found n (omega arith) d z
+        go false z before = before (decided_next n (omega arith) d z)

@@ -1,17 +1,18 @@
 -- The models that statements call: each is one of the models, and what the table of submodels says of a statement.
-use mathlib.Core.Path.{◌≡◌, refl, ap}
+use mathlib.Core.Path.{◌≡◌, refl, sym, ap, ◌∙◌}
 use mathlib.Core.List.{List, [], ◌∷◌}
 use mathlib.Core.Option.{Option, none, some}
 use Prim.Native.Nat.{ℕ, suc, ◌-◌, ◌≤◌, ◌<◌}
 use native.Mathlib.Omega.{arith}
-use native.Mathlib.Numerals.{sub-one}
 use lib.ListN.{length, get_or}
 use lib.Dec.{eqb}
 use Rattle.functions.specs.Lists.{plus_one, to_list, place}
 use Rattle.ast.specs.Tree.{Stmt, own, submodel, File}
 use Rattle.ast.specs.Nodes.{kind_at}
 use Rattle.definitions.specs.Flatten.{model_named, model_at, stmt_models, submodels}
-use Rattle.builder.specs.Tables.{callee_of, Callees}
+use Rattle.std.specs.declared.option.Option.TheVariants.{None, Some}
+use Rattle.builder.specs.Tables.{callee_of, called_by, Callees}
+use Rattle.builder.specs.Starting.{place_as}
 use Rattle.ast.specs.Records.{kind_of_stmt, right_top, stmt_of}
 use Rattle.ast.specs.Opens.{Open, contents_in, file_in}
 use Rattle.ast.specs.declared.sections.Sections.{Sections}
@@ -31,25 +32,30 @@ module _ (f : File) where
   callee_below (own q) = omega arith
   callee_below (submodel n a c s) = omega (arith, place_small (λ x. eqb n x.name) 0 f.models)
 
-  -- a statement whose callee is 0 calls nothing
-  pub calls_none : (q : Stmt) → callee_of f q ≡ 0 → stmt_models f q ≡ []
-  unfolding callee_of stmt_models plus_one to_list
-  calls_none (own q) e = refl
-  calls_none (submodel n a c s) e = go (model_named f n) e
-    where
-      go : (o : Option ℕ) → plus_one o ≡ 0 → to_list o ≡ []
-      go none e = refl
-      go (some i) e = absurd (omega arith)
+  -- its number, plus 1
+  pub callee_called : (q : Stmt) → callee_of f q ≡ plus_one (called_by f q)
+  unfolding callee_of called_by plus_one
+  callee_called (own q) = refl
+  callee_called (submodel n a c s) = refl
 
-  -- any other calls the model of that number
-  pub calls_one : (q : Stmt) → (callee_of f q ≡ 0 → ⊥) → stmt_models f q ≡ (callee_of f q - 1) ∷ []
-  unfolding callee_of stmt_models plus_one to_list
-  calls_one (own q) e = absurd (e refl)
-  calls_one (submodel n a c s) e = go (model_named f n) e
-    where
-      go : (o : Option ℕ) → (plus_one o ≡ 0 → ⊥) → to_list o ≡ (plus_one o - 1) ∷ []
-      go none e = absurd (e refl)
-      go (some i) e = rw (sub-one (suc i)) refl
+  -- it is one of the models
+  pub called_below : (q : Stmt) (c : ℕ) → called_by f q ≡ some c → c < length f.models
+  unfolding plus_one
+  called_below q c e = omega (arith, callee_below q, callee_called q, ap plus_one e)
+
+  -- the models that a statement calls are that one, or none
+  called_models : (q : Stmt) → stmt_models f q ≡ to_list (called_by f q)
+  unfolding called_by stmt_models to_list
+  called_models (own q) = refl
+  called_models (submodel n a c s) = refl
+
+  pub calls_none : (q : Stmt) → called_by f q ≡ none → stmt_models f q ≡ []
+  unfolding to_list
+  calls_none q e = called_models q ∙ ap to_list e
+
+  pub calls_one : (q : Stmt) (c : ℕ) → called_by f q ≡ some c → stmt_models f q ≡ c ∷ []
+  unfolding to_list
+  calls_one q c e = called_models q ∙ ap to_list e
 
   -- every model found by name is one of the models
   callee_all : (o : Option ℕ) (n : ℕ) → model_named f n ≡ o → Each (λ (m : ℕ). m < length f.models) (to_list o)
@@ -72,14 +78,19 @@ module _ (f : File) where
 
 module _ (f : File) where
   -- an equation calls nothing
-  own_none : (ns : List (List ℕ)) (r : List ℕ) (k : kind_of_stmt r ≡ 1) → callee_of f (stmt_of ns r) ≡ 0
-  unfolding callee_of
-  own_none ns r k = ap (callee_of f) (stmt_equation ns r k)
+  own_none : (ns : List (List ℕ)) (r : List ℕ) (k : kind_of_stmt r ≡ 1) → called_by f (stmt_of ns r) ≡ none
+  unfolding called_by
+  own_none ns r k = ap (called_by f) (stmt_equation ns r k)
 
   -- nor does a rate equation
-  rate_none : (ns : List (List ℕ)) (r : List ℕ) (k : kind_of_stmt r ≡ 2) → callee_of f (stmt_of ns r) ≡ 0
-  unfolding callee_of
-  rate_none ns r k = ap (callee_of f) (stmt_rate ns r k)
+  rate_none : (ns : List (List ℕ)) (r : List ℕ) (k : kind_of_stmt r ≡ 2) → called_by f (stmt_of ns r) ≡ none
+  unfolding called_by
+  rate_none ns r k = ap (called_by f) (stmt_rate ns r k)
+
+-- no place is not a place
+none_some : (c : ℕ) (o : Option ℕ) → o ≡ none → o ≡ some c → ⊥
+unfolding plus_one
+none_some c o e g = let z : 0 ≡ suc c = ap plus_one (sym e ∙ g) in omega arith
 
 -- a statement that calls a model is a submodel statement, and its right side a call
 pub record CallIs (f : List ℕ) (s : Sections) (q : ℕ) : Type 0 where
@@ -88,11 +99,11 @@ pub record CallIs (f : List ℕ) (s : Sections) (q : ℕ) : Type 0 where
   pub call : kind_at (contents_in f s).nodes (right_top (get_or (contents_in f s).stmts q [])) ≡ 5
 
 module _ (f : List ℕ) (s : Sections) (o : Open f s) (q : ℕ) (h : q < s.counts.stmts) where
-  pub call_is : (callee_of (file_in f s) (stmt_of (contents_in f s).nodes (get_or (contents_in f s).stmts q [])) ≡ 0 → ⊥) → CallIs f s q
-  call_is ne =
+  pub call_is : (c : ℕ) → called_by (file_in f s) (stmt_of (contents_in f s).nodes (get_or (contents_in f s).stmts q [])) ≡ some c → CallIs f s q
+  call_is c e =
       let a = stmt_is f s o q h in
       let r = get_or (contents_in f s).stmts q [] in
-      let k : kind_of_stmt r ≡ 3 = by_stmt_kind (kind_of_stmt r) a.kinds (λ e. absurd (ne (own_none (file_in f s) _ r e))) (λ e. absurd (ne (rate_none (file_in f s) _ r e))) (λ e. e) in
+      let k : kind_of_stmt r ≡ 3 = by_stmt_kind (kind_of_stmt r) a.kinds (λ z. absurd (none_some c _ (own_none (file_in f s) _ r z) e)) (λ z. absurd (none_some c _ (rate_none (file_in f s) _ r z) e)) (λ z. z) in
       record { kind = k; below = a.right.0; call = a.call k }
 
 -- ---- what the table of submodels says of statement q
@@ -101,3 +112,16 @@ module _ (f : List ℕ) (s : Sections) (o : Open f s) (t : List ℕ) (h : Callee
   -- an entry is at most the count of models
   pub entry_below : get_or t q 0 ≤ s.counts.models
   entry_below = omega (arith, h.callee q l, callee_below (file_in f s) (stmt_of (contents_in f s).nodes (get_or (contents_in f s).stmts q [])), (long f s o).file_models)
+
+-- ---- what the code answers
+
+-- none by an entry that is 0, and any other less 1
+pub entry_none : (o : Option ℕ) (x : ℕ) → x ≡ plus_one o → x ≡ 0 → place_as None ≡ o
+unfolding place_as plus_one
+entry_none none x e z = refl
+entry_none (some i) x e z = absurd (omega arith)
+
+pub entry_some : (o : Option ℕ) (x : ℕ) → x ≡ plus_one o → (x ≡ 0 → ⊥) → place_as (Some (x - 1)) ≡ o
+unfolding place_as plus_one
+entry_some none x e n = absurd (n e)
+entry_some (some i) x e n = ap some (omega arith)

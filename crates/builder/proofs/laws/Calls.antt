@@ -1,13 +1,13 @@
 -- The errors of a call and of a name, by what the tables of a scope hold.
 use mathlib.Core.Path.{◌≡◌, refl, sym, ap, ◌∙◌}
-use mathlib.Core.Bool.{Bool, true, false, cond, not, ◌&&◌}
+use mathlib.Core.Bool.{Bool, true, false, cond, not}
 use mathlib.Core.List.{List, [], ◌∷◌, ◌++◌}
 use mathlib.Core.Option.{Option, none, some}
 use Prim.Native.Nat.{ℕ, suc, ◌+◌, ◌≤◌, ◌<◌}
 use native.Mathlib.Omega.{arith}
 use native.Mathlib.Numerals.{add-one}
 use borrow.Author.Tests.{ltb-true, eqb-true, eqb-false, eq-eqb, ne_eqb}
-use lib.Dec.{leb, ltb, eqb}
+use lib.Dec.{eqb}
 use lib.ListN.{length, get_or, length-map}
 use Rattle.functions.specs.Lists.{unless, is_some}
 use Rattle.functions.specs.Rules.{allows, rule_of, takes}
@@ -28,7 +28,10 @@ use Rattle.definitions.specs.Names.{text_of, is_built_in, allows_count}
 use Rattle.definitions.specs.Variables.{error, at}
 use Rattle.definitions.specs.Check.{Scope, lookup, count_fits, keyword_errors, dependent_errors, variable_errors, call_errors, expr_errors}
 use Rattle.definitions.specs.Flatten.{scope_of}
-use Rattle.builder.specs.Tables.{class_of, entry_of}
+use Rattle.builder.specs.declared.names.Class.{Class}
+use Rattle.builder.specs.declared.names.Class.TheVariants.{Time, BuiltIn}
+use Rattle.builder.specs.contracts.names.ClassPartialEq.TheImpl.{ghosts}
+use Rattle.builder.specs.Tables.{entry_of}
 use Rattle.builder.specs.declared.errors.check.Run.{Run}
 use Rattle.builder.specs.Checking.{scope_in, args_in, run_of, kept_names, dependents_at, variable_at, call_at, name_absent, ExprIn, CallIn, ArgsIn, Scoped, Against}
 use Rattle.area.proofs.Listings.{Joins}
@@ -144,7 +147,7 @@ module _ {f : List ℕ} {s : Sections} {m : ℕ} {vs : List ℕ} (g : Scoped f s
         record { is = rw (et, e, er, ex) (a_variable scope _ _ _ _ _ (call_count q) (λ w. h (e ∙ w))) }
 
 -- by the class and the rule of its name
-module _ {f : List ℕ} {s : Sections} {m : ℕ} {cs : List ℕ} {rs : List Rule} {vs : List ℕ} (g : Against f s m cs rs vs) {b : List ℕ} {ns : Nodes} {i : ℕ} (q : CallIn s.counts.names b ns i) (x : ℕ) (ex : x ≡ name_at (nodes_in ns b) i) where
+module _ {f : List ℕ} {s : Sections} {m : ℕ} {cs : List Class} {rs : List Rule} {vs : List ℕ} (g : Against f s m cs rs vs) {b : List ℕ} {ns : Nodes} {i : ℕ} (q : CallIn s.counts.names b ns i) (x : ℕ) (ex : x ≡ name_at (nodes_in ns b) i) where
   abbrev nodes' : List (List ℕ)
   nodes' = nodes_in ns b
 
@@ -158,11 +161,11 @@ module _ {f : List ℕ} {s : Sections} {m : ℕ} {cs : List ℕ} {rs : List Rule
       let h : name_at nodes' i < length scope'.names = omega (arith, call_name q) in
       rw ex (g.rules.rule _ One h)
 
-  class_here : get_or cs x 0 ≡ class_of (text_of scope'.names (name_at nodes' i))
-  class_here =
+  built_in_here : ghosts.eq (get_or cs x Time) BuiltIn ≡ is_built_in scope'.names (name_at nodes' i)
+  built_in_here =
       let l = length_names f s m in
       let h : name_at nodes' i < length scope'.names = omega (arith, call_name q) in
-      rw ex (g.classes.class _ h)
+      rw ex (class_built_in g.classes _ h)
 
   module _ (t : Bool) (r : Run) (et : t ≡ allows (get_or rs x One) r.args) (er : r ≡ run_of nodes' i) where
     allowed : allows_count scope'.names (name_at nodes' i) (count (args_in nodes' (run_of nodes' i))) ≡ t
@@ -175,9 +178,9 @@ module _ {f : List ℕ} {s : Sections} {m : ℕ} {cs : List ℕ} {rs : List Rule
     unfolding call_errors
     call_first = record { is = rw (allowed, ex, add-one) refl }
 
-    module _ (y : Bool) (ey : y ≡ (leb 8 (get_or cs x 0) && ltb (get_or cs x 0) 18)) where
+    module _ (y : Bool) (ey : y ≡ ghosts.eq (get_or cs x Time) BuiltIn) where
       built : is_built_in scope'.names (name_at nodes' i) ≡ y
-      built = rw (ey, class_here) (sym (class_built_in scope'.names (name_at nodes' i)))
+      built = sym (ey ∙ built_in_here)
 
       -- a built-in
       pub call_built_in : y ≡ true → Joins (call_at scope' nodes' i) (unless t (error 6 (span_at nodes' i) (x + 1))) (keyword_errors (args_in nodes' r))

@@ -2,10 +2,7 @@
 use mathlib.Core.Path.{◌≡◌, refl, sym, ap, ◌∙◌, fun_ext}
 use mathlib.Core.List.{List, [], ◌∷◌, ◌++◌, map}
 use mathlib.Core.Option.{Option, none, some}
-use mathlib.Core.Logic.{◌⊎◌, inl, inr, ⊎_elim}
-use mathlib.Core.Bool.{Bool, true, false, ◌||◌}
-use lib.Dec.{eqb}
-use borrow.Author.Tests.{eqb-true, eqb-false}
+use mathlib.Core.Bool.{true}
 use Prim.Native.Nat.{ℕ, zero, suc, ◌+◌, ◌-◌, ◌*◌, ◌≤◌, ◌<◌}
 use native.Mathlib.Omega.{arith}
 use native.Mathlib.Numerals.{add-one, sub-one}
@@ -26,26 +23,13 @@ use Rattle.ast.specs.declared.sections.Sections.{Sections}
 use Rattle.ast.proofs.Filling.{levels_same}
 use Rattle.ast.proofs.Opened.{ranges}
 use Rattle.definitions.specs.Flatten.{replacements, model_named, model_at, sub_flats, stmt_flats, flatten}
-use Rattle.builder.specs.Tables.{Callees}
-use Rattle.builder.specs.Descent.{flat_at, brought_at, replaced_by, RowsIn, RowsAt, RowsKept, Linked, ExprAt, ModelCall}
+use Rattle.builder.specs.Tables.{called_by}
+use Rattle.builder.specs.Descent.{flat_at, brought_at, replaced_by, RowsIn, RowsAt, RowsKept, ExprAt, ModelCall}
 use Rattle.builder.proofs.laws.Flattening.{map_each, flats_found}
-use Rattle.builder.proofs.laws.OpenStmts.{nodes_from_lem, nodes_few, names_few, called_none, called_some, submodel_call}
+use Rattle.builder.proofs.laws.OpenStmts.{nodes_from_lem, nodes_few, names_few, named_below, called_named, submodel_call}
 use Rattle.builder.proofs.laws.OpenRecords.{passes, model_is}
 use Rattle.builder.proofs.laws.Amounts.{at_most_add}
-use Rattle.definitions.proofs.Counts.{or_false}
 use Rattle.definitions.proofs.StmtKinds.{stmt_equation, stmt_rate, stmt_submodel}
-
--- ---- two tests at once
-
-or_true : (a b : Bool) → (a || b) ≡ true → (a ≡ true) ⊎ (b ≡ true)
-or_true true b e = inl refl
-or_true false b e = inr e
-
-either_zero : (a b : ℕ) → (eqb a 0 || eqb b 0) ≡ true → (a ≡ 0) ⊎ (b ≡ 0)
-either_zero a b e = ⊎_elim (λ h. inl (eqb-true a 0 h)) (λ h. inr (eqb-true b 0 h)) (or_true (eqb a 0) (eqb b 0) e)
-
-neither_zero : (a b : ℕ) → (eqb a 0 || eqb b 0) ≡ false → (a ≡ 0 → ⊥) × (b ≡ 0 → ⊥)
-neither_zero a b e = let (f, g) = or_false (eqb a 0) (eqb b 0) e in (eqb-false a 0 f, eqb-false b 0 g)
 
 -- ---- rows
 
@@ -161,27 +145,30 @@ module _ (f : List ℕ) (s : Sections) (o : Open f s) (q : ℕ) (l : q < s.count
   no_depth zero e j = refl
   no_depth (suc d) e j = absurd (omega arith)
 
-  module _ (callees : List ℕ) (t : Callees f s callees) (c : ℕ) (e : c ≡ get_or callees q 0) where
-    -- nothing, where its model is missing or the depth is used up
-    brought_none : (d : ℕ) → (c ≡ 0) ⊎ (d ≡ 0) → map (through_flat levels) (stmt_flats file (λ j. flatten file d j) (stmt_of ns (get_or (contents_in f s).stmts q []))) ≡ []
-    brought_none d h = is_submodel (λ j. flatten file d j) ∙ ⊎_elim (λ z. sub_missing (λ j. flatten file d j) _ (called_none f s o q l callees t c e k z)) (λ z. sub_empty (λ j. flatten file d j) (model_named file (name_at ns top)) (no_depth d z)) h
+  -- nothing, where it calls no model
+  called_missing : (sub : ℕ → List Flat) → called_by file (stmt_of ns (get_or (contents_in f s).stmts q [])) ≡ none → map (through_flat levels) (stmt_flats file sub (stmt_of ns (get_or (contents_in f s).stmts q []))) ≡ []
+  called_missing sub e = is_submodel sub ∙ sub_missing sub _ (sym (called_named f s o q k) ∙ e)
 
+  -- or the depth is used up
+  depth_done : (d : ℕ) → d ≡ 0 → map (through_flat levels) (stmt_flats file (λ j. flatten file d j) (stmt_of ns (get_or (contents_in f s).stmts q []))) ≡ []
+  depth_done d z = is_submodel (λ j. flatten file d j) ∙ sub_empty (λ j. flatten file d j) (model_named file (name_at ns top)) (no_depth d z)
+
+  module _ (c : ℕ) (e : called_by file (stmt_of ns (get_or (contents_in f s).stmts q [])) ≡ some c) where
     -- its model's flattened statements, one level deeper
-    pub brought : (sub : ℕ → List Flat) → (c ≡ 0 → ⊥)
-        → map (through_flat levels) (stmt_flats file sub (stmt_of ns (get_or (contents_in f s).stmts q [])))
-        ≡ map (through_flat (replacements (model_at file (c - 1)).unknowns (args_before ns top (op_at ns top) (size_at ns top - 1)) ∷ levels)) (sub (c - 1))
-    brought sub ne =
+    brought : (sub : ℕ → List Flat) → map (through_flat levels) (stmt_flats file sub (stmt_of ns (get_or (contents_in f s).stmts q [])))
+        ≡ map (through_flat (replacements (model_at file c).unknowns (args_before ns top (op_at ns top) (size_at ns top - 1)) ∷ levels)) (sub c)
+    brought sub =
         ap (λ x. map (through_flat levels) (stmt_flats file sub x)) (stmt_submodel ns (get_or (contents_in f s).stmts q []) k)
-        ∙ flats_found file sub levels _ _ _ _ (c - 1) (called_some f s o q l callees t c e k ne).0
+        ∙ flats_found file sub levels _ _ _ _ c (sym (called_named f s o q k) ∙ e)
 
     -- read with a new row
-    deeper : (rows rows' : List ℕ) (level d call : ℕ) → (c ≡ 0 → ⊥) → levels ≡ levels_of ns rows level → call ≡ right_top (get_or (contents_in f s).stmts q [])
+    deeper : (rows rows' : List ℕ) (level d call : ℕ) → levels ≡ levels_of ns rows level → call ≡ right_top (get_or (contents_in f s).stmts q [])
         → take (256 * level) rows' ≡ take (256 * level) rows
-        → ((n : ℕ) → by_table ns (take 256 (drop (256 * level) rows')) n ≡ replacements (model_at file (c - 1)).unknowns (args_before ns call (op_at ns call) (size_at ns call - 1)) n)
-        → map (through_flat (levels_of ns rows' (level + 1))) (flatten file d (c - 1)) ≡ map (through_flat levels) (stmt_flats file (λ j. flatten file d j) (stmt_of ns (get_or (contents_in f s).stmts q [])))
-    deeper rows rows' level d call ne el et kept by =
-        let g : levels_of ns rows' (level + 1) ≡ replacements (model_at file (c - 1)).unknowns (args_before ns top (op_at ns top) (size_at ns top - 1)) ∷ levels = levels_more ns rows rows' level kept _ (rw et at by) ∙ rw el refl in
-        ap (λ (x : List Replacements). map (through_flat x) (flatten file d (c - 1))) g ∙ sym (brought (λ j. flatten file d j) ne)
+        → ((n : ℕ) → by_table ns (take 256 (drop (256 * level) rows')) n ≡ replacements (model_at file c).unknowns (args_before ns call (op_at ns call) (size_at ns call - 1)) n)
+        → map (through_flat (levels_of ns rows' (level + 1))) (flatten file d c) ≡ map (through_flat levels) (stmt_flats file (λ j. flatten file d j) (stmt_of ns (get_or (contents_in f s).stmts q [])))
+    deeper rows rows' level d call el et kept by =
+        let g : levels_of ns rows' (level + 1) ≡ replacements (model_at file c).unknowns (args_before ns top (op_at ns top) (size_at ns top - 1)) ∷ levels = levels_more ns rows rows' level kept _ (rw et at by) ∙ rw el refl in
+        ap (λ (x : List Replacements). map (through_flat x) (flatten file d c)) g ∙ sym (brought (λ j. flatten file d j))
 
 -- ---- from a level into the next
 
@@ -197,28 +184,25 @@ module _ (f : List ℕ) (s : Sections) (rows : List ℕ) (level k : ℕ) (r : Ro
     pub rows_kept : (rows'' : List ℕ) → RowsKept f s (level + 1) rows' rows'' → RowsKept f s level rows rows''
     rows_kept rows'' g = (g.0 ∙ kept.0, kept_less _ _ (256 * (level + 1)) (256 * level) (omega arith) g.1 ∙ kept.1, g.2)
 
--- what submodel statement q brings in at a level, by the table of calls and to a depth of k more models
-module _ (f : List ℕ) (s : Sections) (callees : List ℕ) (linked : Linked f s callees) (q : ℕ) (l : q < s.counts.stmts)
-    (kind : kind_of_stmt (get_or (contents_in f s).stmts q []) ≡ 3) (rows : List ℕ) (level k : ℕ) where
-  pub call_none : (eqb (get_or callees q 0) 0 || eqb k 0) ≡ true → brought_at f s rows level (λ j. flatten (file_in f s) k j) q ≡ []
-  call_none e = brought_none f s linked.opened q l kind (levels_of (contents_in f s).nodes rows level) callees linked.callees _ refl k (either_zero (get_or callees q 0) k e)
+-- what submodel statement q brings in at a level, to a depth of k more models
+module _ (f : List ℕ) (s : Sections) (o : Open f s) (q : ℕ) (l : q < s.counts.stmts) (kind : kind_of_stmt (get_or (contents_in f s).stmts q []) ≡ 3) (rows : List ℕ) (level k : ℕ) where
+  pub call_none : called_by (file_in f s) (stmt_of (contents_in f s).nodes (get_or (contents_in f s).stmts q [])) ≡ none → brought_at f s rows level (λ j. flatten (file_in f s) k j) q ≡ []
+  call_none e = called_missing f s o q l kind (levels_of (contents_in f s).nodes rows level) (λ j. flatten (file_in f s) k j) e
 
-  module _ (called : (eqb (get_or callees q 0) 0 || eqb k 0) ≡ false) where
-    call_some : get_or callees q 0 ≡ 0 → ⊥
-    call_some = (neither_zero (get_or callees q 0) k called).0
+  pub call_done : k ≡ 0 → brought_at f s rows level (λ j. flatten (file_in f s) k j) q ≡ []
+  call_done e = depth_done f s o q l kind (levels_of (contents_in f s).nodes rows level) k e
 
-    pub call_below : get_or callees q 0 - 1 < s.counts.models
-    call_below = (called_some f s linked.opened q l callees linked.callees _ refl kind call_some).1
+  module _ (c : ℕ) (called : called_by (file_in f s) (stmt_of (contents_in f s).nodes (get_or (contents_in f s).stmts q [])) ≡ some c) where
+    pub call_below : c < s.counts.models
+    call_below = named_below f s o _ c (sym (called_named f s o q kind) ∙ called)
 
     module _ (call : ℕ) (top : call ≡ right_top (get_or (contents_in f s).stmts q [])) where
-      pub call_is : ModelCall f s (get_or callees q 0 - 1) call
-      call_is = calls_model f s linked.opened _ _ _ call_below top (submodel_call f s linked.opened q l kind)
+      pub call_is : ModelCall f s c call
+      call_is = calls_model f s o _ _ _ call_below top (submodel_call f s o q l kind)
 
-      pub call_deeper : (rows' : List ℕ)
-          → RowsKept f s level rows rows' × ((n : ℕ) → by_table (contents_in f s).nodes (take 256 (drop (256 * level) rows')) n ≡ replaced_by f s (get_or callees q 0 - 1) call n)
-          → flat_at f s rows' (level + 1) k (get_or callees q 0 - 1) ≡ brought_at f s rows level (λ j. flatten (file_in f s) k j) q
-      call_deeper rows' g =
-          deeper f s linked.opened q l kind (levels_of (contents_in f s).nodes rows level) callees linked.callees _ refl rows rows' level k call call_some refl top g.0.1 g.1
+      pub call_deeper : (rows' : List ℕ) → RowsKept f s level rows rows' × ((n : ℕ) → by_table (contents_in f s).nodes (take 256 (drop (256 * level) rows')) n ≡ replaced_by f s c call n)
+          → flat_at f s rows' (level + 1) k c ≡ brought_at f s rows level (λ j. flatten (file_in f s) k j) q
+      call_deeper rows' g = deeper f s o q l kind (levels_of (contents_in f s).nodes rows level) c called rows rows' level k call refl top g.0.1 g.1
 
 -- ---- what a statement of its own brings in
 

@@ -1,20 +1,20 @@
 -- What the code's tables say of fates is what the definitions say: the states that lack an equation, and the records that hold fates.
 use mathlib.Core.Path.{◌≡◌, refl, sym, ap, ap₂, ◌∙◌}
-use mathlib.Core.Bool.{Bool, true, false, cond, not, ◌&&◌, ◌||◌}
+use mathlib.Core.Bool.{Bool, true, false, cond, not, ◌&&◌}
 use mathlib.Core.List.{List, [], ◌∷◌, ◌++◌, map, append-nil, append_assoc}
 use mathlib.Core.Option.{Option, some}
-use Prim.Native.Nat.{ℕ, zero, suc, ◌+◌, ◌-◌, ◌*◌, ◌/◌, ◌%◌, ◌<◌}
+use Prim.Native.Nat.{ℕ, zero, suc, ◌+◌, ◌<◌}
 use native.Mathlib.Omega.{arith}
 use Rattle.std.proofs.lemmas.Bool.Decides.{nat_tests}
 use lib.Dec.{eqb}
 use lib.ListN.{length, take, get_or}
-use Rattle.functions.specs.Lists.{any, keep, place, place_from, member, times, flag, plus_one}
+use Rattle.functions.specs.Lists.{any, keep, place, place_from, times, flag, plus_one}
 use Rattle.functions.proofs.Lists.{clash}
 use Rattle.ast.specs.Tree.{Flat, equation, rate, flat_size}
 use Rattle.ast.specs.Words.{word_of}
 use Rattle.definitions.specs.Variables.{Variable, at, is_state}
-use Rattle.definitions.specs.Roles.{Role, starts, rates, free}
-use Rattle.definitions.specs.Allocate.{Fate, initial, held, replaced, left_over, is_rate_of, is_free, rate_fate, fates_of, numbers_from, lacking, left_count, paired_states, is_held_by, is_initial_of, held_by, conditions}
+use Rattle.definitions.specs.Roles.{Role}
+use Rattle.definitions.specs.Allocate.{Fate, initial, held, replaced, left_over, is_rate_of, numbers_from, lacking, is_held_by, is_initial_of, held_by, conditions}
 use Rattle.definitions.specs.Answer.{fate_number, fate_variable, flat_words, flat_records}
 use Rattle.builder.specs.Tables.{lacks_in, lacking_in}
 use Rattle.builder.specs.Fating.{fate_pair, with_fate, fated, is_fated}

@@ -5,7 +5,7 @@ use Prim.Native.Nat.{ℕ, zero, suc, ◌+◌, ◌-◌, ◌*◌, ◌/◌, ◌%◌
 use native.Mathlib.Omega.{arith}
 use native.Mathlib.Nat.{suc-mul}
 use lib.ListN.{length, take, drop, get_or, length-append, length-drop}
-use lib.Seq.{take-take, take-add, drop-drop, drop-nil, length-take-le, get_or-drop, get_or-take}
+use lib.Seq.{take-take, take-add, drop-drop, drop-nil, length-take-le, get_or-drop}
 use Rattle.functions.proofs.Lists.{drop_here, drop_past}
 use Rattle.ast.specs.Words.{words, records, section, bytes4, bytes_of}
 use Rattle.ast.specs.Bytes.{put_word, front, put}

@@ -1,7 +1,8 @@
 -- The tests that a model is found by, and the model that a statement calls.
-use mathlib.Core.Path.{◌≡◌, refl, ap}
+use mathlib.Core.Path.{◌≡◌, refl, sym, ap}
 use mathlib.Core.List.{List}
 use mathlib.Core.Bool.{Bool, true, false}
+use mathlib.Core.Option.{some}
 use Prim.Native.Nat.{ℕ, ◌≤◌, ◌<◌}
 use native.Mathlib.Omega.{arith}
 use borrow.Author.Tests.{eqb-false}
@@ -19,7 +20,7 @@ use Rattle.definitions.specs.Build.{root_of}
 use Rattle.builder.specs.Tables.{callee_of}
 use Rattle.builder.proofs.laws.Open.{model_record, stmt_record, models_long, model_name_is}
 use Rattle.builder.proofs.laws.OpenRecords.{stmt_is}
-use Rattle.definitions.proofs.ListLaws.{place_small}
+use Rattle.definitions.proofs.ListLaws.{place_small, place_below}
 use Rattle.definitions.proofs.StmtKinds.{stmt_submodel}
 
 -- ---- the tests: a root name's bytes, and a name's number
@@ -40,9 +41,9 @@ module _ (f : List ℕ) (s : Sections) where
   named_test n m h = ap (λ (k : ℕ). eqb n k) (model_name_is f s m h)
 
   -- a model found has a number
-  pub root_below : (root : List ℕ) → plus_one (root_of (file_in f s) root) ≤ s.counts.models
+  pub root_below : (root : List ℕ) (m : ℕ) → some m ≡ root_of (file_in f s) root → m < s.counts.models
   unfolding root_of place
-  root_below root = omega (arith, place_small (is_root_name root) 0 (file_in f s).models, models_long f s)
+  root_below root m e = omega (arith, place_below (is_root_name root) 0 (file_in f s).models m (sym e), models_long f s)
 
   pub named_below : (n : ℕ) → plus_one (model_named (file_in f s) n) ≤ s.counts.models
   unfolding model_named place

@@ -3,7 +3,7 @@ use mathlib.Core.Path.{◌≡◌, refl, sym, ap, ◌∙◌}
 use mathlib.Core.Logic.{⊎_elim}
 use mathlib.Core.Bool.{Bool, true, false, ◌&&◌}
 use mathlib.Core.List.{List, [], ◌∷◌, ◌++◌, map, map-append, map-map}
-use Prim.Native.Nat.{ℕ, zero, suc, ◌+◌, ◌-◌, ◌*◌, ◌≤◌, ◌<◌}
+use Prim.Native.Nat.{ℕ, ◌+◌, ◌-◌, ◌≤◌, ◌<◌}
 use native.Mathlib.Omega.{arith}
 use native.Mathlib.Numerals.{add-one}
 use borrow.Author.Tests.{ne_eqb}
@@ -25,7 +25,6 @@ use Rattle.area.specs.Sections.{stmts_at, area_nodes, area_stmts, area_stmt, are
 use Rattle.area.specs.declared.sections.Sizes.{Sizes}
 use Rattle.std.specs.declared.option.Option as answer
 use Rattle.std.specs.declared.option.Option.TheVariants.{None, Some}
-use Rattle.builder.specs.declared.allocation.roles.Role.{Role}
 use Rattle.builder.specs.declared.allocation.roles.Role.TheVariants.{Neither, Initial, Rate}
 use Rattle.builder.specs.declared.allocation.roles.Start.{Start}
 use Rattle.builder.specs.declared.allocation.roles.Start.TheVariants.{Short, Number}

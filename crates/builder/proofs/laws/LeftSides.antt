@@ -146,9 +146,9 @@ module _ (names : ℕ) (ns : List (List ℕ)) (n : ℕ) (ok : nodes_fit names ns
 
 module _ (ns : List (List ℕ)) (numbers indexes : List ℕ) (i : ℕ) where
   -- no call
-  pub start_other : (kind_at ns i ≡ 5 → ⊥) → start_at ns numbers indexes i ≡ None
+  pub start_other : eqb (kind_at ns i) 5 ≡ false → start_at ns numbers indexes i ≡ None
   unfolding start_at
-  start_other ne = rw (ne_eqb _ _ ne) refl
+  start_other ne = rw ne refl
 
   -- a call by name f
   module _ (e : kind_at ns i ≡ 5) (f : ℕ) (g : f ≡ name_at ns i) where
@@ -175,21 +175,21 @@ module _ (ns : List (List ℕ)) (numbers indexes : List ℕ) (i : ℕ) where
         unfolding at_index
         start_short h = by_index ∙ rw (← m, le-leb _ _ h) refl
 
-        -- enough: the argument in time's place, at node a, whose expression is of kind d
-        module _ (h : k < n) (a : ℕ) (x : a ≡ arg_node ns k i (op_at ns i)) (d : ℕ) (y : d ≡ kind_at ns (a - 1)) where
+        -- enough: the argument in time's place, at node a
+        module _ (h : k < n) (a : ℕ) (x : a ≡ arg_node ns k i (op_at ns i)) where
           start_arg : start_at ns numbers indexes i ≡ at_arg ns v a
           unfolding at_index
           start_arg = by_index ∙ rw (x, ← m, lt-leb _ _ h) refl
 
           -- a number
-          pub start_number_lem : d ≡ 2 → start_at ns numbers indexes i ≡ Some (Number v a)
+          pub start_number_lem : eqb (kind_at ns (a - 1)) 2 ≡ true → start_at ns numbers indexes i ≡ Some (Number v a)
           unfolding at_arg
-          start_number_lem z = start_arg ∙ rw (eq-eqb _ _ (sym y ∙ z)) refl
+          start_number_lem z = start_arg ∙ rw z refl
 
           -- no number
-          pub start_no_number : (d ≡ 2 → ⊥) → start_at ns numbers indexes i ≡ None
+          pub start_no_number : eqb (kind_at ns (a - 1)) 2 ≡ false → start_at ns numbers indexes i ≡ None
           unfolding at_arg
-          start_no_number z = start_arg ∙ rw (ne_eqb _ _ (λ q. z (y ∙ q))) refl
+          start_no_number z = start_arg ∙ rw z refl
 
 -- ---- what the answer for node i says of its tree
 

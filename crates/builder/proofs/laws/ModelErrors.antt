@@ -1,13 +1,13 @@
 -- How the errors of a model go on, in the code's terms: those of an unknown, of a run, of the arguments of a submodel statement and of a statement.
 use mathlib.Core.Path.{◌≡◌, refl, sym, ap, ◌∙◌}
-use mathlib.Core.Bool.{Bool, true, false, not, ◌||◌}
+use mathlib.Core.Bool.{Bool, true, false, not, ◌||◌, or_comm}
 use mathlib.Core.List.{List, [], ◌∷◌, ◌++◌, append-nil}
 use mathlib.Core.Option.{Option, none, some}
-use Prim.Native.Nat.{ℕ, zero, suc, ◌+◌, ◌-◌, ◌≤◌, ◌<◌}
+use Prim.Native.Nat.{ℕ, zero, suc, ◌+◌, ◌-◌, ◌^◌, ◌≤◌, ◌<◌}
 use native.Mathlib.Omega.{arith}
 use native.Mathlib.Numerals.{add-one, sub-one}
 use borrow.Author.Tests.{eqb-true, eqb-false, ne_eqb}
-use lib.Dec.{eqb, leb}
+use lib.Dec.{eqb}
 use lib.Ieee.{Float}
 use lib.ListN.{length, take, drop, get_or, take-append-drop}
 use lib.Seq.{take-suc, take_all}
@@ -27,16 +27,19 @@ use Rattle.ast.specs.declared.sections.Sections.{Sections}
 use Rattle.ast.specs.declared.numbers.Domain as declared_domain
 use Rattle.ast.specs.declared.numbers.Domain.TheVariants as is
 use Rattle.ast.proofs.Encodes.{each_append}
-use Rattle.definitions.specs.Names.{text_of}
+use Rattle.definitions.specs.Names.{is_time, is_reserved}
 use Rattle.definitions.specs.Variables.{Error, error, domain_errors, unknown_errors}
 use Rattle.definitions.specs.Check.{Scope, has_keyword, expr_errors, flat_errors}
 use Rattle.definitions.specs.Flatten.{model_named, model_at, scope_of, order_errors, sub_errors, stmt_errors, errors_of}
-use Rattle.builder.specs.Tables.{class_of, callee_of, VarsOf}
-use Rattle.area.specs.Listing.{Lists, Room}
+use Rattle.builder.specs.declared.names.Class.{Class}
+use Rattle.builder.specs.declared.names.Class.TheVariants.{Time, Reserved, NonNegative, Real}
+use Rattle.builder.specs.contracts.names.ClassPartialEq.TheImpl.{ghosts}
+use Rattle.builder.specs.Tables.{callee_of, VarsOf}
+use Rattle.area.specs.Listing.{Lists}
 use Rattle.builder.specs.declared.errors.check.Run.{Run}
 use Rattle.builder.specs.Checking.{scope_in, args_in, before_last, run_of, unknown_in, stmt_in, missing_at, UnknownIn, ExprIn, CallIn, ArgsIn, Against, TablesRead}
 use Rattle.builder.proofs.laws.Domains.{domain_formed, coded, says_coded, coded_named}
-use Rattle.builder.proofs.laws.Classes.{class_time, class_reserved, class_non_negative, class_real}
+use Rattle.builder.proofs.laws.Classes.{class_usable, class_non_negative, class_real}
 use Rattle.builder.proofs.laws.OpenRecords.{long, model_is, unknown_is, stmt_is}
 use Rattle.area.proofs.Listings.{Joins, lists_none, lists_then, room_first, room_then}
 use Rattle.builder.proofs.laws.Checks.{open_formed, args_are}
@@ -54,12 +57,12 @@ no_name names p (named n) h = absurd (h n refl)
 
 -- ---- unknown u
 
-module _ {f : List ℕ} {s : Sections} {cs : List ℕ} {u : ℕ} (q : UnknownIn f s cs u) where
+module _ {f : List ℕ} {s : Sections} {cs : List Class} {u : ℕ} (q : UnknownIn f s cs u) where
   abbrev record_u : List ℕ
   record_u = get_or (contents_in f s).unknowns u []
 
-  class_of_lem : (x : ℕ) → x < s.counts.names → get_or cs x 0 ≡ class_of (text_of (file_in f s).names x)
-  class_of_lem x h = q.classes.class x (omega (arith, (long f s q.opened).file_names))
+  named_lem : (x : ℕ) → x < s.counts.names → x < length (file_in f s).names
+  named_lem x h = omega (arith, (long f s q.opened).file_names)
 
   -- its domain, read as x
   module _ (x : declared_domain.Domain) (e : DomainRead (domain_of record_u) x) where
@@ -89,14 +92,13 @@ module _ {f : List ℕ} {s : Sections} {cs : List ℕ} {u : ℕ} (q : UnknownIn 
       pub domain_small : n < 256
       domain_small = omega (arith, domain_below, q.opened.laid.within.names)
 
-      pub domain_named : domain_errors (file_in f s).names (unknown_in f s u).span (unknown_in f s u).domain ≡ unless (eqb (get_or cs n 0) 6 || eqb (get_or cs n 0) 7) (error 1 (span_of_unknown record_u) (n + 1))
+      pub domain_named : (a b : Bool) → a ≡ ghosts.eq (get_or cs n Time) NonNegative → b ≡ ghosts.eq (get_or cs n Time) Real
+          → domain_errors (file_in f s).names (unknown_in f s u).span (unknown_in f s u).domain ≡ unless (a || b) (error 1 (span_of_unknown record_u) (n + 1))
       unfolding unknown_of domain_errors
-      domain_named =
-          let names = (file_in f s).names in
-          let c = class_of_lem n domain_below in
-          let e₁ = class_non_negative names n in
-          let e₂ = class_real names n in
-          rw (is_named_lem, c, e₁, e₂, add-one) refl
+      domain_named a b ea eb =
+          let e₁ = class_non_negative q.classes n (named_lem n domain_below) in
+          let e₂ = class_real q.classes n (named_lem n domain_below) in
+          rw (is_named_lem, ea, eb, e₁, e₂, add-one) refl
 
   -- its name
   module _ (x : ℕ) (ex : x ≡ word_of record_u 0) where
@@ -106,15 +108,13 @@ module _ {f : List ℕ} {s : Sections} {cs : List ℕ} {u : ℕ} (q : UnknownIn 
     pub unknown_small : x < 256
     unknown_small = omega (arith, unknown_below, q.opened.laid.within.names)
 
-    pub unknown_more : (a b : Bool) → a ≡ leb (get_or cs x 0) 5 → b ≡ eqb (get_or cs x 0) 0
-        → Joins (unknown_errors (file_in f s).names (unknown_in f s u)) (domain_errors (file_in f s).names (unknown_in f s u).span (unknown_in f s u).domain) (unless (not a || b) (error 2 (span_of_unknown record_u) (x + 1)))
+    pub unknown_more : (a : Bool) → a ≡ not (ghosts.eq (get_or cs x Time) Reserved)
+        → Joins (unknown_errors (file_in f s).names (unknown_in f s u)) (domain_errors (file_in f s).names (unknown_in f s u).span (unknown_in f s u).domain) (unless a (error 2 (span_of_unknown record_u) (x + 1)))
     unfolding unknown_errors unknown_of
-    unknown_more a b ea eb =
-        let names = (file_in f s).names in
-        let c = class_of_lem x unknown_below in
-        let e₁ = class_reserved names x in
-        let e₂ = class_time names x in
-        record { is = rw (ea, eb, c, e₁, e₂, add-one, ex) refl }
+    unknown_more a ea =
+        let e₁ = class_usable q.classes x (named_lem x unknown_below) in
+        let e₂ = or_comm (is_time (file_in f s).names x) (not (is_reserved (file_in f s).names x)) in
+        record { is = rw (ea, e₁, e₂, add-one, ex) refl }
 
 -- ---- the errors of a run, element by element
 
@@ -137,8 +137,9 @@ module _ {A : Type 0} (g : A → List Error) (xs : List A) where
     unfolding each
     each_next = record { is = rw (add-one, take-suc xs i x) (each_append g (take i xs) (get_or xs i x ∷ []) ∙ rw (append-nil, e) refl) }
 
-    pub run_room : (d d' : List ℕ) (n r : ℕ) → Room d n (each g xs) → Lists d n (each g (take i xs)) r d' → Room d' r (g x)
-    run_room d d' n r m p = room_first each_here (room_then (each_split i) d' r m p)
+    -- where all can be counted, so can its own behind those before it
+    pub run_room : (d d' : List ℕ) (n r : ℕ) → n + length (each g xs) < 2 ^ 40 → Lists d n (each g (take i xs)) r d' → r + length (g x) < 2 ^ 40
+    run_room d d' n r m p = room_first each_here r (room_then (each_split i) d d' n r m p)
 
     pub run_goes : (d d' d'' : List ℕ) (n r r' : ℕ) → Lists d n (each g (take i xs)) r d' → Lists d' r (g x) r' d'' → Lists d n (each g (take (i + 1) xs)) r' d''
     run_goes d d' d'' n r r' p t = lists_then each_next d d' d'' n r r' p t
@@ -255,7 +256,7 @@ module _ (f : File) (sub : ℕ → List Error) (n : ℕ) (a : Args) (p : Span) w
   one_found none c e h = absurd (h e)
   one_found (some m) c e h = let z : m ≡ c - 1 = omega arith in ap (λ (j : ℕ). sub j ++ order_errors a) z
 
-module _ {f : List ℕ} {s : Sections} {cs : List ℕ} {rs : List Rule} {ts : List ℕ} (g : TablesRead f s cs rs ts) (q : ℕ) (l : q < s.counts.stmts) where
+module _ {f : List ℕ} {s : Sections} {cs : List Class} {rs : List Rule} {ts : List ℕ} (g : TablesRead f s cs rs ts) (q : ℕ) (l : q < s.counts.stmts) where
   abbrev record_s : List ℕ
   record_s = get_or (contents_in f s).stmts q []
 
@@ -305,6 +306,6 @@ module _ (f : File) where
   errors_more (suc k) m n = record { is = rw (sub-one (suc k)) refl }
 
 -- what its statements are checked against
-pub against : {f : List ℕ} {s : Sections} {cs : List ℕ} {rs : List Rule} {ts : List ℕ} → TablesRead f s cs rs ts → (m : ℕ) → m < s.counts.models → {vs : List ℕ} → VarsOf (scope_in f s m) vs → Against f s m cs rs vs
+pub against : {f : List ℕ} {s : Sections} {cs : List Class} {rs : List Rule} {ts : List ℕ} → TablesRead f s cs rs ts → (m : ℕ) → m < s.counts.models → {vs : List ℕ} → VarsOf (scope_in f s m) vs → Against f s m cs rs vs
 unfolding scope_of
 against g m h v = record { scoped = record { opened = g.opened; model = h; vars = v }; classes = g.classes; rules = g.rules }

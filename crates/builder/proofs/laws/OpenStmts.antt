@@ -1,38 +1,25 @@
 -- What flattening reads of an open file: its nodes, its statements by their kinds, and the models that they call.
-use mathlib.Core.Path.{◌≡◌, refl, sym, ap, ◌∙◌}
+use mathlib.Core.Path.{◌≡◌, ap}
 use mathlib.Core.Bool.{true}
 use mathlib.Core.List.{List}
-use mathlib.Core.Option.{Option, none, some}
-use Prim.Native.Nat.{ℕ, ◌-◌, ◌≤◌, ◌<◌}
+use mathlib.Core.Option.{some}
+use Prim.Native.Nat.{ℕ, ◌≤◌, ◌<◌}
 use native.Mathlib.Omega.{arith}
 use lib.Dec.{eqb}
-use lib.ListN.{get_or}
-use Rattle.functions.specs.Lists.{place, plus_one}
+use Rattle.functions.specs.Lists.{place}
 use Rattle.ast.specs.Words.{section}
 use Rattle.ast.specs.Nodes.{kind_at, name_at, is_expr}
-use Rattle.ast.specs.Records.{kind_of_stmt, left_top, right_top}
+use Rattle.ast.specs.Records.{kind_of_stmt, left_top, right_top, stmt_of}
 use Rattle.ast.specs.File.{contents_of}
 use Rattle.ast.specs.Opens.{Open, contents_in, file_in}
 use Rattle.ast.specs.declared.sections.Sections.{Sections}
 use Rattle.ast.proofs.Opened.{ranges}
 use Rattle.definitions.specs.Flatten.{model_named}
-use Rattle.builder.specs.Tables.{callee_of, Callees}
+use Rattle.builder.specs.Tables.{called_by}
 use Rattle.definitions.proofs.ListLaws.{place_below}
 use Rattle.builder.proofs.laws.OpenRecords.{stmt_is}
 use Rattle.builder.proofs.laws.Open.{stmt_record, models_long}
 use Rattle.definitions.proofs.StmtKinds.{stmt_submodel, by_stmt_kind}
-
--- ---- a place, plus 1
-
-plus_none : (o : Option ℕ) (c : ℕ) → plus_one o ≡ c → c ≡ 0 → o ≡ none
-unfolding plus_one
-plus_none none c e z = refl
-plus_none (some i) c e z = absurd (omega arith)
-
-plus_some : (o : Option ℕ) (c : ℕ) → plus_one o ≡ c → (c ≡ 0 → ⊥) → o ≡ some (c - 1)
-unfolding plus_one
-plus_some none c e ne = absurd (ne (sym e))
-plus_some (some i) c e ne = ap some (omega arith)
 
 -- ---- an open file
 
@@ -74,16 +61,8 @@ module _ (f : List ℕ) (s : Sections) (o : Open f s) where
   unfolding model_named place
   named_below n m e = omega (arith, place_below (λ x. eqb n x.name) 0 (file_in f s).models m e, models_long f s)
 
-  -- the model that submodel statement q calls, by the table of them
-  module _ (q : ℕ) (l : q < s.counts.stmts) (callees : List ℕ) (t : Callees f s callees) (c : ℕ) (e : c ≡ get_or callees q 0) (k : kind_of_stmt (stmt_record f s q) ≡ 3) where
-    called : plus_one (model_named (file_in f s) (name_at (contents_in f s).nodes (right_top (stmt_record f s q)))) ≡ c
-    unfolding callee_of
-    called = sym (e ∙ t.callee q l ∙ ap (callee_of (file_in f s)) (stmt_submodel (contents_in f s).nodes (stmt_record f s q) k))
-
-    pub called_none : c ≡ 0 → model_named (file_in f s) (name_at (contents_in f s).nodes (right_top (stmt_record f s q))) ≡ none
-    called_none z = plus_none _ c called z
-
-    pub called_some : (c ≡ 0 → ⊥) → (model_named (file_in f s) (name_at (contents_in f s).nodes (right_top (stmt_record f s q))) ≡ some (c - 1)) × (c - 1 < s.counts.models)
-    called_some ne =
-        let e = plus_some _ c called ne in
-        (e, named_below _ (c - 1) e)
+  -- the model that submodel statement q calls
+  pub called_named : (q : ℕ) → kind_of_stmt (stmt_record f s q) ≡ 3
+      → called_by (file_in f s) (stmt_of (contents_in f s).nodes (stmt_record f s q)) ≡ model_named (file_in f s) (name_at (contents_in f s).nodes (right_top (stmt_record f s q)))
+  unfolding called_by
+  called_named q k = ap (called_by (file_in f s)) (stmt_submodel (contents_in f s).nodes (stmt_record f s q) k)

@@ -4,28 +4,30 @@ use mathlib.Core.Bool.{Bool, true, false, not, ◌&&◌, ◌||◌, or-true, or-f
 use mathlib.Core.List.{List, [], ◌∷◌, ◌++◌}
 use Rattle.std.specs.List.{list_any, range_with_len}
 use Rattle.std.proofs.lemmas.List.Folds.{list_any-append}
-use mathlib.Core.Option.{Option, none, some}
+use mathlib.Core.Option.{none, some}
 use Prim.Native.Nat.{ℕ, zero, suc, ◌+◌, ◌-◌, ◌*◌, ◌≤◌, ◌<◌}
 use native.Mathlib.Omega.{arith}
-use native.Mathlib.Numerals.{sub-one}
 use borrow.Author.Tests.{ne_eqb}
 use lib.Dec.{leb, eqb}
 use lib.ListN.{length, get_or}
-use Rattle.functions.specs.Lists.{member, plus_one, reaches}
+use Rattle.functions.specs.Lists.{member, reaches}
 use Rattle.ast.specs.Tree.{Span, Expr, Args, snoc, count, Stmt, own, submodel, File}
 use Rattle.ast.specs.Nodes.{name_at, op_at, size_at, args_fit, nodes_fit, args_before}
 use Rattle.ast.proofs.Fitting.{last_arg}
 use Rattle.ast.proofs.Trees.{args_more, args_none}
 use Rattle.ast.proofs.Sizes.{count_before}
-use Rattle.definitions.specs.Flatten.{args_beyond, model_named, model_at, submodels, reached, any_reached, lists_itself, stmt_beyond, sub_beyond}
-use Rattle.builder.specs.Tables.{Classes, callee_of, Callees, Reaching}
+use Rattle.builder.specs.declared.names.Class.{Class}
+use Rattle.builder.specs.declared.names.Class.TheVariants.{Time, Reserved}
+use Rattle.builder.specs.contracts.names.ClassPartialEq.TheImpl.{ghosts}
+use Rattle.definitions.specs.Flatten.{args_beyond, model_at, submodels, reached, any_reached, lists_itself, stmt_beyond, sub_beyond}
+use Rattle.builder.specs.Tables.{Classes, called_by, Reaching}
 use Rattle.ast.specs.Words.{word_of}
 use Rattle.ast.specs.Records.{unknown_of, right_top, stmt_of}
 use Rattle.ast.specs.Opens.{Open, contents_in, file_in}
 use Rattle.ast.specs.declared.sections.Sections.{Sections}
-use Rattle.builder.proofs.laws.Classes.{class_time, class_reserved}
+use Rattle.builder.proofs.laws.Classes.{class_usable}
 use Rattle.builder.proofs.laws.OpenRecords.{long, passes, model_is, unknown_is}
-use Rattle.builder.proofs.laws.Calling.{call_is, entry_below}
+use Rattle.builder.proofs.laws.Calling.{call_is, called_below}
 use Rattle.builder.proofs.laws.Rounds.{reaching_flag}
 use Rattle.definitions.proofs.StmtKinds.{stmt_submodel}
 
@@ -60,16 +62,16 @@ module _ (f : List ℕ) (s : Sections) (o : Open f s) (t : List ℕ) (h : Reachi
 -- ---- an unknown that lists itself, by the table of classes
 
 -- by its record's words
-pub lists_itself_is : (f : List ℕ) (s : Sections) → Open f s → (t : List ℕ) → Classes (file_in f s).names t → (u : ℕ) → u < s.counts.unknowns
+pub lists_itself_is : (f : List ℕ) (s : Sections) → Open f s → (t : List Class) → Classes (file_in f s).names t → (u : ℕ) → u < s.counts.unknowns
     → (name : ℕ) → name ≡ word_of (get_or (contents_in f s).unknowns u []) 0
-    → ((eqb (get_or t name 0) 0 || not (leb (get_or t name 0) 5)) && member name (unknown_of (contents_in f s).deps (get_or (contents_in f s).unknowns u [])).deps)
+    → (not (ghosts.eq (get_or t name Time) Reserved) && member name (unknown_of (contents_in f s).deps (get_or (contents_in f s).unknowns u [])).deps)
     ≡ lists_itself (file_in f s) (unknown_of (contents_in f s).deps (get_or (contents_in f s).unknowns u []))
 unfolding lists_itself unknown_of
 lists_itself_is f s o t h u l name en =
     let r = get_or (contents_in f s).unknowns u [] in
     let names = (file_in f s).names in
     let b : word_of r 0 < length names = omega (arith, (unknown_is f s o u l).name_below, (long f s o).file_names) in
-    rw (en, h.class (word_of r 0) b, class_time names (word_of r 0), class_reserved names (word_of r 0))
+    rw (en, class_usable h (word_of r 0) b) refl
 
 -- ---- positional arguments beyond, from the last argument down
 
@@ -116,46 +118,33 @@ module _ (f : List ℕ) (s : Sections) (o : Open f s) (end c total : ℕ) (l : e
 
 module _ (f : File) where
   -- a statement that calls nothing
-  pub too_none : (q : Stmt) → callee_of f q ≡ 0 → stmt_beyond f q ≡ false
-  unfolding callee_of stmt_beyond plus_one sub_beyond
+  pub too_none : (q : Stmt) → called_by f q ≡ none → stmt_beyond f q ≡ false
+  unfolding called_by stmt_beyond sub_beyond
   too_none (own q) e = refl
-  too_none (submodel n a c s) e = go (model_named f n) e
-    where
-      go : (o : Option ℕ) → plus_one o ≡ 0 → sub_beyond f a o ≡ false
-      go none e = refl
-      go (some i) e = absurd (omega arith)
+  too_none (submodel n a c s) e = ap (sub_beyond f a) e
 
   -- a submodel statement whose model is found
-  too_some : (n : ℕ) (a : Args) (c s : Span) → (callee_of f (submodel n a c s) ≡ 0 → ⊥)
-      → stmt_beyond f (submodel n a c s) ≡ args_beyond (length (model_at f (callee_of f (submodel n a c s) - 1)).unknowns) a
-  unfolding callee_of stmt_beyond plus_one sub_beyond
-  too_some n a c s e = go (model_named f n) e
-    where
-      go : (o : Option ℕ) → (plus_one o ≡ 0 → ⊥) → sub_beyond f a o ≡ args_beyond (length (model_at f (plus_one o - 1)).unknowns) a
-      go none e = absurd (e refl)
-      go (some i) e = rw (sub-one (suc i)) refl
+  too_some : (n : ℕ) (a : Args) (c s : Span) (m : ℕ) → called_by f (submodel n a c s) ≡ some m → stmt_beyond f (submodel n a c s) ≡ args_beyond (length (model_at f m).unknowns) a
+  unfolding called_by stmt_beyond sub_beyond
+  too_some n a c s m e = ap (sub_beyond f a) e
 
-module _ (f : List ℕ) (s : Sections) (o : Open f s) (q : ℕ) (h : q < s.counts.stmts) where
-  -- statement q, by its callee and the arguments of its call
-  pub too_many_is : (callee_of (file_in f s) (stmt_of (contents_in f s).nodes (get_or (contents_in f s).stmts q [])) ≡ 0 → ⊥)
-      → stmt_beyond (file_in f s) (stmt_of (contents_in f s).nodes (get_or (contents_in f s).stmts q []))
-      ≡ args_beyond (length (model_at (file_in f s) (callee_of (file_in f s) (stmt_of (contents_in f s).nodes (get_or (contents_in f s).stmts q [])) - 1)).unknowns)
+module _ (f : List ℕ) (s : Sections) (o : Open f s) (q : ℕ) (l : q < s.counts.stmts) (c : ℕ)
+    (e : called_by (file_in f s) (stmt_of (contents_in f s).nodes (get_or (contents_in f s).stmts q [])) ≡ some c) where
+  -- statement q, by the model that it calls and the arguments of its call
+  too_many_is : stmt_beyond (file_in f s) (stmt_of (contents_in f s).nodes (get_or (contents_in f s).stmts q []))
+      ≡ args_beyond (length (model_at (file_in f s) c).unknowns)
       (args_before (contents_in f s).nodes (right_top (get_or (contents_in f s).stmts q [])) (op_at (contents_in f s).nodes (right_top (get_or (contents_in f s).stmts q []))) (size_at (contents_in f s).nodes (right_top (get_or (contents_in f s).stmts q [])) - 1))
-  too_many_is ne =
-      let e = stmt_submodel (contents_in f s).nodes (get_or (contents_in f s).stmts q []) (call_is f s o q h ne).kind in
-      rw e (too_some (file_in f s) _ _ _ _ (λ z. ne (ap (callee_of (file_in f s)) e ∙ z)))
+  too_many_is =
+      let k = stmt_submodel (contents_in f s).nodes (get_or (contents_in f s).stmts q []) (call_is f s o q l c e).kind in
+      ap (stmt_beyond (file_in f s)) k ∙ too_some (file_in f s) _ _ _ _ c (sym (ap (called_by (file_in f s)) k) ∙ e)
 
-module _ (f : List ℕ) (s : Sections) (o : Open f s) (t : List ℕ) (h : Callees f s t) (q : ℕ) (l : q < s.counts.stmts) where
-  -- the arguments of its call, against the unknowns of the model that it calls
-  pub entry_beyond : (n top : ℕ) → (get_or t q 0 ≡ 0 → ⊥) → n ≡ word_of (get_or (contents_in f s).models (get_or t q 0 - 1) []) 2 → top ≡ word_of (get_or (contents_in f s).stmts q []) 3
+  -- the arguments of its call, against the unknowns of that model
+  pub call_beyond : (n top : ℕ) → n ≡ word_of (get_or (contents_in f s).models c []) 2 → top ≡ word_of (get_or (contents_in f s).stmts q []) 3
       → args_beyond n (args_before (contents_in f s).nodes top (op_at (contents_in f s).nodes top) (size_at (contents_in f s).nodes top - 1))
       ≡ stmt_beyond (file_in f s) (stmt_of (contents_in f s).nodes (get_or (contents_in f s).stmts q []))
-  entry_beyond n top ne en et =
+  call_beyond n top en et =
       let ns = (contents_in f s).nodes in
       let r = right_top (get_or (contents_in f s).stmts q []) in
-      let e = h.callee q l in
-      let b : get_or t q 0 - 1 < s.counts.models = omega (arith, entry_below f s o t h q l) in
-      let k : n ≡ length (model_at (file_in f s) (callee_of (file_in f s) (stmt_of ns (get_or (contents_in f s).stmts q [])) - 1)).unknowns =
-      en ∙ sym (model_is f s o (get_or t q 0 - 1) b).unknowns_long ∙ ap (λ (c : ℕ). length (model_at (file_in f s) (c - 1)).unknowns) e
-      in
-      ap (λ (j : ℕ). args_beyond n (args_before ns j (op_at ns j) (size_at ns j - 1))) et ∙ ap (λ (j : ℕ). args_beyond j (args_before ns r (op_at ns r) (size_at ns r - 1))) k ∙ sym (too_many_is f s o q l (λ z. ne (e ∙ z)))
+      let b : c < s.counts.models = omega (arith, called_below (file_in f s) _ c e, (long f s o).file_models) in
+      let k : n ≡ length (model_at (file_in f s) c).unknowns = en ∙ sym (model_is f s o c b).unknowns_long in
+      ap (λ (j : ℕ). args_beyond n (args_before ns j (op_at ns j) (size_at ns j - 1))) et ∙ ap (λ (j : ℕ). args_beyond j (args_before ns r (op_at ns r) (size_at ns r - 1))) k ∙ sym too_many_is

@@ -43,10 +43,9 @@ unknown_name_past (u ∷ us) zero h = absurd (omega arith)
 unknown_name_past (u ∷ us) (suc i) h = unknown_name_past us i (omega arith)
 
 -- a keyword's is itself
-pub target_keyword : (us : List Unknown) (i k : ℕ) → (k ≡ 0 → ⊥) → k ≡ replaced_name us i k
+pub target_keyword : (us : List Unknown) (i k n : ℕ) → k ≡ suc n → suc n ≡ replaced_name us i k
 unfolding replaced_name
-target_keyword us i zero h = absurd (h refl)
-target_keyword us i (suc k) h = refl
+target_keyword us i k n h = rw h refl
 
 target_place : (us : List Unknown) (i k : ℕ) → k ≡ 0 → replaced_name us i k ≡ unknown_name us i
 unfolding replaced_name
@@ -57,7 +56,7 @@ module _ (f : List ℕ) (s : Sections) (o : Open f s) (m : ℕ) (l : m < s.count
     (e : many ≡ unknown_count (get_or (contents_in f s).models m [])) where
   -- a positional one's is its unknown's name
   pub target_unknown : (first w : ℕ) → i < many → first ≡ first_unknown (get_or (contents_in f s).models m []) → w ≡ word_of (get_or (contents_in f s).unknowns (first + i) []) 0
-      → (w + 1 ≡ replaced_name (model_at (file_in f s) m).unknowns i k) × (w + 1 ≤ s.counts.names)
+      → (suc w ≡ replaced_name (model_at (file_in f s) m).unknowns i k) × (w < s.counts.names)
   unfolding unknown_of
   target_unknown first w h ef ew =
       let c : i < unknown_count (get_or (contents_in f s).models m []) = omega arith in
@@ -91,19 +90,17 @@ module _ (ns : List (List ℕ)) where
       let ne : eqb (suc n) (suc j) ≡ false = ne_eqb (suc n) (suc j) (λ z. eqb-false n j q (omega arith)) in
       rw ne refl
 
-  -- the entry of name t - 1 is set where it is free
-  pub noted : (row row' : List ℕ) (t v : ℕ) → (t ≡ 0 → ⊥) → t - 1 < length row → 0 < v → row' ≡ cond (eqb (get_or row (t - 1) 0) 0) (set row (t - 1) v) row
-      → (by : Replacements) (n : ℕ) → over ns row' by n ≡ over ns row (replacing t (tree_at ns (v - 1)) by) n
-  noted row row' t v ne h p e by n =
-      let et : suc (t - 1) ≡ t = omega arith in
-      ap (λ (x : List ℕ). over ns x by n) e ∙ noted_by row (t - 1) v by n h p _ refl _ refl ∙ ap (λ (x : ℕ). over ns row (replacing x (tree_at ns (v - 1)) by) n) et
+  -- the entry of name j is set where it is free
+  pub noted : (row row' : List ℕ) (j v : ℕ) → j < length row → 0 < v → row' ≡ cond (eqb (get_or row j 0) 0) (set row j v) row
+      → (by : Replacements) (n : ℕ) → over ns row' by n ≡ over ns row (replacing (suc j) (tree_at ns (v - 1)) by) n
+  noted row row' j v h p e by n = ap (λ (x : List ℕ). over ns x by n) e ∙ noted_by row j v by n h p _ refl _ refl
 
   -- nothing is noted
-  pub noted_none : (row : List ℕ) (t : ℕ) (e : Expr) → t ≡ 0 → (by : Replacements) (n : ℕ) → over ns row by n ≡ over ns row (replacing t e by) n
+  pub noted_none : (row : List ℕ) (e : Expr) (by : Replacements) (n : ℕ) → over ns row by n ≡ over ns row (replacing 0 e by) n
   unfolding over replacing
-  noted_none row t e z by n =
+  noted_none row e by n =
       let ne : eqb (suc n) 0 ≡ false = ne_eqb (suc n) 0 (λ q. omega arith) in
-      rw (z, ne) refl
+      rw ne refl
 
   free_fit : (k : ℕ) (row : List ℕ) (j v : ℕ) (b : Bool) → RowsFit ns k row → j < length row → 0 < v → v - 1 < k → is_expr ns (v - 1) ≡ true → RowsFit ns k (cond b (set row j v) row)
   free_fit k row j v true fit h p l x =

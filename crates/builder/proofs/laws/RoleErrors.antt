@@ -16,7 +16,7 @@ use Rattle.definitions.specs.Numbers.{name_not_found, wrong_start, rate_invalid}
 use Rattle.definitions.specs.Variables.{Error, error}
 use Rattle.definitions.specs.Roles as roles
 use Rattle.ast.specs.Numbers.{number_of}
-use Rattle.area.specs.Listing.{kind_number, found_as, Lists, Room}
+use Rattle.area.specs.Listing.{kind_number, found_as, Lists}
 use Rattle.area.specs.declared.errors.Found.{Found}
 use Rattle.area.specs.declared.errors.ErrorKind.{ErrorKind}
 use Rattle.std.specs.Prelude as rust
@@ -129,11 +129,9 @@ module _ (b : List ℕ) (z : Sizes) (g : Flat → List Error) (d d' : List ℕ) 
     there : i < length (flats_in b z)
     there = omega (arith, flats_count b z)
 
-    -- there is room for what is found of statement i
-    pub statement_room : Room d n (each g (flats_in b z)) → (4096 ≤ length d') × (r < 2 ^ 40)
-    statement_room m =
-        let x = run_room g (flats_in b z) (flat_in b z i) i there (flat_here b z i h) d d' n r m p in
-        (x.long, omega (arith, x.few))
+    -- what is found of statement i can be counted
+    pub statement_room : n + length (each g (flats_in b z)) < 2 ^ 40 → r < 2 ^ 40
+    statement_room m = omega (arith, run_room g (flats_in b z) (flat_in b z i) i there (flat_here b z i h) d d' n r m p)
 
     -- listed behind those before
     pub statement_goes : (x : rust.Option Found) → found_as x ≡ g (flat_in b z i) → (d'' : List ℕ) (r' : ℕ) → Lists d' r (found_as x) r' d'' → Lists d n (each g (take (i + 1) (flats_in b z))) r' d''

@@ -3,10 +3,8 @@ use mathlib.Core.Path.{◌≡◌, refl, sym, ap, ◌∙◌}
 use mathlib.Core.List.{List}
 use Prim.Native.Nat.{ℕ, ◌+◌, ◌*◌, ◌^◌, min, ◌≤◌, ◌<◌}
 use native.Mathlib.Omega.{arith}
-use lib.Dec.{eqb}
 use lib.ListN.{length, take, get_or, length-append}
 use Rattle.ast.specs.Numbers.{number_of}
-use Rattle.functions.specs.Lists.{times}
 use Rattle.ast.specs.Words.{bytes_of}
 use Rattle.ast.specs.Bytes.{put}
 use Rattle.ast.specs.Encode.{encode}
@@ -21,8 +19,10 @@ use Rattle.definitions.specs.Build.{answer_from}
 use Rattle.area.specs.Sections.{Small, stmts_at, vars_at, errors_at, area_stmts, area_vars, column}
 use Rattle.area.specs.Listing.{Lists}
 use Rattle.area.specs.declared.sections.Sizes.{Sizes}
+use Rattle.builder.specs.declared.names.Class.{Class}
 use Rattle.builder.specs.Bounding.{floats, Floating}
 use Rattle.builder.specs.Allocating.{names_in, Flattened, Numbered}
+use Rattle.builder.specs.Tables.{Callees}
 use Rattle.builder.specs.VarRecords.{unheld_records, held_from, NothingHeld, Headed, head_words}
 use Rattle.builder.specs.Root.{flats_of, scope_at, time_at, roles_at, fates_at, answer_at, Known, Rooted, Unfated, Fated, Held, Erring, roles_by, lacking_by, fated_by, errors_by}
 use Rattle.builder.proofs.laws.VarAnswers.{head_is}
@@ -39,7 +39,7 @@ lower_float : (b : Bounds) (x : declared.Bounds) → Floating b x → x.lower �
 unfolding floats
 lower_float b x h = ap (λ (y : declared.Bounds). y.lower) h.same
 
-module _ (f : List ℕ) (s : Sections) (classes callees numbers : List ℕ) (m i : ℕ) (z : Sizes) (time : declared.Bounds) (t : Rooted f s classes callees numbers m i z time) where
+module _ (f : List ℕ) (s : Sections) (classes : List Class) (numbers : List ℕ) (m i : ℕ) (z : Sizes) (time : declared.Bounds) (t : Rooted f s classes numbers m i z time) where
   k : Known f s m classes numbers z
   k = t.known
 
@@ -92,9 +92,9 @@ module _ (f : List ℕ) (s : Sections) (classes callees numbers : List ℕ) (m i
 
   -- ---- errors
 
-  pub errors_needs : (b : List ℕ) → Held (file_in f s) m z b → Erring f s classes callees b numbers m z
-  errors_needs b u = record {
-    called = t.called;
+  pub errors_needs : (callees : List ℕ) → Callees f s callees → (b : List ℕ) → Held (file_in f s) m z b → Erring f s classes callees b numbers m z
+  errors_needs callees w b u = record {
+    called = record { opened = k.is_open; classes = k.classed; callees = w };
     model = k.model;
     righted = righted f s m classes numbers z k b u;
     flattened = (s.counts.names, fated_flattened f s m z _ b k.is_open k.sizes u);
@@ -103,9 +103,9 @@ module _ (f : List ℕ) (s : Sections) (classes callees numbers : List ℕ) (m i
   }
 
   module _ (left states : ℕ) (eq : left ≡ left_count (roles_at (file_in f s) m)) (es : states ≡ length (lacking (scope_at (file_in f s) m).vars (roles_at (file_in f s) m)))
-      (d d' b : List ℕ) (r : ℕ) (u : Held (file_in f s) m z b) (ld : length d ≡ 4096) (e : Lists d 0 (errors_by b z numbers time.lower (file_in f s) m left states) r d') where
+      (d d' b : List ℕ) (before r : ℕ) (none : before ≡ 0) (u : Held (file_in f s) m z b) (e : Lists d before (errors_by b z numbers time.lower (file_in f s) m left states) r d') where
     listed : Lists d 0 (answer_at (file_in f s) m).errors r d'
-    listed = rw (errors_tie f s m classes numbers z k b u time.lower lower left states eq es) at e
+    listed = rw (none, errors_tie f s m classes numbers z k b u time.lower lower left states eq es) at e
 
     errors_count : length (answer_at (file_in f s) m).errors ≤ 2360000
     unfolding answer_from
@@ -136,7 +136,7 @@ module _ (f : List ℕ) (s : Sections) (classes callees numbers : List ℕ) (m i
     module _ (b₁ : List ℕ) (c : b₁ ≡ put b (errors_at z) (take (16 * min r 256) d')) where
       -- names stay where they are
       names_stay_lem : get_or (names_in b₁ z) 0 0 ≡ get_or (names_in b z) 0 0
-      names_stay_lem = ap (λ (rs : List (List ℕ)). get_or (column 0 rs) 0 0) (section_read 12 z.vars (vars_at z) (48 * z.vars) _ b₁ held.wide (omega (arith, held.many, k.sizes.vars)) (vars_copied (file_in f s) m z k.sizes d d' b b₁ r u ld listed c ∙ u.vars) ∙ sym (read f s m classes numbers z k _ _ b u held))
+      names_stay_lem = ap (λ (rs : List (List ℕ)). get_or (column 0 rs) 0 0) (section_read 12 z.vars (vars_at z) (48 * z.vars) _ b₁ held.wide (omega (arith, held.many, k.sizes.vars)) (vars_copied (file_in f s) m z k.sizes d d' b b₁ r u listed c ∙ u.vars) ∙ sym (read f s m classes numbers z k _ _ b u held))
 
       -- ---- header
 
@@ -145,7 +145,7 @@ module _ (f : List ℕ) (s : Sections) (classes callees numbers : List ℕ) (m i
 
       pub header_needs : Headed f s m i r z time b₁
       header_needs =
-          let l = length_copied (file_in f s) m z k.sizes d d' b b₁ r u ld listed c in
+          let l = length_copied (file_in f s) m z k.sizes d d' b b₁ r u listed c in
           record {
             opened = k.is_open;
             model = k.model;
@@ -162,4 +162,4 @@ module _ (f : List ℕ) (s : Sections) (classes callees numbers : List ℕ) (m i
       unfolding answer_from node_count deps_of
       finished b₂ n e₂ en =
           let h = head_is (answer_at (file_in f s) m) z r i (last_bounds (file_in f s).names (get_or (names_in b₁ z) 0 0) from_zero (model_at (file_in f s) m).unknowns) k.sizes.nodes k.sizes.stmts k.sizes.vars k.sizes.deps (omega (arith, listed.0)) t.instances bounds in
-          answer_written (file_in f s) m z k.sizes d d' b b₁ r u ld listed c b₂ (e₂ ∙ ap (λ (ws : List ℕ). put b₁ 0 (bytes_of ws)) h) n en
+          answer_written (file_in f s) m z k.sizes d d' b b₁ r u listed c b₂ (e₂ ∙ ap (λ (ws : List ℕ). put b₁ 0 (bytes_of ws)) h) n en

@@ -11,7 +11,8 @@ use Rattle.ast.specs.Encode.{flat_nodes, encode}
 use Rattle.ast.specs.Opens.{Open, file_in}
 use Rattle.ast.specs.declared.sections.Sections.{Sections}
 use Rattle.definitions.specs.Flatten.{model_at, scope_of}
-use Rattle.builder.specs.Checking as checking
+use Rattle.builder.specs.declared.names.Class.{Class}
+use Rattle.builder.specs.Tables.{Classes}
 use Rattle.builder.specs.VariableTables.{roster_in, Numbers}
 use Rattle.builder.specs.Unfated.{unfated}
 use Rattle.area.specs.Sections.{stmts_at, vars_at, deps_at, part}
@@ -109,7 +110,7 @@ module _ (f : List ℕ) (s : Sections) (m : ℕ) (o : Open f s) (l : m < s.count
       let k = model_is f s o m l in
       omega (arith, length_variables (file_in f s).names us, k.unknowns_long, k.unknowns_within, o.laid.within.unknowns)
 
-  module _ (classes callees : List ℕ) (i q n : ℕ) (t : checking.Called f s classes callees) (h : length classes ≡ 256) (x : ExtentOf (file_in f s) m i q n)
+  module _ (classes : List Class) (i q n : ℕ) (t : Classes (file_in f s).names classes) (h : length classes ≡ 256) (x : ExtentOf (file_in f s) m i q n)
       (b₀ b₁ : List ℕ) (l₀ : length b₀ ≡ 55384) (e₁ : b₁ ≡ put (put b₀ 40 (encode (each flat_nodes (flats_of (file_in f s) m)))) (40 + 32 * n) (encode (unfated 0 (flats_of (file_in f s) m))))
     where
       -- the area has its length
@@ -121,7 +122,7 @@ module _ (f : List ℕ) (s : Sections) (m : ℕ) (o : Open f s) (l : m < s.count
       pub vars_needs : Bounded f s classes m × VarsRoom n q b₁
       vars_needs =
           let (hi, hn, hq) = few_flats (file_in f s) m (flats_of (file_in f s) m) x.small in (
-            record { opened = o; classed = t.classes; long = omega (arith, h, o.laid.within.names); model = l },
+            record { opened = o; classed = t; long = omega (arith, h, o.laid.within.names); model = l },
             record { nodes = omega (arith, x.nodes); stmts = omega (arith, x.stmts); long = flats_laid },
           )
 
@@ -130,12 +131,12 @@ module _ (f : List ℕ) (s : Sections) (m : ℕ) (o : Open f s) (l : m < s.count
         sizes = sizes_known (file_in f s) m i q n b₁ z b₂ x vars_few (deps_few f s o m) v
 
         pub model_known : Known f s m classes numbers z
-        model_known = record { is_open = o; model = l; classed = t.classes; classes_long = h; numbered = w; numbers_long = long; sizes = sizes }
+        model_known = record { is_open = o; model = l; classed = t; classes_long = h; numbered = w; numbers_long = long; sizes = sizes }
 
         pub all_laid : Unfated (file_in f s) m z b₂
         all_laid = laid_out (file_in f s) m n q z b₀ b₁ b₂ sizes l₀ (rw (sym v.nodes) at e₁) v
 
-        pub model_rooted : (time : floats.Bounds) → Floating (time_at (file_in f s) m) time → Rooted f s classes callees numbers m i z time
+        pub model_rooted : (time : floats.Bounds) → Floating (time_at (file_in f s) m) time → Rooted f s classes numbers m i z time
         model_rooted time g =
             let (hi, hn, hq) = few_flats (file_in f s) m (flats_of (file_in f s) m) x.small in
-            record { known = model_known; called = t; instances = x.instances; few = omega (arith, hi, x.instances); timed = g }
+            record { known = model_known; instances = x.instances; few = omega (arith, hi, x.instances); timed = g }

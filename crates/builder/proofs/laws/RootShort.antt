@@ -18,6 +18,7 @@ use Rattle.definitions.specs.Check.{lookup}
 use Rattle.definitions.specs.Flatten.{model_at, scope_of}
 use Rattle.definitions.specs.Roles.{takes_rate}
 use Rattle.area.specs.Sections.{stmts_at, vars_at, deps_at, area_vars, column}
+use Rattle.builder.specs.declared.names.Class.{Class}
 use Rattle.builder.specs.VariableTables.{unknowns_in, roster_in}
 use Rattle.builder.specs.Allocating.{names_in, states_in, indexes_in, rates_in, Numbered, Agree}
 use Rattle.builder.specs.Root.{scope_at, time_at, Known, PartsLaid}
@@ -65,7 +66,7 @@ module _ (f : List ℕ) (s : Sections) (m : ℕ) where
       named [] l = absurd (omega arith)
       named (x ∷ vs) l = refl
 
-  module _ (classes numbers : List ℕ) (z : Sizes) (k : Known f s m classes numbers z)
+  module _ (classes : List Class) (numbers : List ℕ) (z : Sizes) (k : Known f s m classes numbers z)
       (rs ws : List (List ℕ)) (b : List ℕ) (a : PartsLaid (file_in f s) m z rs ws b) (w : Columns (scope_at (file_in f s) m).vars ws) where
     -- the variables' records
     pub read : area_vars b z ≡ ws

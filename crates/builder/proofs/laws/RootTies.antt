@@ -1,14 +1,12 @@
 -- What the code works out over the records of an area is what the definitions say: roles, fates, what the variables hold, and errors.
 use mathlib.Core.Path.{◌≡◌, refl, sym, ap, ap₂, ◌∙◌}
-use mathlib.Core.Bool.{cond}
-use mathlib.Core.List.{List, [], ◌∷◌, map, map-map}
+use mathlib.Core.List.{List, [], ◌∷◌, map}
 use Prim.Native.Nat.{ℕ, ◌+◌}
 use native.Mathlib.Omega.{arith}
-use lib.Dec.{eqb}
 use lib.ListN.{length, take, get_or}
 use lib.Ieee.{Float}
 use Rattle.ast.specs.Numbers.{number_of}
-use Rattle.functions.specs.Lists.{each, times}
+use Rattle.functions.specs.Lists.{each}
 use Rattle.ast.specs.Tree.{Flat, equation, rate, flat_size}
 use Rattle.ast.specs.Opens.{file_in}
 use Rattle.ast.specs.declared.sections.Sections.{Sections}
@@ -19,6 +17,7 @@ use Rattle.definitions.specs.Answer.{flat_words, flat_records, variable_records}
 use Rattle.definitions.specs.Build.{answer_from}
 use Rattle.area.specs.Sections.{area_nodes, area_stmts, area_vars, column}
 use Rattle.area.specs.declared.sections.Sizes.{Sizes}
+use Rattle.builder.specs.declared.names.Class.{Class}
 use Rattle.builder.specs.Tables.{lacking_in}
 use Rattle.builder.specs.Fating.{fate_pair}
 use Rattle.builder.specs.Unfated.{unfated_words, unfated}
@@ -47,7 +46,7 @@ same_six first [] fs h = refl
 same_six first (q ∷ qs) [] h = absurd (omega arith)
 same_six first (q ∷ qs) (x ∷ fs) h = ap₂ ◌∷◌ (six_words first q x) (same_six (first + flat_size q) qs fs (omega arith))
 
-module _ (f : List ℕ) (s : Sections) (m : ℕ) (classes numbers : List ℕ) (z : Sizes) (k : Known f s m classes numbers z) where
+module _ (f : List ℕ) (s : Sections) (m : ℕ) (classes : List Class) (numbers : List ℕ) (z : Sizes) (k : Known f s m classes numbers z) where
   -- ---- before the fates are known
 
   module _ (lower : Float) (el : lower ≡ number_of (time_at (file_in f s) m).lower) (b : List ℕ) (u : Unfated (file_in f s) m z b) where

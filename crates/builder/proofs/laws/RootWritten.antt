@@ -74,7 +74,7 @@ module _ (f : File) (m : ℕ) (z : Sizes) (k : SizesOf f m z) where
   -- ---- errors and header
 
   -- the errors listed apart, copied to their section
-  module _ (d d' b b₁ : List ℕ) (r : ℕ) (u : Held f m z b) (ld : length d ≡ 4096) (e₀ : Lists d 0 (answer_at f m).errors r d') (e₁ : b₁ ≡ put b (errors_at z) (take (16 * min r 256) d')) where
+  module _ (d d' b b₁ : List ℕ) (r : ℕ) (u : Held f m z b) (e₀ : Lists d 0 (answer_at f m).errors r d') (e₁ : b₁ ≡ put b (errors_at z) (take (16 * min r 256) d')) where
     abbrev es : List ℕ
     es = encode (map error_words (take 256 (answer_at f m).errors))
 

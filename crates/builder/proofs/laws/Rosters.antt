@@ -3,13 +3,14 @@ use mathlib.Core.Path.{◌≡◌, refl, sym, ap, ◌∙◌}
 use mathlib.Core.Bool.{Bool, true, false, cond, ◌||◌}
 use mathlib.Core.List.{List, [], ◌∷◌, ◌++◌}
 use mathlib.Core.Option.{none, some}
-use Prim.Native.Nat.{ℕ, suc, ◌+◌, ◌-◌, ◌≤◌, ◌<◌}
+use Prim.Native.Nat.{ℕ, suc, ◌+◌, ◌≤◌, ◌<◌}
 use native.Mathlib.Numerals.{add-one}
 use native.Mathlib.Omega.{arith}
 use borrow.Author.Tests.{eqb-true, eqb-false, eq-eqb, ne_eqb}
-use lib.Dec.{eqb, leb}
+use lib.Dec.{eqb}
 use lib.ListN.{length, drop, get_or, set, length-append, length-set}
 use lib.Seq.{get_or-set_same, get_or-set_other}
+use Rattle.std.specs.Prelude.{Option, None, Some}
 use Rattle.functions.specs.Lists.{any, member, place_from, place, plus_one}
 use Rattle.functions.proofs.Lists.{drop_here, drop_past}
 use Rattle.ast.specs.Tree.{Unknown}
@@ -22,10 +23,13 @@ use Rattle.area.proofs.VarsWritten.{vars_own, column_long, column_next}
 use Rattle.definitions.specs.Names.{is_reserved, time_name}
 use Rattle.definitions.specs.Variables as vars
 use Rattle.definitions.specs.Variables.{number_of, variable_names}
-use Rattle.builder.specs.Tables.{Classes, Blank}
+use Rattle.builder.specs.declared.names.Class.{Class}
+use Rattle.builder.specs.declared.names.Class.TheVariants.{Time}
+use Rattle.builder.specs.Tables.{reserved_class, Classes, Blank}
 use Rattle.builder.specs.VariableTables.{declare_one, Listing, unknowns_in, roster_in, RosterRoom}
 use Rattle.builder.specs.Allocating.{names_in}
 use Rattle.builder.specs.Root.{VarsRoom}
+use Rattle.builder.specs.Starting.{place_as}
 use Rattle.builder.proofs.laws.Classes.{class_reserved}
 use Rattle.definitions.proofs.Counts.{or_false}
 use Rattle.builder.proofs.laws.OpenUnknowns.{no_unknown}
@@ -70,24 +74,25 @@ module _ (p : ℕ → Bool) where
 
 -- ---- t alone
 
-module _ (time : ℕ) (names numbers : List ℕ) (are : names ≡ time ∷ []) (every : length numbers ≡ 256) (blank : (n : ℕ) → get_or numbers n 0 ≡ 0) (few : time ≤ 256) where
-  alone_at : (n : ℕ) (b : Bool) → 0 < time → eqb (suc n) time ≡ b → get_or (set numbers (time - 1) 1) n 0 ≡ plus_one (cond b (some 0) none)
-  unfolding plus_one
-  alone_at n true h e = let q : n ≡ time - 1 = omega (arith, eqb-true (suc n) time e) in rw q (get_or-set_same numbers (time - 1) 1 0 (omega arith))
-  alone_at n false h e = get_or-set_other numbers (time - 1) n 1 0 (λ q. eqb-false (suc n) time e (omega arith)) ∙ blank n
+module _ (time : ℕ) (names numbers : List ℕ) (are : names ≡ time ∷ []) (every : length numbers ≡ 256) (blank : (n : ℕ) → get_or numbers n 0 ≡ 0) where
+  -- where name m is t
+  module _ (m : ℕ) (h : time ≡ suc m) (few : m < 256) where
+    alone_at : (n : ℕ) (b : Bool) → eqb (suc n) time ≡ b → get_or (set numbers m 1) n 0 ≡ plus_one (cond b (some 0) none)
+    unfolding plus_one
+    alone_at n true e = let q : n ≡ m = omega (arith, h, eqb-true (suc n) time e) in rw q (get_or-set_same numbers m 1 0 (omega arith))
+    alone_at n false e = get_or-set_other numbers m n 1 0 (λ q. eqb-false (suc n) time e (omega arith)) ∙ blank n
 
-  -- where a name is t
-  time_listed : 0 < time → Listing (time ∷ []) names (set numbers (time - 1) 1)
-  unfolding number_of place place_from
-  time_listed h = record {
-    are = are;
-    few = omega arith;
-    numbers = record { number = λ n l. alone_at n (eqb (suc n) time) h refl };
-    every = simp length-set every;
-  }
+    time_listed : Listing (time ∷ []) names (set numbers m 1)
+    unfolding number_of place place_from
+    time_listed = record {
+      are = are;
+      few = omega arith;
+      numbers = record { number = λ n l. alone_at n (eqb (suc n) time) refl };
+      every = simp length-set every;
+    }
 
   -- where no name is t
-  none_listed : time ≤ 0 → Listing (time ∷ []) names numbers
+  none_listed : time ≡ 0 → Listing (time ∷ []) names numbers
   unfolding number_of place place_from plus_one
   none_listed h = record {
     are = are;
@@ -166,20 +171,23 @@ module _ (z : Sizes) (b b' : List ℕ) (room : RosterRoom z b) where
     long = omega (arith, long, room.long, g.nodes, g.stmts);
   }
 
-  module _ (time : ℕ) (numbers : List ℕ) (blank : Blank 256 numbers) (few : time ≤ 256) (one : z.vars ≡ 1) (p : VarsAre z b (with_word (area_vars b z) 0 0 time) b') where
+  module _ (time : Option ℕ) (numbers : List ℕ) (blank : Blank 256 numbers) (one : z.vars ≡ 1) (w : ℕ) (e : w ≡ plus_one (place_as time)) (p : VarsAre z b (with_word (area_vars b z) 0 0 w) b') where
     -- t's name alone
-    name_alone : names_in b' z ≡ time ∷ []
+    name_alone : names_in b' z ≡ plus_one (place_as time) ∷ []
     unfolding column section records
     name_alone =
-        column_next (record { nodes = z.nodes; stmts = z.stmts; vars = 0; deps = z.deps }) z b b' 0 time (record { nodes = refl; stmts = refl; vars = omega arith; deps = refl }) one (vars_room z b room) (omega arith) p
+        column_next (record { nodes = z.nodes; stmts = z.stmts; vars = 0; deps = z.deps }) z b b' 0 w (record { nodes = refl; stmts = refl; vars = omega arith; deps = refl }) one (vars_room z b room) (omega arith) p
+        ∙ ap (λ (n : ℕ). n ∷ []) e
 
-    -- t put first, where a name is t
-    pub time_put : 0 < time → Listing (time ∷ []) (names_in b' z) (set numbers (time - 1) 1) × VarsAre z b (area_vars b' z) b'
-    time_put h = (time_listed time (names_in b' z) numbers name_alone blank.long blank.zeros few h, vars_own z b b' _ p)
+    -- t put first, where name m is t
+    pub time_put : (m : ℕ) → time ≡ Some m → m < 256 → Listing (plus_one (place_as time) ∷ []) (names_in b' z) (set numbers m 1) × VarsAre z b (area_vars b' z) b'
+    unfolding place_as plus_one
+    time_put m h few = (time_listed (plus_one (place_as time)) (names_in b' z) numbers name_alone blank.long blank.zeros m (rw h refl) few, vars_own z b b' _ p)
 
     -- where no name is t
-    pub none_put : time ≤ 0 → Listing (time ∷ []) (names_in b' z) numbers × VarsAre z b (area_vars b' z) b'
-    none_put h = (none_listed time (names_in b' z) numbers name_alone blank.long blank.zeros few h, vars_own z b b' _ p)
+    pub none_put : time ≡ None → Listing (plus_one (place_as time) ∷ []) (names_in b' z) numbers × VarsAre z b (area_vars b' z) b'
+    unfolding place_as plus_one
+    none_put h = (none_listed (plus_one (place_as time)) (names_in b' z) numbers name_alone blank.long blank.zeros (rw h refl), vars_own z b b' _ p)
 
   -- a new name put behind the others
   pub declare_put : z.vars < 129 → (name : ℕ) (numbers : List ℕ) → Listing (names_in b z) (names_in b z) numbers → name < 256 → get_or numbers name 0 ≡ 0
@@ -196,11 +204,6 @@ own_names : (vs names numbers : List ℕ) → Listing vs names numbers → Listi
 own_names vs names numbers l = rw (sym l.are) at l
 
 -- ---- an unknown after the other
-
-module _ (names : List (List ℕ)) (classes : List ℕ) (h : Classes names classes) where
-  -- a class that is reserved
-  reserved_class : (n : ℕ) → n < length names → leb (get_or classes n 0) 5 ≡ is_reserved names n
-  reserved_class n l = rw (h.class n l) (class_reserved names n)
 
 -- one step of `declare`
 step : List (List ℕ) → List ℕ → ℕ → List ℕ
@@ -251,5 +254,5 @@ pub roster_last : (f : List ℕ) (s : Sections) (m i : ℕ) (names numbers : Lis
 roster_last f s m i names numbers k e h = rw (e, declare_done (file_in f s).names names (unknowns_in f s m) i h) k
 
 -- whether a name is reserved, by the classes of an open file's names
-pub reserved_in : (f : List ℕ) (s : Sections) (classes : List ℕ) → Open f s → Classes (file_in f s).names classes → (n : ℕ) → n < s.counts.names → leb (get_or classes n 0) 5 ≡ is_reserved (file_in f s).names n
-reserved_in f s classes o h n l = reserved_class (file_in f s).names classes h n (omega (arith, names_long f s))
+pub reserved_in : (f : List ℕ) (s : Sections) (classes : List Class) → Open f s → Classes (file_in f s).names classes → (n : ℕ) → n < s.counts.names → reserved_class (get_or classes n Time) ≡ is_reserved (file_in f s).names n
+reserved_in f s classes o h n l = class_reserved h n (omega (arith, names_long f s))

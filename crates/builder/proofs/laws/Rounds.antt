@@ -3,7 +3,8 @@ use mathlib.Core.Path.{◌≡◌, refl, sym, ap, ◌∙◌}
 use mathlib.Core.Bool.{Bool, true, false, cond, ◌||◌, or-false}
 use mathlib.Core.List.{List, [], ◌∷◌}
 use mathlib.Core.Logic.{◌⊎◌, ⊎_elim}
-use Prim.Native.Nat.{ℕ, ◌+◌, ◌-◌, ◌*◌, ◌≤◌, ◌<◌}
+use mathlib.Core.Option.{none, some}
+use Prim.Native.Nat.{ℕ, ◌+◌, ◌*◌, ◌≤◌, ◌<◌}
 use native.Mathlib.Omega.{arith}
 use native.Mathlib.Numerals.{add-one}
 use native.Mathlib.Nat.{eq-or-lt_of_le}
@@ -13,7 +14,7 @@ use lib.Seq.{take-suc, take_all}
 use Rattle.functions.specs.Lists.{any, each, reaches, flag}
 use Rattle.ast.specs.Tree.{Stmt, File}
 use Rattle.definitions.specs.Flatten.{model_at, stmt_models, submodels}
-use Rattle.builder.specs.Tables.{callee_of, Callees, Reaching}
+use Rattle.builder.specs.Tables.{called_by, Reaching}
 use Rattle.builder.specs.Rounds.{onward, steps_on, Added, Stepped}
 use Rattle.ast.specs.Words.{word_of}
 use Rattle.ast.specs.Records.{stmt_of}
@@ -63,14 +64,14 @@ module _ (f : File) where
 
   module _ (old : List ℕ) (b : ℕ) (q : Stmt) where
     -- a statement that calls nothing goes nowhere
-    onward_none : callee_of f q ≡ 0 → any (onward old b) (stmt_models f q) ≡ false
+    onward_none : called_by f q ≡ none → any (onward old b) (stmt_models f q) ≡ false
     unfolding any
     onward_none e = ap (any (onward old b)) (calls_none f q e)
 
     -- any other goes to its callee, and on from there
-    onward_one : (callee_of f q ≡ 0 → ⊥) → any (onward old b) (stmt_models f q) ≡ onward old b (callee_of f q - 1)
+    onward_one : (c : ℕ) → called_by f q ≡ some c → any (onward old b) (stmt_models f q) ≡ onward old b c
     unfolding any
-    onward_one e = ap (any (onward old b)) (calls_one f q e) ∙ or-false _
+    onward_one c e = ap (any (onward old b)) (calls_one f q c e) ∙ or-false _
 
   module _ (n : ℕ) (old : List ℕ) where
     -- before the first row
@@ -131,26 +132,23 @@ module _ (f : File) where
   pub reaching_flag : (n k : ℕ) (t : List ℕ) → Reaching f n k t → (a b : ℕ) → a < n → b < n → eqb (get_or t (32 * a + b) 0) 1 ≡ reaches (submodels f) k a b
   reaching_flag n k t r a b ha hb = ap (λ (x : ℕ). eqb x 1) (r.reach a b ha hb) ∙ flag_one _
 
--- ---- by the table of callees
+-- ---- by the model that a statement calls
 
-module _ (f : List ℕ) (s : Sections) (t : List ℕ) (h : Callees f s t) (q : ℕ) (l : q < s.counts.stmts) (old : List ℕ) (n a : ℕ) (was : List ℕ) where
-  -- statement q adds nothing where its entry is 0
-  pub called_none : get_or t q 0 ≡ 0 → Added n a (λ y. any (onward old y) (stmt_models (file_in f s) (stmt_of (contents_in f s).nodes (get_or (contents_in f s).stmts q [])))) was was
+module _ (f : File) (q : Stmt) (old : List ℕ) (n a : ℕ) (was : List ℕ) where
+  -- statement q adds nothing where it calls none
+  pub called_none : called_by f q ≡ none → Added n a (λ y. any (onward old y) (stmt_models f q)) was was
   called_none e = record {
     size = refl;
-    row = λ y k. sym (ap (λ (b : Bool). cond b 1 (get_or was (32 * a + y) 0)) (onward_none (file_in f s) old y _ (sym (h.callee q l) ∙ e)));
+    row = λ y k. sym (ap (λ (b : Bool). cond b 1 (get_or was (32 * a + y) 0)) (onward_none f old y q e));
     before = λ z k. refl;
     behind = λ z k. refl;
   }
 
-  -- else what the model of its entry does
-  pub called_one : (new : List ℕ) → (get_or t q 0 ≡ 0 → ⊥) → Added n a (λ y. onward old y (get_or t q 0 - 1)) was new
-      → Added n a (λ y. any (onward old y) (stmt_models (file_in f s) (stmt_of (contents_in f s).nodes (get_or (contents_in f s).stmts q [])))) was new
-  called_one new e d = record {
+  -- else what that model does
+  pub called_one : (c : ℕ) (new : List ℕ) → called_by f q ≡ some c → Added n a (λ y. onward old y c) was new → Added n a (λ y. any (onward old y) (stmt_models f q)) was new
+  called_one c new e d = record {
     size = d.size;
-    row = λ y k.
-        d.row y k ∙ ap (λ (b : Bool). cond b 1 (get_or was (32 * a + y) 0))
-        (ap (onward old y) (ap (λ (c : ℕ). c - 1) (h.callee q l)) ∙ sym (onward_one (file_in f s) old y _ (λ z. e (h.callee q l ∙ z))));
+    row = λ y k. d.row y k ∙ ap (λ (b : Bool). cond b 1 (get_or was (32 * a + y) 0)) (sym (onward_one f old y q c e));
     before = d.before;
     behind = d.behind;
   }

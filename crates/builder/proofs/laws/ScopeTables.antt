@@ -3,12 +3,12 @@ use mathlib.Core.Path.{◌≡◌, refl, sym, ap, ◌∙◌}
 use mathlib.Core.Bool.{Bool, true, false, cond, not, ◌||◌, or-true, or-false}
 use mathlib.Core.List.{List, [], ◌∷◌, ◌++◌, append-nil, map}
 use mathlib.Core.Option.{Option, none, some}
-use Prim.Native.Nat.{ℕ, zero, suc, ◌+◌, ◌-◌, ◌≤◌, ◌<◌}
+use Prim.Native.Nat.{ℕ, zero, suc, ◌+◌, ◌≤◌, ◌<◌}
 use native.Mathlib.Omega.{arith}
 use native.Mathlib.Decide.{ℕ_discrete}
 use native.Mathlib.Numerals.{add-one}
 use borrow.Author.Tests.{eqb-true, eq-eqb, ne_eqb}
-use lib.Dec.{eqb, leb}
+use lib.Dec.{eqb}
 use lib.ListN.{length, take, drop, get_or, set, length-set, length-append}
 use lib.Seq.{take-suc, take_all, get_or-set_same, get_or-set_other}
 use Rattle.functions.specs.Lists.{any, place_from, place, plus_one, text, same_text, member, flag, each, sum_of, to_list}
@@ -23,7 +23,10 @@ use Rattle.definitions.specs.Names.{text_of, spells, is_time, is_reserved, time_
 use Rattle.definitions.specs.Variables.{Variable, declare, variable_names, number_of, kept_deps, variable, variables_of, no_variable, at}
 use Rattle.definitions.specs.Check.{Scope, lookup}
 use Rattle.definitions.specs.Flatten.{model_at, scope_of}
-use Rattle.builder.specs.Tables.{Classes, Marks, kept_in, entry_of, VarsOf}
+use Rattle.builder.specs.declared.names.Class.{Class}
+use Rattle.builder.specs.declared.names.Class.TheVariants.{Time}
+use Rattle.builder.specs.contracts.names.ClassPartialEq.TheImpl.{ghosts}
+use Rattle.builder.specs.Tables.{reserved_class, Classes, Marks, kept_in, entry_of, VarsOf}
 use Rattle.builder.specs.Checking.{scope_in, unknown_in}
 use Rattle.builder.proofs.laws.Classes.{class_time, class_reserved}
 use Rattle.builder.proofs.laws.PutWords.{each_fits, of_named}
@@ -31,9 +34,9 @@ use Rattle.definitions.proofs.ListLaws.{any_append, place_below}
 
 -- ---- whether name n is t
 
-pub time_test : (names : List (List ℕ)) (cs : List ℕ) → Classes names cs → (n : ℕ) → n < length names → same_text (text "t") (get_or names n []) ≡ eqb (get_or cs n 0) 0
+pub time_test : (names : List (List ℕ)) (cs : List Class) → Classes names cs → (n : ℕ) → n < length names → same_text (text "t") (get_or names n []) ≡ ghosts.eq (get_or cs n Time) Time
 unfolding is_time spells text_of
-time_test names cs h n l = rw (h.class n l) (sym (class_time names n))
+time_test names cs h n l = sym (class_time h n l)
 
 -- ---- the names of variables, one unknown more
 
@@ -93,30 +96,30 @@ one_member k x = or-false (eqb k x)
 
 module _ (n x : ℕ) (t : List ℕ) (long : length t ≡ 256) (e : (k : ℕ) → get_or t k 0 ≡ 0) where
   -- where no name is t
-  pub marks_none : x ≡ 0 → Marks n (x ∷ []) t
+  pub marks_none : 0 ≡ x → Marks n (x ∷ []) t
   unfolding flag
   marks_none z = record { long = long; mark = λ k h. e k ∙ sym (ap flag (one_member (suc k) x ∙ ne_eqb (suc k) x (λ (q : suc k ≡ x). omega arith))) }
 
-  -- where one is
-  pub marks_time : (x ≡ 0 → ⊥) → x ≤ 256 → Marks n (x ∷ []) (set t (x - 1) 1)
+  -- where name y is
+  pub marks_time : (y : ℕ) → suc y ≡ x → y < 256 → Marks n (x ∷ []) (set t y 1)
   unfolding flag
-  marks_time z l = record { long = simp length-set long; mark = λ k h. go k (ℕ_discrete k (x - 1)) }
+  marks_time y z l = record { long = simp length-set long; mark = λ k h. go k (ℕ_discrete k y) }
     where
-      go : (k : ℕ) → Dec (k ≡ x - 1) → get_or (set t (x - 1) 1) k 0 ≡ flag (member (suc k) (x ∷ []))
+      go : (k : ℕ) → Dec (k ≡ y) → get_or (set t y 1) k 0 ≡ flag (member (suc k) (x ∷ []))
       go k (yes q) =
           let p : suc k ≡ x = omega (arith, z, q) in
-          rw q (get_or-set_same t (x - 1) 1 0 (omega (arith, long, z))) ∙ sym (ap flag (one_member (suc k) x ∙ eq-eqb (suc k) x p))
-      go k (no q) = get_or-set_other t (x - 1) k 1 0 q ∙ e k ∙ sym (ap flag (one_member (suc k) x ∙ ne_eqb (suc k) x (λ (p : suc k ≡ x). q (omega (arith, p)))))
+          rw q (get_or-set_same t y 1 0 (omega (arith, long))) ∙ sym (ap flag (one_member (suc k) x ∙ eq-eqb (suc k) x p))
+      go k (no q) = get_or-set_other t y k 1 0 q ∙ e k ∙ sym (ap flag (one_member (suc k) x ∙ ne_eqb (suc k) x (λ (p : suc k ≡ x). q (omega (arith, p, z)))))
 
 -- ---- marks with the unknown at place i, u, whose name is x
 
-module _ (names : List (List ℕ)) (cs : List ℕ) (h : Classes names cs) (us : List Unknown) (vs : List ℕ) (u : Unknown) (i : ℕ) (l : i < length us) (e : get_or us i u ≡ u)
-    (n x : ℕ) (b : Bool) (t : List ℕ) (en : length names ≡ n) (ex : x ≡ u.name) (lx : x < n) (eb : b ≡ leb (get_or cs x 0) 5) (m : Marks n (declare names vs (take i us)) t) where
+module _ (names : List (List ℕ)) (cs : List Class) (h : Classes names cs) (us : List Unknown) (vs : List ℕ) (u : Unknown) (i : ℕ) (l : i < length us) (e : get_or us i u ≡ u)
+    (n x : ℕ) (b : Bool) (t : List ℕ) (en : length names ≡ n) (ex : x ≡ u.name) (lx : x < n) (eb : b ≡ reserved_class (get_or cs x Time)) (m : Marks n (declare names vs (take i us)) t) where
   declare_next : declare names vs (take (i + 1) us) ≡ one_more names (declare names vs (take i us)) u
   declare_next = rw (add-one, take-suc us i u, e) (declare_last names (take i us) vs u)
 
   reserved_is : is_reserved names u.name ≡ b
-  reserved_is = ap (is_reserved names) (sym ex) ∙ sym (class_reserved names x) ∙ ap (λ (k : ℕ). leb k 5) (sym (h.class x (omega (arith, en, lx)))) ∙ sym eb
+  reserved_is = ap (is_reserved names) (sym ex) ∙ sym (class_reserved h x (omega (arith, en, lx))) ∙ sym eb
 
   -- its name is reserved, or it is not
   pub marks_kept : b ≡ true → Marks n (declare names vs (take (i + 1) us)) t

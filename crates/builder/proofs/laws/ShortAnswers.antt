@@ -17,6 +17,7 @@ use Rattle.definitions.specs.Answer.{Answer, answer_bytes}
 use Rattle.definitions.specs.Roles.{too_short}
 use Rattle.definitions.specs.Build.{Result, refusal, accepted, any_short}
 use Rattle.area.specs.Sections.{Small, deps_at}
+use Rattle.builder.specs.declared.names.Class.{Class}
 use Rattle.builder.specs.Bounding.{Floating}
 use Rattle.builder.specs.VarRecords.{unheld_records}
 use Rattle.builder.specs.Allocating.{names_in, indexes_in, rates_in, flats_in, Flattened, short_by}
@@ -43,7 +44,7 @@ given_used : (short : Bool) (a : Answer) (d : List ℕ) (u : ℕ) → short ≡ 
 unfolding answered_as used_in bytes_in
 given_used short a d u e g h = (rw (e, g) refl, h)
 
-module _ (f : List ℕ) (s : Sections) (m : ℕ) (classes numbers : List ℕ) (z : Sizes) (k : Known f s m classes numbers z) (b : List ℕ) (a : Unfated (file_in f s) m z b) where
+module _ (f : List ℕ) (s : Sections) (m : ℕ) (classes : List Class) (numbers : List ℕ) (z : Sizes) (k : Known f s m classes numbers z) (b : List ℕ) (a : Unfated (file_in f s) m z b) where
   unheld : Columns (scope_at (file_in f s) m).vars (unheld_records (scope_at (file_in f s) m).vars)
   unheld = unheld_columns (scope_at (file_in f s) m).vars
 

@@ -2,7 +2,7 @@
 use mathlib.Core.Path.{◌≡◌, refl, sym, ap, ◌∙◌}
 use mathlib.Core.Bool.{Bool, true, false, cond, ◌&&◌, ◌||◌}
 use mathlib.Core.List.{List, [], ◌∷◌, ◌++◌}
-use mathlib.Core.Option.{Option, none, some}
+use mathlib.Core.Option.{none, some}
 use Prim.Native.Nat.{ℕ, zero, suc, ◌+◌, ◌-◌, ◌^◌, ◌≤◌, ◌<◌}
 use native.Mathlib.Omega.{arith}
 use native.Mathlib.Numerals.{add-one, sub-one}
@@ -22,18 +22,15 @@ use Rattle.ast.specs.Words.{word_of, span_from}
 use Rattle.ast.specs.Records.{model_of}
 use Rattle.ast.specs.Opens.{Open, contents_in, file_in}
 use Rattle.ast.specs.declared.sections.Sections.{Sections}
-use Rattle.ast.proofs.Fields.{length_section}
 use Rattle.ast.proofs.Files.{model_at_lem}
 use Rattle.definitions.specs.Numbers.{underdetermined, overdetermined, no_initial_condition, algebraic_initial_condition}
 use Rattle.definitions.specs.Variables.{Error, error}
 use Rattle.definitions.specs.Flatten.{no_model, model_at}
 use Rattle.definitions.specs.Allocate.{count_errors}
-use Rattle.area.specs.Sections.{stmts_at, area_stmts, area_stmt}
 use Rattle.area.specs.Listing.{Lists}
-use Rattle.area.specs.declared.sections.Sizes.{Sizes}
 use Rattle.builder.specs.Fating.{is_fated}
 use Rattle.builder.specs.Starting.{place_as, right_span_in, held_errors_in, state_errors_in, starting_in}
-use Rattle.area.proofs.Listings.{length_listed, lists_then}
+use Rattle.area.proofs.Listings.{lists_then}
 use Rattle.builder.proofs.laws.OpenRecords.{long}
 
 -- a model's span by its record
@@ -80,7 +77,7 @@ module _ (p : List ℕ → Bool) (xs : List (List ℕ)) where
   found_place None e = rw (← e) at (found_from (length xs) 0 (omega arith))
   found_place (Some i) e = rw (← e) at (found_from (length xs) 0 (omega arith))
 
--- ---- errors 16 and 17 of a variable by the words of its record and the kind of the statement that it holds
+-- ---- errors 16 and 17 of a variable by the words of its record, and whether the statement that it holds is a rate equation
 
 -- a first one that passes is there where some do
 some_pass : {A : Type 0} (p : A → Bool) (k : ℕ) (xs : List A) → eqb (plus_one (place_from k p xs)) 0 ≡ eqb (times p xs) 0
@@ -114,7 +111,7 @@ module _ (model : Span) (ns rs : List (List ℕ)) (name v held : ℕ) (eh : held
   unfolding state_errors_in held_errors_in
   state_bare e = let t : eqb held 0 ≡ true = eq-eqb held 0 e in rw (← eh, t) refl
 
-  module _ (n : held ≡ 0 → ⊥) (kind count : ℕ) (ek : kind ≡ word_of (get_or rs (held - 1) []) 0) (ec : count ≡ times (is_fated 1 v) rs) where
+  module _ (n : held ≡ 0 → ⊥) (rate : Bool) (count : ℕ) (er : rate ≡ eqb (word_of (get_or rs (held - 1) []) 0) 2) (ec : count ≡ times (is_fated 1 v) rs) where
     -- its first condition
     abbrev first : ℕ
     first = plus_one (place (is_fated 1 v) rs)
@@ -124,29 +121,29 @@ module _ (model : Span) (ns rs : List (List ℕ)) (name v held : ℕ) (eh : held
     no_first = some_pass (is_fated 1 v) 0 rs ∙ ap (λ (k : ℕ). eqb k 0) (sym ec)
 
     by_words : state_errors_in model ns rs name v
-        ≡ cond (eqb kind 2) (cond (eqb count 0) (error no_initial_condition model name ∷ []) []) (cond (eqb count 0) [] (error algebraic_initial_condition (right_span_in ns rs (first - 1)) name ∷ []))
+        ≡ cond rate (cond (eqb count 0) (error no_initial_condition model name ∷ []) []) (cond (eqb count 0) [] (error algebraic_initial_condition (right_span_in ns rs (first - 1)) name ∷ []))
     unfolding state_errors_in held_errors_in
     by_words =
         let t : eqb held 0 ≡ false = ne_eqb held 0 n in
-        rw (← eh, t, ← ek, no_first) refl
+        rw (← eh, t, ← er, no_first) refl
 
-    pub state_lacks : (eqb kind 2 && eqb count 0) ≡ true → state_errors_in model ns rs name v ≡ error no_initial_condition model name ∷ []
-    state_lacks e = by_words ∙ both_pass (eqb kind 2) (eqb count 0) _ _ e
+    pub state_lacks : (rate && eqb count 0) ≡ true → state_errors_in model ns rs name v ≡ error no_initial_condition model name ∷ []
+    state_lacks e = by_words ∙ both_pass rate (eqb count 0) _ _ e
 
-    pub state_free : (eqb kind 2 && eqb count 0) ≡ false → (eqb kind 2 || eqb count 0) ≡ true → state_errors_in model ns rs name v ≡ []
-    state_free e g = by_words ∙ one_passes (eqb kind 2) (eqb count 0) _ _ e g
+    pub state_free : (rate && eqb count 0) ≡ false → (rate || eqb count 0) ≡ true → state_errors_in model ns rs name v ≡ []
+    state_free e g = by_words ∙ one_passes rate (eqb count 0) _ _ e g
 
-    module _ (e : (eqb kind 2 || eqb count 0) ≡ false) where
+    module _ (e : (rate || eqb count 0) ≡ false) where
       pub state_algebraic : (i : ℕ) → some i ≡ place (is_fated 1 v) rs → state_errors_in model ns rs name v ≡ error algebraic_initial_condition (right_span_in ns rs i) name ∷ []
       unfolding plus_one
-      state_algebraic i g = by_words ∙ (none_passes (eqb kind 2) (eqb count 0) _ _ e).0 ∙ rw (← g, sub-one (suc i)) refl
+      state_algebraic i g = by_words ∙ (none_passes rate (eqb count 0) _ _ e).0 ∙ rw (← g, sub-one (suc i)) refl
 
       -- there is a first condition
       pub state_starts : none ≡ place (is_fated 1 v) rs → state_errors_in model ns rs name v ≡ []
       unfolding plus_one
       state_starts g =
           let f : first ≡ 0 = rw (← g) refl in
-          absurd (eqb-false first 0 (no_first ∙ (none_passes (eqb kind 2) (eqb count 0) [] [] e).1) f)
+          absurd (eqb-false first 0 (no_first ∙ (none_passes rate (eqb count 0) [] [] e).1) f)
 
 -- ---- of all variables
 
@@ -183,10 +180,6 @@ module _ (model : Span) (ns rs : List (List ℕ)) where
   starting_turn names v = rw (add-one v) refl
 
 -- ---- as they are listed
-
--- the length stays
-pub lists_length : (d d' : List ℕ) (n r : ℕ) (es : List Error) → 4096 ≤ length d → Lists d n es r d' → length d' ≡ length d
-lists_length d d' n r es h p = ap length p.1 ∙ length_listed d n es h
 
 module _ (model : Span) (ns rs : List (List ℕ)) (names d d' : List ℕ) (v n r : ℕ) (p : Lists d n (starting_in model ns rs names v) r d') where
   -- as many as there are variables can be counted

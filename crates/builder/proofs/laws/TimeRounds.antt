@@ -140,18 +140,18 @@ module _ (z : Sizes) (b : List ℕ) where
 
 -- the first v of a table's marks, and whether one of those was new
 pub record Taken (was next : List ℕ) (v : ℕ) (changed : Bool) (table : List ℕ) : Type 0 where
-  pub filled : Filled (length was) (λ (k : ℕ). get_or next k 0) v table
+  pub filled : Filled 0 (length was) (λ (k : ℕ). get_or next k 0) v table
   pub rest : (k : ℕ) → v ≤ k → get_or table k 0 ≡ get_or was k 0
   pub same : changed ≡ false → (k : ℕ) → k < v → get_or next k 0 ≡ get_or was k 0
 
 module _ (was next : List ℕ) where
   taken_none : Taken was next 0 false was
-  taken_none = record { filled = filled_none (length was) _ was refl; rest = λ k l. refl; same = λ q k l. absurd (omega arith) }
+  taken_none = record { filled = filled_none 0 (length was) _ was refl; rest = λ k l. refl; same = λ q k l. absurd (omega arith) }
 
   taken_more : (v : ℕ) (changed : Bool) (table : List ℕ) → v < length was → Taken was next v changed table
       → Taken was next (v + 1) (changed || not (eqb (get_or table v 0) (get_or next v 0))) (set table v (get_or next v 0))
   taken_more v changed table l t = record {
-    filled = filled_more (length was) _ v (get_or next v 0) table l refl t.filled;
+    filled = filled_more 0 (length was) _ v (get_or next v 0) table l refl t.filled;
     rest = λ k h. get_or-set_other table v k (get_or next v 0) 0 (λ q. omega arith) ∙ t.rest k (omega arith);
     same = λ q k h. let (a, b) = or_false changed _ q in go a (not-false _ b) k h (ℕ_discrete k v);
   }

@@ -1,21 +1,24 @@
 -- Words of bytes from a place up to another, and the last t among them.
 use mathlib.Core.Path.{◌≡◌, refl, sym, ap, ◌∙◌}
-use mathlib.Core.Bool.{Bool, true}
+use mathlib.Core.Bool.{Bool, true, false, cond}
 use mathlib.Core.List.{List, [], ◌∷◌, ◌++◌}
 use mathlib.Core.Option.{Option, none, some}
 use Prim.Native.Nat.{ℕ, zero, suc, ◌+◌, ◌-◌, ◌*◌, ◌≤◌, ◌<◌}
 use native.Mathlib.Omega.{arith}
-use borrow.Author.Tests.{ltb-true}
-use lib.Dec.{ltb}
+use borrow.Author.Tests.{ltb-true, eqb-true, eqb-false}
+use lib.Dec.{eqb, ltb}
 use lib.ListN.{length, take, drop, get_or, length-take, length-drop}
 use lib.Seq.{get_or-take, get_or-drop, length-take-le, take-suc, take_all}
-use Rattle.functions.specs.Lists.{any, all, plus_one}
+use Rattle.std.specs.Prelude.{Some}
+use Rattle.functions.specs.Lists.{any, all}
 use Rattle.functions.proofs.Lists.{and_both}
 use Rattle.ast.specs.Words.{words}
 use Rattle.ast.specs.Bytes.{word_at}
 use Rattle.ast.proofs.Fields.{dep_at, length_deps}
 use Rattle.definitions.specs.Variables.{last_time}
 use Rattle.builder.specs.VariableTables.{words_from}
+use Rattle.builder.specs.Starting.{place_as}
+use Rattle.builder.proofs.laws.Ranges.{last_place}
 
 -- ---- words from `first` up to `end`
 
@@ -62,36 +65,43 @@ not_zero : (xs : List ℕ) (y : ℕ) → (y ≡ 0 → ⊥) → last_time 0 none 
 not_zero xs zero h = absurd (h refl)
 not_zero xs (suc y) h = other_behind xs y 0 none
 
-module _ (bytes : List ℕ) (first end i : ℕ) (order : first < i) (within : i ≤ end) (room : 4 * end ≤ length bytes) where
-  last_word : take (i - first) (words_from bytes first end) ≡ take (i - 1 - first) (words_from bytes first end) ++ word_at bytes (4 * (i - 1)) ∷ []
-  last_word =
-      let a : i - first ≡ suc (i - 1 - first) = omega arith in
-      let l : i - 1 - first < length (words_from bytes first end) = omega (arith, length_from bytes first end (omega arith) room) in
-      ap (λ (n : ℕ). take n (words_from bytes first end)) a
-      ∙ take-suc (words_from bytes first end) (i - 1 - first) 0 l
-      ∙ ap (λ (w : ℕ). take (i - 1 - first) (words_from bytes first end) ++ w ∷ []) (word_from bytes first end (omega arith) room (i - 1) (omega arith) (omega arith))
+module _ (bytes : List ℕ) (first end : ℕ) (order : first ≤ end) (room : 4 * end ≤ length bytes) where
+  abbrev before : ℕ → List ℕ
+  before n = take n (words_from bytes first end)
 
-  -- the last of those up to i is t
-  pub time_found : word_at bytes (4 * (i - 1)) ≡ 0 → plus_one (last_time 0 none (take (i - first) (words_from bytes first end))) ≡ i - 1 - first + 1
-  unfolding plus_one
-  time_found e =
-      let t = take (i - 1 - first) (words_from bytes first end) in
-      let l : length t ≡ i - 1 - first = length-take-le (i - 1 - first) (words_from bytes first end) (omega (arith, length_from bytes first end (omega arith) room)) in
-      let p : last_time 0 none (take (i - first) (words_from bytes first end)) ≡ some (0 + length t) = ap (last_time 0 none) (last_word ∙ ap (λ (w : ℕ). t ++ w ∷ []) e) ∙ time_behind t 0 none in
-      ap plus_one p ∙ omega arith
+  module _ (n : ℕ) (h : n < end - first) where
+    last_word : before (suc n) ≡ before n ++ word_at bytes (4 * (first + n)) ∷ []
+    last_word =
+        let c : first + n - first ≡ n = omega arith in
+        let w = rw c at (word_from bytes first end order room (first + n) (omega arith) (omega arith)) in
+        take-suc (words_from bytes first end) n 0 (omega (arith, length_from bytes first end order room)) ∙ ap (λ (x : ℕ). before n ++ x ∷ []) w
 
-  -- or is not
-  pub time_passed : (word_at bytes (4 * (i - 1)) ≡ 0 → ⊥) → last_time 0 none (take (i - first) (words_from bytes first end)) ≡ last_time 0 none (take (i - 1 - first) (words_from bytes first end))
-  time_passed h = ap (last_time 0 none) last_word ∙ not_zero (take (i - 1 - first) (words_from bytes first end)) (word_at bytes (4 * (i - 1))) h
+    -- the last of the words up to it is t
+    time_found : eqb (word_at bytes (4 * (first + n))) 0 ≡ true → last_time 0 none (before (suc n)) ≡ some n
+    time_found e =
+        let l : length (before n) ≡ n = length-take-le n (words_from bytes first end) (omega (arith, length_from bytes first end order room)) in
+        ap (last_time 0 none) (last_word ∙ ap (λ (w : ℕ). before n ++ w ∷ []) (eqb-true (word_at bytes (4 * (first + n))) 0 e)) ∙ time_behind (before n) 0 none ∙ ap some (omega (arith, l))
 
--- all of them, and none
-pub time_all : (bytes : List ℕ) (first end : ℕ) → first ≤ end → 4 * end ≤ length bytes → last_time 0 none (words_from bytes first end) ≡ last_time 0 none (take (end - first) (words_from bytes first end))
-time_all bytes first end h room = sym (ap (last_time 0 none) (take_all (end - first) (words_from bytes first end) (omega (arith, length_from bytes first end h room))))
+    -- or is not
+    time_passed : eqb (word_at bytes (4 * (first + n))) 0 ≡ false → last_time 0 none (before (suc n)) ≡ last_time 0 none (before n)
+    time_passed e = ap (last_time 0 none) last_word ∙ not_zero (before n) (word_at bytes (4 * (first + n))) (eqb-false (word_at bytes (4 * (first + n))) 0 e)
 
--- none of no words
-pub time_none : (ds : List ℕ) (n : ℕ) → n ≡ 0 → plus_one (last_time 0 none (take n ds)) ≡ 0
-unfolding plus_one last_time
-time_none ds n e = rw e
+  -- the last t of the first n words
+  abbrev pub time_at : ℕ → Bool
+  time_at i = eqb (word_at bytes (4 * i)) 0
+
+  last_before : (n : ℕ) → n ≤ end - first → place_as (last_place time_at first n) ≡ last_time 0 none (before n)
+  unfolding place_as last_time
+  last_before zero h = refl
+  last_before (suc n) h = go (time_at (first + n)) refl (last_before n (omega arith))
+    where
+      go : (b : Bool) → time_at (first + n) ≡ b → place_as (last_place time_at first n) ≡ last_time 0 none (before n) → place_as (cond b (Some n) (last_place time_at first n)) ≡ last_time 0 none (before (suc n))
+      go true e i = sym (time_found n (omega arith) e)
+      go false e i = i ∙ sym (time_passed n (omega arith) e)
+
+  -- of all
+  pub last_of_all : place_as (last_place time_at first (end - first)) ≡ last_time 0 none (words_from bytes first end)
+  last_of_all = last_before (end - first) (omega arith) ∙ ap (last_time 0 none) (take_all (end - first) (words_from bytes first end) (omega (arith, length_from bytes first end order room)))
 
 -- two tests that agree on the elements
 pub any_alike : (p q : ℕ → Bool) (n : ℕ) (xs : List ℕ) → all (λ d. ltb d n) xs ≡ true → ((d : ℕ) → d < n → p d ≡ q d) → any p xs ≡ any q xs

@@ -1,12 +1,14 @@
 -- A variable's record: its time index is a word, its bounds, and its two parts one behind the other.
-use mathlib.Core.Path.{◌≡◌, refl, ◌∙◌}
+use mathlib.Core.Path.{◌≡◌, refl, ap, ◌∙◌}
 use mathlib.Core.Bool.{true, false}
 use mathlib.Core.List.{List, [], ◌∷◌, ◌++◌}
 use mathlib.Core.Option.{Option, none, some}
-use Prim.Native.Nat.{ℕ, zero, suc, ◌+◌, ◌-◌, ◌*◌, ◌%◌, ◌^◌, ◌≤◌, ◌<◌}
+use Prim.Native.Nat.{ℕ, zero, suc, ◌+◌, ◌-◌, ◌*◌, ◌≤◌, ◌<◌}
 use native.Mathlib.Omega.{arith}
 use borrow.Author.Tests.{eq-eqb, ne_eqb}
 use lib.ListN.{length, take, drop, length-drop}
+use Rattle.std.specs.Prelude.{IfSome}
+use Rattle.std.specs.declared.option.Option as answer
 use Rattle.functions.specs.Lists.{plus_one}
 use Rattle.ast.specs.Tree.{Unknown}
 use Rattle.ast.specs.Words.{bytes_of}
@@ -16,7 +18,9 @@ use Rattle.definitions.specs.Answer.{bounds_words}
 use Rattle.builder.specs.Bounding.{bounds_from}
 use Rattle.builder.specs.VarRecords.{var_bounds}
 use Rattle.builder.specs.VariableTables.{words_from}
+use Rattle.builder.specs.Starting.{place_as}
 use Rattle.builder.proofs.laws.Timing.{length_from}
+use Rattle.builder.proofs.laws.Ranges.{place_within}
 use Rattle.area.proofs.Puts.{put_more, lent_all}
 
 -- ---- a time index is a word
@@ -36,13 +40,15 @@ module _ (d : List ℕ) (p q first end : ℕ) (order : first ≤ end) (few : end
   within : 4 * end ≤ length (drop p d)
   within = simp length-drop (omega arith)
 
-  pub index_word : (x : ℕ) → x ≡ plus_one (last_time 0 none (words_from (take (length d - q) (drop q d)) first end))
-      → (x < 2 ^ 32) × (x ≡ plus_one (last_time 0 none (words_from (drop p d) first end)))
-  index_word x g =
-      let g' : x ≡ plus_one (last_time 0 none (words_from (drop p d) first end)) = rw lent at g in
-      let k : length (words_from (drop p d) first end) ≡ end - first = length_from (drop p d) first end order within in
-      let m : plus_one (last_time 0 none (words_from (drop p d) first end)) ≤ end = last_most (words_from (drop p d) first end) 0 end none (unfold plus_one in omega arith) (omega (arith, k)) in
-      (omega (arith, g', m), g')
+  module _ (r : answer.Option ℕ) (g : place_as r ≡ last_time 0 none (words_from (take (length d - q) (drop q d)) first end)) where
+    pub index_is : plus_one (place_as r) ≡ plus_one (last_time 0 none (words_from (drop p d) first end))
+    index_is = ap plus_one (rw lent at g)
+
+    pub index_fits : IfSome r (λ i. i < 1024)
+    index_fits =
+        let k : length (words_from (drop p d) first end) ≡ end - first = length_from (drop p d) first end order within in
+        let m : plus_one (last_time 0 none (words_from (drop p d) first end)) ≤ end = last_most (words_from (drop p d) first end) 0 end none (unfold plus_one in omega arith) (omega (arith, k)) in
+        place_within r 1024 (omega (arith, index_is, m))
 
 -- ---- bounds of a variable
 

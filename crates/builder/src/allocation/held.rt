@@ -7,7 +7,7 @@ ghost use Rattle.area.specs.Sections.{vars_at, area_stmts, area_vars};
 ghost use Rattle.builder.specs.VarRecords.{held_from, NothingHeld, HeldBehind, HeldChanged};
 
 use area::layout::{Fate, STMT_FATE, STMT_VARIABLE, VAR_HELD, VAR_INITIAL};
-use area::records::{put_var, stmt_of, var_of};
+use area::records::{Area, put_var};
 use area::sections::Sizes;
 
 // Adds statement i to what the records say of those behind it.
@@ -17,8 +17,12 @@ fn hold_stmt(area: &mut [u8], z: Sizes, i: usize)
     ensures { HeldBehind z i area.new
         × HeldChanged z area.old area.new }
 {
-    let fate = stmt_of(area, z, i, STMT_FATE);
-    let v = stmt_of(area, z, i, STMT_VARIABLE);
+    let read = Area {
+        bytes: area,
+        sizes: z,
+    };
+    let fate = read.stmt(i, STMT_FATE);
+    let v = read.stmt(i, STMT_VARIABLE);
     if z.vars <= v {
         return;
     }
@@ -27,7 +31,7 @@ fn hold_stmt(area: &mut [u8], z: Sizes, i: usize)
         return;
     }
     if fate == Fate::Initial as usize {
-        let more = var_of(area, z, v, VAR_INITIAL) + 1;
+        let more = read.var(v, VAR_INITIAL) + 1;
         put_var(area, z, v, VAR_INITIAL, more);
     }
 }

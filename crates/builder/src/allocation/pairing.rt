@@ -4,12 +4,12 @@ ghost use Rattle.functions.specs.Lists.{any};
 ghost use Rattle.definitions.specs.Allocate.{is_rate_of, left_count};
 ghost use Rattle.area.specs.Sections.{Small, deps_at};
 ghost use Rattle.builder.specs.Tables.{lacks_in, lacking_in};
-ghost use Rattle.builder.specs.Allocating.{role_as, states_in};
+ghost use Rattle.builder.specs.Allocating.{role_as};
+ghost use Rattle.builder.specs.Areas.{states_seen};
 
 use crate::allocation::roles::Role;
 use area::layout::{MOST_VARS, VAR_STATE};
-use area::records::var_of;
-use area::sections::Sizes;
+use area::records::Area;
 use arrayvec::ArrayVec;
 
 // How many statements have no role.
@@ -27,24 +27,24 @@ pub fn has_rate(roles: &[Role], v: u16) -> bool
 }
 
 // Whether variable v is a state that no rate equation goes to.
-fn lacks(roles: &[Role], area: &[u8], z: Sizes, v: u16) -> bool
-    requires { (v < z.vars)
-        × Small z
-        × (deps_at z ≤ length area.now) }
-    ensures { result ≡ lacks_in (map role_as roles.now) (states_in area.now z) v }
+fn lacks(roles: &[Role], area: &Area, v: u16) -> bool
+    requires { (v < area.now.sizes.vars)
+        × Small area.now.sizes
+        × (deps_at area.now.sizes ≤ length area.now.bytes.now) }
+    ensures { result ≡ lacks_in (map role_as roles.now) (states_seen area.now) v }
 {
-    (var_of(area, z, usize::from(v), VAR_STATE) == 1) & !has_rate(roles, v)
+    (area.var(usize::from(v), VAR_STATE) == 1) & !has_rate(roles, v)
 }
 
 // The states of an area that no rate equation goes to.
-pub fn lacking(roles: &[Role], area: &[u8], z: Sizes) -> ArrayVec<u16, MOST_VARS>
-    requires { Small z
-        × (deps_at z ≤ length area.now) }
-    ensures { result.items ≡ lacking_in (map role_as roles.now) (states_in area.now z) z.vars }
+pub fn lacking(roles: &[Role], area: &Area) -> ArrayVec<u16, MOST_VARS>
+    requires { Small area.now.sizes
+        × (deps_at area.now.sizes ≤ length area.now.bytes.now) }
+    ensures { result.items ≡ lacking_in (map role_as roles.now) (states_seen area.now) area.now.sizes.vars }
 {
     let mut states = ArrayVec::new();
-    for v in 0..z.vars as u16 {
-        if lacks(roles, area, z, v) {
+    for v in 0..area.sizes.vars as u16 {
+        if lacks(roles, area, v) {
             states.push(v);
         }
     }

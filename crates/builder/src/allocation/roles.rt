@@ -6,23 +6,23 @@ ghost use Rattle.std.specs.Float.Ieee.{eq};
 ghost use Rattle.ast.specs.Numbers.{number_of};
 ghost use Rattle.ast.specs.Nodes.{name_at, op_at, span_at, bits_at};
 ghost use Rattle.area.specs.Fields.{stmt_name, stmt_span};
-ghost use Rattle.area.specs.Sections.{Small, nodes_end, vars_at, deps_at, area_nodes, area_stmt};
+ghost use Rattle.area.specs.Sections.{Small, nodes_end, vars_at, deps_at};
+ghost use Rattle.area.specs.Views.{nodes_seen, stmt_seen};
 ghost use Rattle.definitions.specs.Numbers.{most_names, wrong_start};
 ghost use Rattle.definitions.specs.Variables.{error};
-ghost use Rattle.area.specs.Listing.{kind_number, found_as, Lists, Room};
-ghost use Rattle.builder.specs.Allocating.{flat_in, flats_in, Flattened, Numbered, indexes_in, rates_in, arg_node, start_at, short_by, role_as, start_role_by, found_start, StartFits, role_by, ArgIn, NumberIn, StartIn, entry_by, start_errors_by, rate_errors_by, role_errors_by};
+ghost use Rattle.area.specs.Listing.{kind_number, found_as, Listed, RoomFor};
+ghost use Rattle.builder.specs.Allocating.{arg_node, start_at, short_by, role_as, start_role_by, found_start, StartFits, role_by, ArgIn, NumberIn, StartIn, entry_by, start_errors_by, rate_errors_by, role_errors_by};
+ghost use Rattle.builder.specs.Areas.{flat_seen, flats_seen, FlattenedSeen, NumberedSeen, indexes_seen, rates_seen};
 
-use area::errors::{ErrorKind, Found, list};
-use area::layout::{HEADER_BYTES, STMT_WORDS, VAR_STATE, VAR_TIME_INDEX, VAR_TIMED};
-use area::records::{node_of, stmt_of, var_of};
-use area::sections::{Sizes, stmts_at};
+use area::errors::{ErrorKind, Errors, Found};
+use area::layout::{VAR_STATE, VAR_TIME_INDEX, VAR_TIMED};
+use area::records::Area;
+use ast::kinds::{NodeKind, StmtKind};
 use ast::layout::{
-    CALL_KIND, EQUATION_KIND, MOST_STMTS, NODE_BITS, NODE_FROM, NODE_KIND, NODE_NAME, NODE_OP,
-    NODE_SIZE, NODE_TO, NODE_WORDS, NUMBER_KIND, STMT_FROM, STMT_KIND, STMT_LEFT, STMT_NAME,
-    STMT_TO,
+    MOST_STMTS, NODE_BITS, NODE_FROM, NODE_NAME, NODE_OP, NODE_SIZE, NODE_TO, STMT_FROM, STMT_LEFT,
+    STMT_NAME, STMT_TO,
 };
-use ast::numbers::{record_bits, same_number};
-use ast::sections::record_word;
+use ast::numbers::same_number;
 
 // A statement's role: neither, an initial condition of a variable, or a rate equation that goes to one.
 #[derive(Clone, Copy, PartialEq, Eq)]
@@ -41,54 +41,54 @@ pub enum Start {
 }
 
 // The node of argument number i of a call.
-fn arg_at(area: &[u8], z: Sizes, call: usize, i: usize) -> usize
-    requires { ArgIn area.now z call i }
-    ensures { result ≡ arg_node (area_nodes area.now z) i call
-        (op_at (area_nodes area.now z) call) }
+fn arg_at(area: &Area, call: usize, i: usize) -> usize
+    requires { ArgIn area.now.bytes.now area.now.sizes call i }
+    ensures { result ≡ arg_node (nodes_seen area.now) i call
+        (op_at (nodes_seen area.now) call) }
 {
     let mut end = call;
-    let left = node_of(area, z, call, NODE_OP);
+    let left = area.node(call, NODE_OP);
     for _ in i + 1..left {
-        end -= node_of(area, z, end - 1, NODE_SIZE);
+        end -= area.node(end - 1, NODE_SIZE);
     }
     end - 1
 }
 
 // What the expression at node i is as a left side.
-fn start_of(area: &[u8], z: Sizes, numbers: &[u16], i: usize) -> Option<Start>
-    requires { ((names : ℕ) × Flattened names area.now z)
-        × Numbered area.now z numbers.now
-        × (i < z.nodes) }
-    ensures { result ≡ start_at (area_nodes area.now z) numbers.now
-        (indexes_in area.now z) i }
+fn start_of(area: &Area, numbers: &[u16], i: usize) -> Option<Start>
+    requires { FlattenedSeen area.now
+        × NumberedSeen area.now numbers.now
+        × (i < area.now.sizes.nodes) }
+    ensures { result ≡ start_at (nodes_seen area.now) numbers.now
+        (indexes_seen area.now) i }
 {
-    if node_of(area, z, i, NODE_KIND) != CALL_KIND {
+    if !area.is_node(i, NodeKind::Call) {
         return None;
     }
-    let v = numbers[node_of(area, z, i, NODE_NAME)].checked_sub(1)?;
-    let index = var_of(area, z, usize::from(v), VAR_TIME_INDEX).checked_sub(1)? as usize;
-    if node_of(area, z, i, NODE_OP) <= index {
+    let v = numbers[area.node(i, NODE_NAME)].checked_sub(1)?;
+    let index = area.var(usize::from(v), VAR_TIME_INDEX).checked_sub(1)? as usize;
+    if area.node(i, NODE_OP) <= index {
         return Some(Start::Short);
     }
-    let arg = arg_at(area, z, i, index);
-    if node_of(area, z, arg - 1, NODE_KIND) == NUMBER_KIND {
+    let arg = arg_at(area, i, index);
+    if area.is_node(arg - 1, NodeKind::Number) {
         return Some(Start::Number(v, arg));
     }
     None
 }
 
 // Refusal 10, of statement i.
-fn is_short(area: &[u8], z: Sizes, numbers: &[u16], i: usize) -> bool
-    requires { ((names : ℕ) × Flattened names area.now z)
-        × Numbered area.now z numbers.now
-        × (i < z.stmts) }
-    ensures { result ≡ short_by numbers.now (indexes_in area.now z)
-        (flat_in area.now z i) }
+fn is_short(area: &Area, numbers: &[u16], i: usize) -> bool
+    requires { FlattenedSeen area.now
+        × NumberedSeen area.now numbers.now
+        × (i < area.now.sizes.stmts) }
+    ensures { result ≡ short_by numbers.now (indexes_seen area.now)
+        (flat_seen area.now i) }
 {
-    if stmt_of(area, z, i, STMT_KIND) != EQUATION_KIND {
+    if !area.is_stmt(i, StmtKind::Equation) {
         return false;
     }
-    match start_of(area, z, numbers, stmt_of(area, z, i, STMT_LEFT)) {
+    match start_of(area, numbers, area.stmt(i, STMT_LEFT)) {
         Some(Start::Short) => true,
         Some(Start::Number(_, _)) => false,
         None => false,
@@ -96,26 +96,26 @@ fn is_short(area: &[u8], z: Sizes, numbers: &[u16], i: usize) -> bool
 }
 
 // Refusal 10.
-pub fn any_short(area: &[u8], z: Sizes, numbers: &[u16]) -> bool
-    requires { ((names : ℕ) × Flattened names area.now z)
-        × Numbered area.now z numbers.now }
-    ensures { result ≡ any (short_by numbers.now (indexes_in area.now z))
-        (flats_in area.now z) }
+pub fn any_short(area: &Area, numbers: &[u16]) -> bool
+    requires { FlattenedSeen area.now
+        × NumberedSeen area.now numbers.now }
+    ensures { result ≡ any (short_by numbers.now (indexes_seen area.now))
+        (flats_seen area.now) }
 {
-    (0..z.stmts).any(|i| is_short(area, z, numbers, i))
+    (0..area.sizes.stmts).any(|i| is_short(area, numbers, i))
 }
 
 // The role of an equation by its left side.
-fn start_role(area: &[u8], z: Sizes, start: Option<Start>, lower: f64) -> Role
-    requires { (nodes_end z.nodes ≤ length area.now)
-        × Small z
-        × StartFits z start }
+fn start_role(area: &Area, start: Option<Start>, lower: f64) -> Role
+    requires { (nodes_end area.now.sizes.nodes ≤ length area.now.bytes.now)
+        × Small area.now.sizes
+        × StartFits area.now.sizes start }
     ensures { (f : ℕ)
-        → role_as result ≡ start_role_by lower (found_start (area_nodes area.now z) f start) }
+        → role_as result ≡ start_role_by lower (found_start (nodes_seen area.now) f start) }
 {
     match start {
         Some(Start::Number(v, arg)) => {
-            let bits = record_bits(area, HEADER_BYTES, NODE_WORDS, z.nodes, arg - 1, NODE_BITS);
+            let bits = area.node_bits(arg - 1, NODE_BITS);
             if same_number(bits, lower) {
                 Role::Initial(v)
             } else {
@@ -128,57 +128,56 @@ fn start_role(area: &[u8], z: Sizes, start: Option<Start>, lower: f64) -> Role
 }
 
 // Whether a rate equation may go to variable v: a time-dependent state.
-fn takes_rate(area: &[u8], z: Sizes, v: usize) -> bool
-    requires { Small z
-        × (deps_at z ≤ length area.now)
-        × (v < z.vars) }
-    ensures { result ≡ eqb (get_or (rates_in area.now z) v 0) 1 }
+fn takes_rate(area: &Area, v: usize) -> bool
+    requires { Small area.now.sizes
+        × (deps_at area.now.sizes ≤ length area.now.bytes.now)
+        × (v < area.now.sizes.vars) }
+    ensures { result ≡ eqb (get_or (rates_seen area.now) v 0) 1 }
 {
-    (var_of(area, z, v, VAR_STATE) == 1) & (var_of(area, z, v, VAR_TIMED) == 1)
+    (area.var(v, VAR_STATE) == 1) & (area.var(v, VAR_TIMED) == 1)
 }
 
 // The role of statement i.
-fn allocate_stmt(area: &[u8], z: Sizes, numbers: &[u16], lower: f64, i: usize) -> Role
-    requires { ((names : ℕ) × Flattened names area.now z)
-        × Numbered area.now z numbers.now
-        × (i < z.stmts) }
-    ensures { role_as result ≡ role_by numbers.now (indexes_in area.now z)
-        (rates_in area.now z) lower (flat_in area.now z i) }
+fn allocate_stmt(area: &Area, numbers: &[u16], lower: f64, i: usize) -> Role
+    requires { FlattenedSeen area.now
+        × NumberedSeen area.now numbers.now
+        × (i < area.now.sizes.stmts) }
+    ensures { role_as result ≡ role_by numbers.now (indexes_seen area.now)
+        (rates_seen area.now) lower (flat_seen area.now i) }
 {
-    if stmt_of(area, z, i, STMT_KIND) == EQUATION_KIND {
-        let start = start_of(area, z, numbers, stmt_of(area, z, i, STMT_LEFT));
-        return start_role(area, z, start, lower);
+    if area.is_stmt(i, StmtKind::Equation) {
+        let start = start_of(area, numbers, area.stmt(i, STMT_LEFT));
+        return start_role(area, start, lower);
     }
-    match numbers[stmt_of(area, z, i, STMT_NAME)].checked_sub(1) {
-        Some(v) if takes_rate(area, z, usize::from(v)) => Role::Rate(v),
+    match numbers[area.stmt(i, STMT_NAME)].checked_sub(1) {
+        Some(v) if takes_rate(area, usize::from(v)) => Role::Rate(v),
         _ => Role::Neither,
     }
 }
 
 // The roles of all statements.
-pub fn roles(area: &[u8], z: Sizes, numbers: &[u16], lower: f64) -> [Role; MOST_STMTS]
-    requires { ((names : ℕ) × Flattened names area.now z)
-        × Numbered area.now z numbers.now }
-    ensures { map role_as (take z.stmts result) ≡ map (role_by numbers.now (indexes_in area.now z)
-        (rates_in area.now z) lower) (flats_in area.now z) }
+pub fn roles(area: &Area, numbers: &[u16], lower: f64) -> [Role; MOST_STMTS]
+    requires { FlattenedSeen area.now
+        × NumberedSeen area.now numbers.now }
+    ensures { map role_as (take area.now.sizes.stmts result) ≡ map (role_by numbers.now (indexes_seen area.now)
+        (rates_seen area.now) lower) (flats_seen area.now) }
 {
     let mut out = [Role::Neither; MOST_STMTS];
-    for i in 0..z.stmts {
-        out[i] = allocate_stmt(area, z, numbers, lower, i);
+    for i in 0..area.sizes.stmts {
+        out[i] = allocate_stmt(area, numbers, lower, i);
     }
     out
 }
 
 // What is found wrong with statement i.
-fn stmt_error(area: &[u8], z: Sizes, i: usize, kind: ErrorKind, name: u32) -> Option<Found>
-    requires { Small z
-        × (vars_at z ≤ length area.now)
-        × (i < z.stmts) }
-    ensures { found_as result ≡ error (kind_number kind) (span_from (area_stmt area.now z i) stmt_span) name ∷ [] }
+fn stmt_error(area: &Area, i: usize, kind: ErrorKind, name: u32) -> Option<Found>
+    requires { Small area.now.sizes
+        × (vars_at area.now.sizes ≤ length area.now.bytes.now)
+        × (i < area.now.sizes.stmts) }
+    ensures { found_as result ≡ error (kind_number kind) (span_from (stmt_seen area.now i) stmt_span) name ∷ [] }
 {
-    let at = stmts_at(z);
-    let from = record_word(area, at, STMT_WORDS, z.stmts, i, STMT_FROM);
-    let to = record_word(area, at, STMT_WORDS, z.stmts, i, STMT_TO);
+    let from = area.stmt_word(i, STMT_FROM);
+    let to = area.stmt_word(i, STMT_TO);
     Some(Found {
         kind,
         from,
@@ -188,21 +187,18 @@ fn stmt_error(area: &[u8], z: Sizes, i: usize, kind: ErrorKind, name: u32) -> Op
 }
 
 // Error 12: the number of argument node `arg`, in time's place of a call, is another than time's lower bound.
-fn number_error(area: &[u8], z: Sizes, arg: usize, lower: f64, call: usize) -> Option<Found>
-    requires { NumberIn area.now z arg call }
-    ensures { found_as result ≡ unless (eq (number_of (bits_at (area_nodes area.now z) (arg - 1))) lower)
-        (error wrong_start (span_at (area_nodes area.now z) arg)
-        (suc (name_at (area_nodes area.now z) call))) }
+fn number_error(area: &Area, arg: usize, lower: f64, call: usize) -> Option<Found>
+    requires { NumberIn area.now.bytes.now area.now.sizes arg call }
+    ensures { found_as result ≡ unless (eq (number_of (bits_at (nodes_seen area.now) (arg - 1))) lower)
+        (error wrong_start (span_at (nodes_seen area.now) arg)
+        (suc (name_at (nodes_seen area.now) call))) }
 {
-    if same_number(
-        record_bits(area, HEADER_BYTES, NODE_WORDS, z.nodes, arg - 1, NODE_BITS),
-        lower,
-    ) {
+    if same_number(area.node_bits(arg - 1, NODE_BITS), lower) {
         return None;
     }
-    let from = record_word(area, HEADER_BYTES, NODE_WORDS, z.nodes, arg, NODE_FROM);
-    let to = record_word(area, HEADER_BYTES, NODE_WORDS, z.nodes, arg, NODE_TO);
-    let name = record_word(area, HEADER_BYTES, NODE_WORDS, z.nodes, call, NODE_NAME);
+    let from = area.node_word(arg, NODE_FROM);
+    let to = area.node_word(arg, NODE_TO);
+    let name = area.node_word(call, NODE_NAME);
     Some(Found {
         kind: ErrorKind::WrongStart,
         from,
@@ -212,78 +208,63 @@ fn number_error(area: &[u8], z: Sizes, arg: usize, lower: f64, call: usize) -> O
 }
 
 // What is found wrong with an equation by its left side at node `call`.
-fn start_error(
-    area: &[u8],
-    z: Sizes,
-    start: Option<Start>,
-    lower: f64,
-    call: usize,
-) -> Option<Found>
-    requires { StartIn area.now z call start }
-    ensures { found_as result ≡ start_errors_by lower (found_start (area_nodes area.now z)
-        (name_at (area_nodes area.now z) call) start) }
+fn start_error(area: &Area, start: Option<Start>, lower: f64, call: usize) -> Option<Found>
+    requires { StartIn area.now.bytes.now area.now.sizes call start }
+    ensures { found_as result ≡ start_errors_by lower (found_start (nodes_seen area.now)
+        (name_at (nodes_seen area.now) call) start) }
 {
     match start {
-        Some(Start::Number(_, arg)) => number_error(area, z, arg, lower, call),
+        Some(Start::Number(_, arg)) => number_error(area, arg, lower, call),
         Some(Start::Short) => None,
         None => None,
     }
 }
 
 // What is found wrong with rate equation i: 5 where its name is no variable's, 13 where it may not go to the variable.
-fn rate_error(area: &[u8], z: Sizes, numbers: &[u16], i: usize) -> Option<Found>
-    requires { Small z
-        × (i < z.stmts)
-        × (word_of (area_stmt area.now z i) stmt_name < most_names)
-        × Numbered area.now z numbers.now }
-    ensures { found_as result ≡ rate_errors_by (rates_in area.now z)
-        (word_of (area_stmt area.now z i) stmt_name) (span_from (area_stmt area.now z i) stmt_span)
-        (entry_by numbers.now (word_of (area_stmt area.now z i) stmt_name)) }
+fn rate_error(area: &Area, numbers: &[u16], i: usize) -> Option<Found>
+    requires { Small area.now.sizes
+        × (i < area.now.sizes.stmts)
+        × (word_of (stmt_seen area.now i) stmt_name < most_names)
+        × NumberedSeen area.now numbers.now }
+    ensures { found_as result ≡ rate_errors_by (rates_seen area.now)
+        (word_of (stmt_seen area.now i) stmt_name) (span_from (stmt_seen area.now i) stmt_span)
+        (entry_by numbers.now (word_of (stmt_seen area.now i) stmt_name)) }
 {
-    let name = record_word(area, stmts_at(z), STMT_WORDS, z.stmts, i, STMT_NAME);
+    let name = area.stmt_word(i, STMT_NAME);
     match numbers[name as usize].checked_sub(1) {
-        None => stmt_error(area, z, i, ErrorKind::NameNotFound, 1 + name),
-        Some(v) if takes_rate(area, z, usize::from(v)) => None,
-        Some(_) => stmt_error(area, z, i, ErrorKind::RateInvalid, 1 + name),
+        None => stmt_error(area, i, ErrorKind::NameNotFound, 1 + name),
+        Some(v) if takes_rate(area, usize::from(v)) => None,
+        Some(_) => stmt_error(area, i, ErrorKind::RateInvalid, 1 + name),
     }
 }
 
 // Which of the errors 12, 5 and 13 is found of statement i.
-fn role_error(area: &[u8], z: Sizes, numbers: &[u16], lower: f64, i: usize) -> Option<Found>
-    requires { ((names : ℕ) × Flattened names area.now z)
-        × Numbered area.now z numbers.now
-        × (i < z.stmts) }
-    ensures { found_as result ≡ role_errors_by numbers.now (indexes_in area.now z)
-        (rates_in area.now z) lower (flat_in area.now z i) }
+fn role_error(area: &Area, numbers: &[u16], lower: f64, i: usize) -> Option<Found>
+    requires { FlattenedSeen area.now
+        × NumberedSeen area.now numbers.now
+        × (i < area.now.sizes.stmts) }
+    ensures { found_as result ≡ role_errors_by numbers.now (indexes_seen area.now)
+        (rates_seen area.now) lower (flat_seen area.now i) }
 {
-    if stmt_of(area, z, i, STMT_KIND) == EQUATION_KIND {
-        let left = stmt_of(area, z, i, STMT_LEFT);
-        let start = start_of(area, z, numbers, left);
-        return start_error(area, z, start, lower, left);
+    if area.is_stmt(i, StmtKind::Equation) {
+        let left = area.stmt(i, STMT_LEFT);
+        let start = start_of(area, numbers, left);
+        return start_error(area, start, lower, left);
     }
-    rate_error(area, z, numbers, i)
+    rate_error(area, numbers, i)
 }
 
 // The errors 12, 5 and 13 of all statements.
-pub fn roles_errors(
-    area: &[u8],
-    z: Sizes,
-    numbers: &[u16],
-    lower: f64,
-    out: &mut [u8],
-    count: usize,
-) -> usize
-    requires { ((names : ℕ) × Flattened names area.now z)
-        × Numbered area.now z numbers.now
-        × Room out.old count (each (role_errors_by numbers.now (indexes_in area.now z) (rates_in area.now z) lower)
-        (flats_in area.now z)) }
-    ensures { Lists out.old count (each
-        (role_errors_by numbers.now (indexes_in area.now z) (rates_in area.now z) lower)
-        (flats_in area.now z)) result out.new }
+pub fn roles_errors(area: &Area, numbers: &[u16], lower: f64, errors: &mut Errors)
+    requires { FlattenedSeen area.now
+        × NumberedSeen area.now numbers.now
+        × RoomFor errors.old (each (role_errors_by numbers.now (indexes_seen area.now) (rates_seen area.now) lower)
+        (flats_seen area.now)) }
+    ensures { Listed errors.old (each
+        (role_errors_by numbers.now (indexes_seen area.now) (rates_seen area.now) lower)
+        (flats_seen area.now)) errors.new }
 {
-    let mut listed = count;
-    for i in 0..z.stmts {
-        listed = list(out, listed, role_error(area, z, numbers, lower, i));
+    for i in 0..area.sizes.stmts {
+        errors.list(role_error(area, numbers, lower, i));
     }
-    listed
 }

@@ -10,6 +10,7 @@ ghost use Rattle.builder.specs.Root.{roles_by, lacking_by, fated_by};
 use crate::allocation::fates::write_fates;
 use crate::allocation::pairing::{lacking, left_count};
 use crate::allocation::roles::roles;
+use area::records::Area;
 use area::sections::Sizes;
 
 // How many statements are left, and how many states lack an equation.
@@ -27,9 +28,13 @@ pub fn allocate_stmts(area: &mut [u8], z: Sizes, numbers: &[u16], lower: f64) ->
         × (area.new ≡ put area.old (stmts_at z)
         (encode (fated_by area.old z numbers.now lower))) }
 {
-    let table = roles(area, z, numbers, lower);
+    let read = Area {
+        bytes: area,
+        sizes: z,
+    };
+    let table = roles(&read, numbers, lower);
     let roles = &table[..z.stmts];
-    let states = lacking(roles, area, z);
+    let states = lacking(roles, &read);
     let left = Left {
         stmts: left_count(roles),
         states: states.len(),

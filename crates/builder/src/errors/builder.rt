@@ -2,30 +2,30 @@
 ghost use Rattle.std.specs.Prelude.{◌≡◌, [], ◌∷◌, ℕ, ◌^◌, ◌≤◌, ◌<◌, get_or};
 ghost use Rattle.functions.specs.Lists.{unless, each};
 ghost use Rattle.ast.specs.Records.{kind_of_stmt, span_of_unknown};
-ghost use Rattle.ast.specs.NodesIn.{nodes_in};
-ghost use Rattle.ast.specs.Views.{contents_seen, file_seen};
+ghost use Rattle.ast.specs.Views.{nodes_seen, contents_seen, file_seen};
 ghost use Rattle.definitions.specs.Numbers.{most_models, submodel_kind};
 ghost use Rattle.definitions.specs.Variables.{error, domain_errors, unknown_errors};
 ghost use Rattle.definitions.specs.Check.{Scope};
 ghost use Rattle.definitions.specs.Flatten.{model_at, order_errors, errors_of};
 ghost use Rattle.builder.specs.Tables.{Classes};
-ghost use Rattle.area.specs.Listing.{kind_number, Lists, Room, found_as};
-ghost use Rattle.builder.specs.Checking.{scope_in, args_in, unknown_in, own_errors, errors_at, missing_at};
-ghost use Rattle.builder.specs.Checking.{UnknownIn, ArgsIn, StmtAt, Against, TablesRead};
+ghost use Rattle.area.specs.Listing.{kind_number, Listed, RoomFor, found_as};
+ghost use Rattle.builder.specs.Checking.{args_in, unknown_in, own_errors, missing_at};
+ghost use Rattle.builder.specs.Checking.{UnknownIn, ArgsIn, StmtAt, Scoped};
+ghost use Rattle.builder.specs.Seen.{scope_seen, errors_seen};
 
-use crate::errors::check::{Checked, Run, before_last, check_expr, found_at, has_keyword, run_of};
+use crate::errors::check::{Run, before_last, check_expr, found_at, has_keyword, run_of};
+use crate::errors::checked::{Checked, Tables};
 use crate::models::scope::{model_vars, no_marks};
-use crate::names::{NON_NEGATIVE, REAL, is_reserved, is_time};
-use area::errors::{ErrorKind, Found, list};
+use crate::names::Class;
+use area::errors::{ErrorKind, Errors, Found};
+use ast::kinds::StmtKind;
 use ast::layout::{
-    MODEL_FIRST_STMT, MODEL_FIRST_UNKNOWN, MODEL_STMTS, MODEL_UNKNOWNS, MOST_NAMES, MOST_STMTS,
-    NODE_NAME, RATE_KIND, STMT_FROM, STMT_KIND, STMT_LEFT, STMT_RIGHT, STMT_TO, SUBMODEL_KIND,
-    UNKNOWN_FROM, UNKNOWN_NAME, UNKNOWN_TO,
+    MODEL_FIRST_STMT, MODEL_FIRST_UNKNOWN, MODEL_STMTS, MODEL_UNKNOWNS, MOST_NAMES, NODE_NAME,
+    STMT_FROM, STMT_LEFT, STMT_RIGHT, STMT_TO, UNKNOWN_FROM, UNKNOWN_NAME, UNKNOWN_TO,
 };
 use ast::numbers::Domain;
-use ast::sections::{Nodes, node_word};
+use ast::places::NodeView;
 use ast::view::View;
-use functions::Rule;
 
 // Statement `stmt` of a model, submodels gone through to a depth of so many models.
 #[derive(Clone, Copy)]
@@ -57,7 +57,7 @@ fn unknown_error(file: &View, u: usize, passed: bool, kind: ErrorKind, name: usi
 }
 
 // Error 1: an unknown domain.
-fn domain_error(file: &View, classes: &[u8; MOST_NAMES], u: usize) -> Option<Found>
+fn domain_error(file: &View, classes: &[Class; MOST_NAMES], u: usize) -> Option<Found>
     requires { UnknownIn file.now.bytes.now file.now.sections classes.now u }
     ensures { found_as result
         ≡ domain_errors (file_seen file.now).names (unknown_in file.now.bytes.now file.now.sections u).span
@@ -69,79 +69,59 @@ fn domain_error(file: &View, classes: &[u8; MOST_NAMES], u: usize) -> Option<Fou
         Domain::Named(n) => {
             let name = n as usize;
             let class = classes[name];
-            let known = (class == NON_NEGATIVE) | (class == REAL);
+            let known = (class == Class::NonNegative) | (class == Class::Real);
             unknown_error(file, u, known, ErrorKind::UnknownDomain, name + 1)
         }
     }
 }
 
 // Errors 1 and 2 of unknown u.
-fn unknown_errors(
-    file: &View,
-    classes: &[u8; MOST_NAMES],
-    u: usize,
-    out: &mut [u8],
-    count: usize,
-) -> usize
+fn unknown_errors(file: &View, classes: &[Class; MOST_NAMES], u: usize, errors: &mut Errors)
     requires { UnknownIn file.now.bytes.now file.now.sections classes.now u
-        × Room out.old count (unknown_errors (file_seen file.now).names (unknown_in file.now.bytes.now file.now.sections u)) }
-    ensures { Lists out.old count
-        (unknown_errors (file_seen file.now).names (unknown_in file.now.bytes.now file.now.sections u)) result out.new }
+        × RoomFor errors.old
+        (unknown_errors (file_seen file.now).names (unknown_in file.now.bytes.now file.now.sections u)) }
+    ensures { Listed errors.old
+        (unknown_errors (file_seen file.now).names (unknown_in file.now.bytes.now file.now.sections u)) errors.new }
 {
-    let listed = list(out, count, domain_error(file, classes, u));
+    errors.list(domain_error(file, classes, u));
     let name = file.unknown(u, UNKNOWN_NAME);
-    let class = classes[name];
-    let usable = !is_reserved(class) | is_time(class);
-    list(
-        out,
-        listed,
-        unknown_error(file, u, usable, ErrorKind::ReservedName, name + 1),
-    )
+    let usable = classes[name] != Class::Reserved;
+    errors.list(unknown_error(file, u, usable, ErrorKind::ReservedName, name + 1));
 }
 
 // The same of the unknowns of model m.
-fn unknowns_errors(
-    file: &View,
-    classes: &[u8; MOST_NAMES],
-    m: usize,
-    out: &mut [u8],
-    count: usize,
-) -> usize
+fn unknowns_errors(file: &View, classes: &[Class; MOST_NAMES], m: usize, errors: &mut Errors)
     requires { Classes (file_seen file.now).names classes.now
         × (m < file.now.sections.counts.models)
-        × Room out.old count
+        × RoomFor errors.old
         (each (unknown_errors (file_seen file.now).names) (model_at (file_seen file.now) m).unknowns) }
-    ensures { Lists out.old count
-        (each (unknown_errors (file_seen file.now).names) (model_at (file_seen file.now) m).unknowns) result
-        out.new }
+    ensures { Listed errors.old
+        (each (unknown_errors (file_seen file.now).names) (model_at (file_seen file.now) m).unknowns) errors.new }
 {
     let first = file.model(m, MODEL_FIRST_UNKNOWN);
     let unknowns = file.model(m, MODEL_UNKNOWNS);
-    let mut listed = count;
     for i in 0..unknowns {
-        listed = unknown_errors(file, classes, first + i, out, listed);
+        unknown_errors(file, classes, first + i, errors);
     }
-    listed
 }
 
 // Error 4 for each positional argument after a keyword, in order.
-fn order_errors(b: &[u8], ns: Nodes, run: Run, out: &mut [u8], count: usize) -> usize
-    requires { ((names : ℕ) × ArgsIn names b.now ns run)
-        × Room out.old count (order_errors (args_in (nodes_in ns b.now) run)) }
-    ensures { Lists out.old count (order_errors (args_in (nodes_in ns b.now) run)) result
-        out.new }
+fn order_errors(ns: &NodeView, run: Run, errors: &mut Errors)
+    requires { ((names : ℕ) × ArgsIn names ns.now.bytes.now ns.now.nodes run)
+        × RoomFor errors.old (order_errors (args_in (nodes_seen ns.now) run)) }
+    ensures { Listed errors.old (order_errors (args_in (nodes_seen ns.now) run)) errors.new }
 {
     if run.args == 0 {
-        return count;
+        return;
     }
     let last = run.end - 1;
-    let rest = before_last(b, ns, run);
-    let before = order_errors(b, ns, rest, out, count);
-    let keyword = node_word(b, ns, last, NODE_NAME);
-    let named = has_keyword(b, ns, rest);
+    let rest = before_last(ns, run);
+    order_errors(ns, rest, errors);
+    let keyword = ns.word(last, NODE_NAME);
+    let named = has_keyword(ns, rest);
     let passed = (keyword != 0) | !named;
-    let found = found_at(b, ns, last, passed, ErrorKind::PositionalAfterKeyword, 0);
-    list(out, before, found)
+    let found = found_at(ns, last, passed, ErrorKind::PositionalAfterKeyword, 0);
+    errors.list(found);
 }
 
 // Error 3: submodel statement q, whose model is missing.
@@ -163,128 +143,88 @@ fn missing_error(file: &View, q: usize) -> Option<Found>
 }
 
 // The errors of an equation or a rate equation, statement q of model m.
-fn own_errors(
-    file: &View,
-    classes: &[u8; MOST_NAMES],
-    rules: &[Rule; MOST_NAMES],
-    vars: &[u16; MOST_NAMES],
-    m: usize,
-    q: usize,
-    out: &mut [u8],
-    count: usize,
-) -> usize
-    requires { Against file.now.bytes.now file.now.sections m classes.now rules.now vars.now
-        × (q < file.now.sections.counts.stmts)
-        × (kind_of_stmt (get_or (contents_seen file.now).stmts q []) < submodel_kind)
-        × Room out.old count (own_errors file.now.bytes.now file.now.sections m q) }
-    ensures { Lists out.old count (own_errors file.now.bytes.now file.now.sections m q) result out.new }
+fn own_errors(tables: &Tables, vars: &[u16; MOST_NAMES], m: usize, q: usize, errors: &mut Errors)
+    requires { Scoped tables.now.file.bytes.now tables.now.file.sections m vars.now
+        × (q < tables.now.file.sections.counts.stmts)
+        × (kind_of_stmt (get_or (contents_seen tables.now.file).stmts q []) < submodel_kind)
+        × RoomFor errors.old (own_errors tables.now.file.bytes.now tables.now.file.sections m q) }
+    ensures { Listed errors.old (own_errors tables.now.file.bytes.now tables.now.file.sections m q) errors.new }
 {
     let at = Checked {
-        nodes: file.nodes(),
+        nodes: tables.file.nodes(),
+        file: &tables.file,
         model: m,
+        classes: tables.classes,
+        rules: tables.rules,
+        vars,
     };
-    let right = file.stmt(q, STMT_RIGHT);
-    let own = check_expr(
-        file.bytes, file, at, classes, rules, vars, right, out, count,
-    );
-    if file.stmt(q, STMT_KIND) == RATE_KIND {
-        return own;
+    let right = tables.file.stmt(q, STMT_RIGHT);
+    check_expr(&at, right, errors);
+    if tables.file.is_stmt(q, StmtKind::Rate) {
+        return;
     }
-    let left = file.stmt(q, STMT_LEFT);
-    check_expr(file.bytes, file, at, classes, rules, vars, left, out, own)
+    let left = tables.file.stmt(q, STMT_LEFT);
+    check_expr(&at, left, errors);
 }
 
 // The errors that the submodel statement q brings in: those of the model that it calls, to a depth of k models, and
 // then those of its own arguments. No scope plays a part in them.
 #[cycle(add_submodel_builder_stmt_errors)]
-fn add_submodel(
-    file: &View,
-    classes: &[u8; MOST_NAMES],
-    rules: &[Rule; MOST_NAMES],
-    callees: &[u8; MOST_STMTS],
-    k: usize,
-    q: usize,
-    out: &mut [u8],
-    count: usize,
-) -> usize
-    requires { TablesRead file.now.bytes.now file.now.sections classes.now rules.now callees.now
-        × StmtAt file.now.sections q k
-        × (kind_of_stmt (get_or (contents_seen file.now).stmts q []) ≡ submodel_kind)
-        × ((c : Scope) → Room out.old count (errors_at file.now.bytes.now file.now.sections k c q)) }
-    ensures { (c : Scope)
-        → Lists out.old count (errors_at file.now.bytes.now file.now.sections k c q) result out.new }
+fn add_submodel(tables: &Tables, k: usize, q: usize, errors: &mut Errors)
+    requires { StmtAt tables.now.file.sections q k
+        × (kind_of_stmt (get_or (contents_seen tables.now.file).stmts q []) ≡ submodel_kind)
+        × ((c : Scope) → RoomFor errors.old (errors_seen tables.now.file k c q)) }
+    ensures { (c : Scope) → Listed errors.old (errors_seen tables.now.file k c q) errors.new }
 {
-    let c = callees[q] as usize;
+    let c = tables.callees[q] as usize;
     if c == 0 {
-        return list(out, count, missing_error(file, q));
+        return errors.list(missing_error(&tables.file, q));
     }
-    let listed = builder(file, classes, rules, callees, k, c - 1, out, count);
-    let nodes = file.nodes();
-    let run = run_of(file.bytes, nodes, file.stmt(q, STMT_RIGHT));
-    order_errors(file.bytes, nodes, run, out, listed)
+    builder(tables, k, c - 1, errors);
+    let nodes = tables.file.nodes();
+    let run = run_of(&nodes, tables.file.stmt(q, STMT_RIGHT));
+    order_errors(&nodes, run, errors);
 }
 
 // The errors of the statement at a place.
 #[cycle(add_submodel_builder_stmt_errors)]
-fn stmt_errors(
-    file: &View,
-    classes: &[u8; MOST_NAMES],
-    rules: &[Rule; MOST_NAMES],
-    callees: &[u8; MOST_STMTS],
-    vars: &[u16; MOST_NAMES],
-    place: Place,
-    out: &mut [u8],
-    count: usize,
-) -> usize
-    requires { TablesRead file.now.bytes.now file.now.sections classes.now rules.now callees.now
-        × Against file.now.bytes.now file.now.sections place.model classes.now rules.now vars.now
-        × StmtAt file.now.sections place.stmt place.depth
-        × Room out.old count
-        (errors_at file.now.bytes.now file.now.sections place.depth (scope_in file.now.bytes.now file.now.sections place.model) place.stmt) }
-    ensures { Lists out.old count
-        (errors_at file.now.bytes.now file.now.sections place.depth (scope_in file.now.bytes.now file.now.sections place.model) place.stmt) result
-        out.new }
+fn stmt_errors(tables: &Tables, vars: &[u16; MOST_NAMES], place: Place, errors: &mut Errors)
+    requires { Scoped tables.now.file.bytes.now tables.now.file.sections place.model vars.now
+        × StmtAt tables.now.file.sections place.stmt place.depth
+        × RoomFor errors.old
+        (errors_seen tables.now.file place.depth (scope_seen tables.now.file place.model) place.stmt) }
+    ensures { Listed errors.old
+        (errors_seen tables.now.file place.depth (scope_seen tables.now.file place.model) place.stmt) errors.new }
 {
     let q = place.stmt;
-    if file.stmt(q, STMT_KIND) != SUBMODEL_KIND {
-        return own_errors(file, classes, rules, vars, place.model, q, out, count);
+    if !tables.file.is_stmt(q, StmtKind::Submodel) {
+        return own_errors(tables, vars, place.model, q, errors);
     }
-    add_submodel(file, classes, rules, callees, place.depth, q, out, count)
+    add_submodel(tables, place.depth, q, errors);
 }
 
 // The errors of model m, to a depth of k models.
 #[cycle(add_submodel_builder_stmt_errors)]
-pub fn builder(
-    file: &View,
-    classes: &[u8; MOST_NAMES],
-    rules: &[Rule; MOST_NAMES],
-    callees: &[u8; MOST_STMTS],
-    k: usize,
-    m: usize,
-    out: &mut [u8],
-    count: usize,
-) -> usize
-    requires { TablesRead file.now.bytes.now file.now.sections classes.now rules.now callees.now
-        × (m < file.now.sections.counts.models)
+pub fn builder(tables: &Tables, k: usize, m: usize, errors: &mut Errors)
+    requires { (m < tables.now.file.sections.counts.models)
         × (k ≤ most_models)
-        × Room out.old count (errors_of (file_seen file.now) k m) }
-    ensures { Lists out.old count (errors_of (file_seen file.now) k m) result out.new }
+        × RoomFor errors.old (errors_of (file_seen tables.now.file) k m) }
+    ensures { Listed errors.old (errors_of (file_seen tables.now.file) k m) errors.new }
 {
     if k == 0 {
-        return count;
+        return;
     }
     let mut vars = no_marks();
-    model_vars(file, classes, m, &mut vars);
-    let first = file.model(m, MODEL_FIRST_STMT);
-    let stmts = file.model(m, MODEL_STMTS);
-    let mut listed = unknowns_errors(file, classes, m, out, count);
+    model_vars(&tables.file, tables.classes, m, &mut vars);
+    let first = tables.file.model(m, MODEL_FIRST_STMT);
+    let stmts = tables.file.model(m, MODEL_STMTS);
+    unknowns_errors(&tables.file, tables.classes, m, errors);
     for i in 0..stmts {
         let place = Place {
             model: m,
             stmt: first + i,
             depth: k - 1,
         };
-        listed = stmt_errors(file, classes, rules, callees, &vars, place, out, listed);
+        stmt_errors(tables, &vars, place, errors);
     }
-    listed
 }

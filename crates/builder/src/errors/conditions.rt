@@ -6,21 +6,18 @@ ghost use Rattle.definitions.specs.Numbers.{algebraic_initial_condition, initial
 ghost use Rattle.definitions.specs.Variables.{error};
 ghost use Rattle.definitions.specs.Flatten.{model_at};
 ghost use Rattle.definitions.specs.Allocate.{count_errors};
-ghost use Rattle.area.specs.Sections.{area_nodes, area_stmts, area_stmt};
-ghost use Rattle.area.specs.Listing.{kind_number, found_as, Lists};
-ghost use Rattle.builder.specs.Allocating.{names_in};
+ghost use Rattle.area.specs.Views.{nodes_seen, stmts_seen, stmt_seen};
+ghost use Rattle.area.specs.Listing.{kind_number, found_as, Listed};
+ghost use Rattle.builder.specs.Areas.{names_seen, RightedSeen};
 ghost use Rattle.builder.specs.Fating.{is_fated};
-ghost use Rattle.builder.specs.Starting.{place_as, Righted, Conditions, right_span_in, state_errors_in, starting_in};
+ghost use Rattle.builder.specs.Starting.{place_as, Conditions, right_span_in, state_errors_in, starting_in};
 
 use crate::allocation::statements::Left;
-use area::errors::{ErrorKind, Found, list};
-use area::layout::{Fate, HEADER_BYTES, STMT_FATE, STMT_VARIABLE, VAR_HELD, VAR_INITIAL, VAR_NAME};
-use area::records::{stmt_of, var_of};
-use area::sections::Sizes;
-use ast::layout::{
-    MODEL_FROM, MODEL_TO, NODE_FROM, NODE_TO, NODE_WORDS, RATE_KIND, STMT_KIND, STMT_RIGHT,
-};
-use ast::sections::record_word;
+use area::errors::{ErrorKind, Errors, Found};
+use area::layout::{Fate, STMT_FATE, STMT_VARIABLE, VAR_HELD, VAR_INITIAL, VAR_NAME};
+use area::records::Area;
+use ast::kinds::StmtKind;
+use ast::layout::{MODEL_FROM, MODEL_TO, NODE_FROM, NODE_TO, STMT_RIGHT};
 use ast::view::View;
 use std::cmp::Ordering;
 
@@ -53,15 +50,15 @@ pub fn count_error(file: &View, m: usize, left: Left) -> Option<Found>
 }
 
 // Error 17, at the right side of statement i.
-fn condition_error(area: &[u8], z: Sizes, i: usize, name: u32) -> Option<Found>
-    requires { Righted area.now z
-        × (i < z.stmts) }
+fn condition_error(area: &Area, i: usize, name: u32) -> Option<Found>
+    requires { RightedSeen area.now
+        × (i < area.now.sizes.stmts) }
     ensures { found_as result ≡ error algebraic_initial_condition
-        (right_span_in (area_nodes area.now z) (area_stmts area.now z) i) name ∷ [] }
+        (right_span_in (nodes_seen area.now) (stmts_seen area.now) i) name ∷ [] }
 {
-    let right = stmt_of(area, z, i, STMT_RIGHT);
-    let from = record_word(area, HEADER_BYTES, NODE_WORDS, z.nodes, right, NODE_FROM);
-    let to = record_word(area, HEADER_BYTES, NODE_WORDS, z.nodes, right, NODE_TO);
+    let right = area.stmt(i, STMT_RIGHT);
+    let from = area.node_word(right, NODE_FROM);
+    let to = area.node_word(right, NODE_TO);
     Some(Found {
         kind: ErrorKind::AlgebraicInitialCondition,
         from,
@@ -71,72 +68,62 @@ fn condition_error(area: &[u8], z: Sizes, i: usize, name: u32) -> Option<Found>
 }
 
 // Whether statement i is an initial condition of variable v.
-fn is_condition(area: &[u8], z: Sizes, i: usize, v: usize) -> bool
-    requires { Righted area.now z
-        × (i < z.stmts) }
-    ensures { result ≡ is_fated initial_fate v (area_stmt area.now z i) }
+fn is_condition(area: &Area, i: usize, v: usize) -> bool
+    requires { RightedSeen area.now
+        × (i < area.now.sizes.stmts) }
+    ensures { result ≡ is_fated initial_fate v (stmt_seen area.now i) }
 {
-    let fate = stmt_of(area, z, i, STMT_FATE);
-    (fate == Fate::Initial as usize) & (stmt_of(area, z, i, STMT_VARIABLE) == v)
+    let fate = area.stmt(i, STMT_FATE);
+    (fate == Fate::Initial as usize) & (area.stmt(i, STMT_VARIABLE) == v)
 }
 
 // The first initial condition of variable v.
-fn first_condition(area: &[u8], z: Sizes, v: usize) -> Option<usize>
-    requires { Righted area.now z }
-    ensures { place_as result ≡ place (is_fated initial_fate v) (area_stmts area.now z) }
+fn first_condition(area: &Area, v: usize) -> Option<usize>
+    requires { RightedSeen area.now }
+    ensures { place_as result ≡ place (is_fated initial_fate v) (stmts_seen area.now) }
 {
-    (0..z.stmts).find(|i| is_condition(area, z, *i, v))
+    (0..area.sizes.stmts).find(|i| is_condition(area, *i, v))
 }
 
 // Errors 16 and 17 of variable v, by what its record says that it holds.
-fn state_error(file: &View, m: usize, area: &[u8], z: Sizes, v: usize) -> Option<Found>
+fn state_error(file: &View, m: usize, area: &Area, v: usize) -> Option<Found>
     requires { (m < file.now.sections.counts.models)
-        × Righted area.now z
-        × (v < z.vars) }
+        × RightedSeen area.now
+        × (v < area.now.sizes.vars) }
     ensures { found_as result ≡ state_errors_in (model_at (file_seen file.now) m).span
-        (area_nodes area.now z) (area_stmts area.now z)
-        (get_or (names_in area.now z) v 0) v }
+        (nodes_seen area.now) (stmts_seen area.now)
+        (get_or (names_seen area.now) v 0) v }
 {
-    let held = var_of(area, z, v, VAR_HELD) as usize;
+    let held = area.var(v, VAR_HELD) as usize;
     if held == 0 {
         return None;
     }
-    let none = var_of(area, z, v, VAR_INITIAL) == 0;
-    let rate = stmt_of(area, z, held - 1, STMT_KIND) == RATE_KIND;
+    let none = area.var(v, VAR_INITIAL) == 0;
+    let rate = area.is_stmt(held - 1, StmtKind::Rate);
     if rate & none {
         return model_error(
             file,
             m,
             ErrorKind::NoInitialCondition,
-            var_of(area, z, v, VAR_NAME),
+            area.var(v, VAR_NAME),
         );
     }
     if rate | none {
         return None;
     }
-    match first_condition(area, z, v) {
-        Some(i) => condition_error(area, z, i, var_of(area, z, v, VAR_NAME)),
+    match first_condition(area, v) {
+        Some(i) => condition_error(area, i, area.var(v, VAR_NAME)),
         None => None,
     }
 }
 
 // Errors 16 and 17 of all variables.
-pub fn starting_errors(
-    file: &View,
-    m: usize,
-    area: &[u8],
-    z: Sizes,
-    out: &mut [u8],
-    count: usize,
-) -> usize
-    requires { Conditions file.now.bytes.now file.now.sections m area.now z out.old count }
-    ensures { Lists out.old count (starting_in (model_at (file_seen file.now) m).span
-        (area_nodes area.now z) (area_stmts area.now z) (names_in area.now z) z.vars) result
-        out.new }
+pub fn starting_errors(file: &View, m: usize, area: &Area, errors: &mut Errors)
+    requires { Conditions file.now.bytes.now file.now.sections m area.now.bytes.now area.now.sizes errors.old.count }
+    ensures { Listed errors.old (starting_in (model_at (file_seen file.now) m).span
+        (nodes_seen area.now) (stmts_seen area.now) (names_seen area.now) area.now.sizes.vars) errors.new }
 {
-    let mut listed = count;
-    for v in 0..z.vars {
-        listed = list(out, listed, state_error(file, m, area, z, v));
+    for v in 0..area.sizes.vars {
+        errors.list(state_error(file, m, area, v));
     }
-    listed
 }

@@ -8,14 +8,13 @@ ghost use Rattle.ast.specs.Views.{contents_seen, file_seen};
 ghost use Rattle.ast.specs.Rows.{at_most};
 ghost use Rattle.definitions.specs.Numbers.{most_models, most_instances};
 ghost use Rattle.definitions.specs.Flatten as Flatten;
-ghost use Rattle.builder.specs.Descent.{flat_at, brought_at, RowsAt, RowsKept, Linked, OwnAt};
+ghost use Rattle.builder.specs.Descent.{flat_at, brought_at, RowsAt, RowsKept, OwnAt};
 ghost use Rattle.builder.specs.Extents.{Counted, Extended};
 
 use crate::flattening::replacements::find_replacements;
-use ast::layout::{
-    MODEL_FIRST_STMT, MODEL_STMTS, MOST_NODES, MOST_STMTS, RATE_KIND, STMT_KIND, STMT_LEFT,
-    STMT_RIGHT, SUBMODEL_KIND,
-};
+use crate::models::called::Calls;
+use ast::kinds::StmtKind;
+use ast::layout::{MODEL_FIRST_STMT, MODEL_STMTS, MOST_NODES, MOST_STMTS, STMT_LEFT, STMT_RIGHT};
 use ast::subst::measure_expr;
 use ast::view::View;
 
@@ -28,12 +27,11 @@ pub struct FlatExtent {
 
 // The instances of model m, to a depth of k models, at most `most`: 1 for itself plus those of each submodel statement.
 #[cycle(instances_stmt_instances)]
-pub fn instances(file: &View, callees: &[u8; MOST_STMTS], k: usize, m: usize, most: usize) -> usize
-    requires { Linked file.now.bytes.now file.now.sections callees.now
-        × (m < file.now.sections.counts.models)
+pub fn instances(calls: &Calls, k: usize, m: usize, most: usize) -> usize
+    requires { (m < calls.now.file.sections.counts.models)
         × (k ≤ most_models)
         × (most ≤ most_instances + 1) }
-    ensures { result ≡ at_most most (Flatten.instances (file_seen file.now) k m) }
+    ensures { result ≡ at_most most (Flatten.instances (file_seen calls.now.file) k m) }
 {
     if k == 0 {
         return 0;
@@ -41,31 +39,29 @@ pub fn instances(file: &View, callees: &[u8; MOST_STMTS], k: usize, m: usize, mo
     if most == 0 {
         return 0;
     }
-    let first = file.model(m, MODEL_FIRST_STMT);
-    let count = file.model(m, MODEL_STMTS);
+    let first = calls.file.model(m, MODEL_FIRST_STMT);
+    let count = calls.file.model(m, MODEL_STMTS);
     let mut total = 1;
     for i in 0..count {
-        total += stmt_instances(file, callees, k - 1, first + i, most - total);
+        total += stmt_instances(calls, k - 1, first + i, most - total);
     }
     total
 }
 
 // Those of the model that statement q calls, if it calls one.
 #[cycle(instances_stmt_instances)]
-fn stmt_instances(file: &View, callees: &[u8; MOST_STMTS], k: usize, q: usize, most: usize) -> usize
-    requires { Linked file.now.bytes.now file.now.sections callees.now
-        × (q < file.now.sections.counts.stmts)
+fn stmt_instances(calls: &Calls, k: usize, q: usize, most: usize) -> usize
+    requires { (q < calls.now.file.sections.counts.stmts)
         × (k ≤ most_models)
         × (most ≤ most_instances + 1) }
-    ensures { result ≡ at_most most (sum_of (λ j. Flatten.instances (file_seen file.now) k j)
-        (Flatten.stmt_models (file_seen file.now)
-        (stmt_of (contents_seen file.now).nodes (get_or (contents_seen file.now).stmts q [])))) }
+    ensures { result ≡ at_most most (sum_of (λ j. Flatten.instances (file_seen calls.now.file) k j)
+        (Flatten.stmt_models (file_seen calls.now.file)
+        (stmt_of (contents_seen calls.now.file).nodes (get_or (contents_seen calls.now.file).stmts q [])))) }
 {
-    let c = callees[q] as usize;
-    if c == 0 {
-        return 0;
+    match calls.callee(q) {
+        Some(c) => instances(calls, k, c, most),
+        None => 0,
     }
-    instances(file, callees, k, c - 1, most)
 }
 
 // The nodes of statement q's own trees, read at a level, at most `most`.
@@ -74,13 +70,13 @@ fn own_nodes(file: &View, rows: &[u16], level: usize, q: usize, most: usize) -> 
     ensures { (sub : ℕ → List Flat) → result ≡ at_most most
         (sum_of flat_size (brought_at file.now.bytes.now file.now.sections rows.now level sub q)) }
 {
-    let ns = file.nodes();
+    let nodes = file.nodes();
     let right = file.stmt(q, STMT_RIGHT);
-    if file.stmt(q, STMT_KIND) == RATE_KIND {
-        return measure_expr(file.bytes, ns, rows, level, right, most);
+    if file.is_stmt(q, StmtKind::Rate) {
+        return measure_expr(&nodes, rows, level, right, most);
     }
-    let a = measure_expr(file.bytes, ns, rows, level, file.stmt(q, STMT_LEFT), most);
-    a + measure_expr(file.bytes, ns, rows, level, right, most - a)
+    let a = measure_expr(&nodes, rows, level, file.stmt(q, STMT_LEFT), most);
+    a + measure_expr(&nodes, rows, level, right, most - a)
 }
 
 // The extent `done` and that of statement q, whose own trees are read at a level.
@@ -99,29 +95,27 @@ fn own_extent(file: &View, rows: &[u16], level: usize, q: usize, done: FlatExten
 // to one more than its most.
 #[cycle(flat_extent_stmt_extent)]
 pub fn flat_extent(
-    file: &View,
-    callees: &[u8; MOST_STMTS],
+    calls: &Calls,
     rows: &mut [u16],
     k: usize,
     m: usize,
     level: usize,
     done: FlatExtent,
 ) -> FlatExtent
-    requires { Linked file.now.bytes.now file.now.sections callees.now
-        × (m < file.now.sections.counts.models)
-        × RowsAt file.now.bytes.now file.now.sections rows.old (level + k)
+    requires { (m < calls.now.file.sections.counts.models)
+        × RowsAt calls.now.file.bytes.now calls.now.file.sections rows.old (level + k)
         × Counted done }
-    ensures { Extended done (flat_at file.now.bytes.now file.now.sections rows.old level k m) result
-        × RowsKept file.now.bytes.now file.now.sections level rows.old rows.new }
+    ensures { Extended done (flat_at calls.now.file.bytes.now calls.now.file.sections rows.old level k m) result
+        × RowsKept calls.now.file.bytes.now calls.now.file.sections level rows.old rows.new }
 {
     if k == 0 {
         return done;
     }
-    let first = file.model(m, MODEL_FIRST_STMT);
-    let count = file.model(m, MODEL_STMTS);
+    let first = calls.file.model(m, MODEL_FIRST_STMT);
+    let count = calls.file.model(m, MODEL_STMTS);
     let mut total = done;
     for i in 0..count {
-        total = stmt_extent(file, callees, rows, k - 1, first + i, level, total);
+        total = stmt_extent(calls, rows, k - 1, first + i, level, total);
     }
     total
 }
@@ -130,32 +124,32 @@ pub fn flat_extent(
 // mosts.
 #[cycle(flat_extent_stmt_extent)]
 fn stmt_extent(
-    file: &View,
-    callees: &[u8; MOST_STMTS],
+    calls: &Calls,
     rows: &mut [u16],
     k: usize,
     q: usize,
     level: usize,
     done: FlatExtent,
 ) -> FlatExtent
-    requires { Linked file.now.bytes.now file.now.sections callees.now
-        × (q < file.now.sections.counts.stmts)
-        × RowsAt file.now.bytes.now file.now.sections rows.old (level + k + 1)
+    requires { (q < calls.now.file.sections.counts.stmts)
+        × RowsAt calls.now.file.bytes.now calls.now.file.sections rows.old (level + k + 1)
         × Counted done }
-    ensures { Extended done (brought_at file.now.bytes.now file.now.sections rows.old level
-        (λ j. Flatten.flatten (file_seen file.now) k j) q) result
-        × RowsKept file.now.bytes.now file.now.sections level rows.old rows.new }
+    ensures { Extended done (brought_at calls.now.file.bytes.now calls.now.file.sections rows.old level
+        (λ j. Flatten.flatten (file_seen calls.now.file) k j) q) result
+        × RowsKept calls.now.file.bytes.now calls.now.file.sections level rows.old rows.new }
 {
     if (MOST_STMTS < done.stmts) & (MOST_NODES < done.nodes) {
         return done;
     }
-    if file.stmt(q, STMT_KIND) != SUBMODEL_KIND {
-        return own_extent(file, rows, level, q, done);
+    if !calls.file.is_stmt(q, StmtKind::Submodel) {
+        return own_extent(&calls.file, rows, level, q, done);
     }
-    let c = callees[q] as usize;
-    if (c == 0) | (k == 0) {
-        return done;
+    match calls.callee(q) {
+        Some(c) if k != 0 => {
+            let call = calls.file.stmt(q, STMT_RIGHT);
+            find_replacements(&calls.file, c, call, rows, level);
+            flat_extent(calls, rows, k, c, level + 1, done)
+        },
+        _ => done,
     }
-    find_replacements(file, c - 1, file.stmt(q, STMT_RIGHT), rows, level);
-    flat_extent(file, callees, rows, k, c - 1, level + 1, done)
 }

@@ -12,9 +12,9 @@ ghost use Rattle.builder.specs.Root.{flats_of};
 ghost use Rattle.builder.specs.Laying.{Laying};
 
 use crate::flattening::statements::{Written, write_flats};
+use crate::models::called::Calls;
 use area::layout::{HEADER_BYTES, MOST_BYTES};
-use ast::layout::{MOST_STMTS, NODE_BYTES};
-use ast::view::View;
+use ast::layout::NODE_BYTES;
 
 // No replacements: N entries in which nothing stands.
 pub fn no_rows<const N: usize>() -> [u16; N]
@@ -32,20 +32,13 @@ pub fn blank() -> [u8; MOST_BYTES]
 }
 
 // Writes the nodes, n of them, and the statements' records.
-pub fn lay_flats(
-    file: &View,
-    callees: &[u8; MOST_STMTS],
-    rows: &mut [u16],
-    m: usize,
-    area: &mut [u8],
-    n: usize,
-)
-    requires { Laying file.now.bytes.now file.now.sections callees.now rows.old m
-        × (n ≡ sum_of flat_size (flats_of (file_seen file.now) m))
+pub fn lay_flats(calls: &Calls, rows: &mut [u16], m: usize, area: &mut [u8], n: usize)
+    requires { Laying calls.now.file.bytes.now calls.now.file.sections rows.old m
+        × (n ≡ sum_of flat_size (flats_of (file_seen calls.now.file) m))
         × (length area.old ≡ most_bytes) }
     ensures { area.new ≡ put (put area.old nodes_at
-        (encode (each flat_nodes (flats_of (file_seen file.now) m)))) (nodes_end n)
-        (encode (unfated 0 (flats_of (file_seen file.now) m))) }
+        (encode (each flat_nodes (flats_of (file_seen calls.now.file) m)))) (nodes_end n)
+        (encode (unfated 0 (flats_of (file_seen calls.now.file) m))) }
 {
     // no record yet: the first comes behind all nodes
     let none = Written {
@@ -53,10 +46,9 @@ pub fn lay_flats(
         end: NODE_BYTES * n,
     };
     write_flats(
-        file,
-        callees,
+        calls,
         rows,
-        file.sections.counts.models,
+        calls.file.sections.counts.models,
         m,
         0,
         &mut area[HEADER_BYTES..],

@@ -1,5 +1,6 @@
 // The replacements of a submodel statement: what each argument replaces in its model, as a row over the names.
-ghost use Rattle.std.specs.Prelude.{◌≡◌, cond, ℕ, ◌+◌, ◌-◌, ◌*◌, ◌≤◌, ◌<◌, eqb, length, take, drop, get_or, set};
+ghost use Rattle.std.specs.Prelude.{◌≡◌, cond, ℕ, ◌+◌, ◌-◌, ◌*◌, ◌≤◌, ◌<◌, eqb, length, take, drop, get_or, set, IfSome};
+ghost use Rattle.functions.specs.Lists.{plus_one};
 ghost use Rattle.ast.specs.Subst.{Replacements};
 ghost use Rattle.ast.specs.Nodes.{name_at, tree_at};
 ghost use Rattle.ast.specs.Levels.{by_table};
@@ -8,25 +9,26 @@ ghost use Rattle.definitions.specs.Numbers.{most_names};
 ghost use Rattle.definitions.specs.Flatten.{replaced_name, model_at};
 ghost use Rattle.builder.specs.Descent.{replaced_by, RowsAt, RowIn, RowsKept, ArgumentBefore, ModelCall};
 ghost use Rattle.builder.specs.Overlay.{over, replacing};
+ghost use Rattle.builder.specs.Starting.{place_as};
 
 use ast::layout::{
     MODEL_FIRST_UNKNOWN, MODEL_UNKNOWNS, MOST_NAMES, NODE_NAME, NODE_OP, NODE_SIZE, UNKNOWN_NAME,
 };
 use ast::view::View;
 
-// The name, plus 1, that argument number i with a keyword (plus 1, or 0) replaces: its unknown i, or its keyword.
-fn target(file: &View, m: usize, i: usize, keyword: usize) -> usize
+// The name that argument number i with a keyword (plus 1, or 0) replaces: its keyword, or unknown i of its model.
+fn target(file: &View, m: usize, i: usize, keyword: usize) -> Option<usize>
     requires { (m < file.now.sections.counts.models) × (keyword ≤ file.now.sections.counts.names) }
-    ensures { (result ≡ replaced_name (model_at (file_seen file.now) m).unknowns i keyword)
-        × (result ≤ file.now.sections.counts.names) }
+    ensures { (plus_one (place_as result) ≡ replaced_name (model_at (file_seen file.now) m).unknowns i keyword)
+        × IfSome result (λ n. n < file.now.sections.counts.names) }
 {
-    if keyword != 0 {
-        return keyword;
+    if let Some(name) = keyword.checked_sub(1) {
+        return Some(name);
     }
     if i < file.model(m, MODEL_UNKNOWNS) {
-        return file.unknown(file.model(m, MODEL_FIRST_UNKNOWN) + i, UNKNOWN_NAME) + 1;
+        return Some(file.unknown(file.model(m, MODEL_FIRST_UNKNOWN) + i, UNKNOWN_NAME));
     }
-    0
+    None
 }
 
 // Sets an entry that is still 0.
@@ -52,9 +54,8 @@ fn note_argument(file: &View, m: usize, i: usize, end: usize, row: &mut [u16])
         (name_at (contents_seen file.now).nodes (end - 1)))
         (tree_at (contents_seen file.now).nodes (end - 1 - 1)) by) n) }
 {
-    let name = target(file, m, i, file.node(end - 1, NODE_NAME));
-    if name != 0 {
-        set_free(row, name - 1, (end - 1) as u16);
+    if let Some(name) = target(file, m, i, file.node(end - 1, NODE_NAME)) {
+        set_free(row, name, (end - 1) as u16);
     }
 }
 

@@ -10,14 +10,16 @@ ghost use Rattle.ast.specs.Rows.{read};
 ghost use Rattle.ast.specs.Views.{contents_seen, file_seen};
 ghost use Rattle.definitions.specs.Numbers.{stmt_length};
 ghost use Rattle.definitions.specs.Flatten.{flatten};
-ghost use Rattle.builder.specs.Descent.{flat_at, brought_at, RowsAt, RowsKept, Linked, ExprAt, OwnAt, NodesFit};
+ghost use Rattle.builder.specs.Descent.{flat_at, brought_at, RowsAt, RowsKept, ExprAt, OwnAt, NodesFit};
 ghost use Rattle.builder.specs.Unfated.{FlatsFit, FlatsPut};
 
 use crate::flattening::replacements::find_replacements;
+use crate::models::called::Calls;
 use area::layout::STMT_BYTES;
+use ast::kinds::StmtKind;
 use ast::layout::{
-    EQUATION_KIND, MODEL_FIRST_STMT, MODEL_STMTS, MOST_STMTS, NODE_BYTES, NODE_FROM, NODE_TO,
-    RATE_KIND, STMT_FROM, STMT_KIND, STMT_LEFT, STMT_NAME, STMT_RIGHT, STMT_TO, SUBMODEL_KIND,
+    MODEL_FIRST_STMT, MODEL_STMTS, NODE_BYTES, NODE_FROM, NODE_TO, STMT_FROM, STMT_LEFT, STMT_NAME,
+    STMT_RIGHT, STMT_TO,
 };
 use ast::subst::clone_and_subst;
 use ast::view::View;
@@ -46,11 +48,11 @@ fn write_tree(
         × (out.new ≡ put out.old (node_bytes * done)
         (encode (nodes (read (contents_seen file.now).nodes rows.now level i)))) }
 {
-    let ns = file.nodes();
+    let nodes = file.nodes();
     let from = file.node(i, NODE_FROM) as u32;
     let to = file.node(i, NODE_TO) as u32;
     let start = NODE_BYTES * done;
-    done + clone_and_subst(file.bytes, ns, rows, level, i, from, to, &mut out[start..])
+    done + clone_and_subst(&nodes, rows, level, i, from, to, &mut out[start..])
 }
 
 // Writes a statement's record, without its fate, at a byte.
@@ -89,26 +91,25 @@ fn write_own(
     let from = file.stmt(q, STMT_FROM) as u32;
     let to = file.stmt(q, STMT_TO) as u32;
     let i = file.stmt(q, STMT_RIGHT);
-    if file.stmt(q, STMT_KIND) == RATE_KIND {
+    if file.is_stmt(q, StmtKind::Rate) {
         let name = file.stmt(q, STMT_NAME) as u32;
         let b = write_tree(file, rows, level, i, out, done.nodes);
         let r = (b - 1) as u32;
-        record_at(out, done.end, RATE_KIND as u32, name, 0, r, from, to);
+        record_at(out, done.end, StmtKind::Rate as u32, name, 0, r, from, to);
         return Written { nodes: b, end };
     }
     let a = write_tree(file, rows, level, file.stmt(q, STMT_LEFT), out, done.nodes);
     let b = write_tree(file, rows, level, i, out, a);
     let l = (a - 1) as u32;
     let r = (b - 1) as u32;
-    record_at(out, done.end, EQUATION_KIND as u32, 0, l, r, from, to);
+    record_at(out, done.end, StmtKind::Equation as u32, 0, l, r, from, to);
     Written { nodes: b, end }
 }
 
 // Writes model m's flattened statements, whose trees are read at a level, behind those done.
 #[cycle(write_flats_write_stmt)]
 pub fn write_flats(
-    file: &View,
-    callees: &[u8; MOST_STMTS],
+    calls: &Calls,
     rows: &mut [u16],
     k: usize,
     m: usize,
@@ -116,22 +117,22 @@ pub fn write_flats(
     out: &mut [u8],
     done: Written,
 ) -> Written
-    requires { Linked file.now.bytes.now file.now.sections callees.now
-        × (m < file.now.sections.counts.models)
-        × RowsAt file.now.bytes.now file.now.sections rows.old (level + k)
-        × FlatsFit done (flat_at file.now.bytes.now file.now.sections rows.old level k m) (length out.old) }
-    ensures { FlatsPut done out.old (flat_at file.now.bytes.now file.now.sections rows.old level k m) result
+    requires { (m < calls.now.file.sections.counts.models)
+        × RowsAt calls.now.file.bytes.now calls.now.file.sections rows.old (level + k)
+        × FlatsFit done (flat_at calls.now.file.bytes.now calls.now.file.sections rows.old level k m)
+        (length out.old) }
+    ensures { FlatsPut done out.old (flat_at calls.now.file.bytes.now calls.now.file.sections rows.old level k m) result
         out.new
-        × RowsKept file.now.bytes.now file.now.sections level rows.old rows.new }
+        × RowsKept calls.now.file.bytes.now calls.now.file.sections level rows.old rows.new }
 {
     if k == 0 {
         return done;
     }
-    let first = file.model(m, MODEL_FIRST_STMT);
-    let count = file.model(m, MODEL_STMTS);
+    let first = calls.file.model(m, MODEL_FIRST_STMT);
+    let count = calls.file.model(m, MODEL_STMTS);
     let mut total = done;
     for i in 0..count {
-        total = write_stmt(file, callees, rows, k - 1, first + i, level, out, total);
+        total = write_stmt(calls, rows, k - 1, first + i, level, out, total);
     }
     total
 }
@@ -139,8 +140,7 @@ pub fn write_flats(
 // Writes what statement q brings in.
 #[cycle(write_flats_write_stmt)]
 fn write_stmt(
-    file: &View,
-    callees: &[u8; MOST_STMTS],
+    calls: &Calls,
     rows: &mut [u16],
     k: usize,
     q: usize,
@@ -148,22 +148,23 @@ fn write_stmt(
     out: &mut [u8],
     done: Written,
 ) -> Written
-    requires { Linked file.now.bytes.now file.now.sections callees.now
-        × (q < file.now.sections.counts.stmts)
-        × RowsAt file.now.bytes.now file.now.sections rows.old (level + k + 1)
-        × FlatsFit done (brought_at file.now.bytes.now file.now.sections rows.old level (λ j. flatten (file_seen file.now) k j) q)
-        (length out.old) }
-    ensures { FlatsPut done out.old (brought_at file.now.bytes.now file.now.sections rows.old level
-        (λ j. flatten (file_seen file.now) k j) q) result out.new
-        × RowsKept file.now.bytes.now file.now.sections level rows.old rows.new }
+    requires { (q < calls.now.file.sections.counts.stmts)
+        × RowsAt calls.now.file.bytes.now calls.now.file.sections rows.old (level + k + 1)
+        × FlatsFit done (brought_at calls.now.file.bytes.now calls.now.file.sections rows.old level
+        (λ j. flatten (file_seen calls.now.file) k j) q) (length out.old) }
+    ensures { FlatsPut done out.old (brought_at calls.now.file.bytes.now calls.now.file.sections rows.old level
+        (λ j. flatten (file_seen calls.now.file) k j) q) result out.new
+        × RowsKept calls.now.file.bytes.now calls.now.file.sections level rows.old rows.new }
 {
-    if file.stmt(q, STMT_KIND) != SUBMODEL_KIND {
-        return write_own(file, rows, level, q, out, done);
+    if !calls.file.is_stmt(q, StmtKind::Submodel) {
+        return write_own(&calls.file, rows, level, q, out, done);
     }
-    let c = callees[q] as usize;
-    if (c == 0) | (k == 0) {
-        return done;
+    match calls.callee(q) {
+        Some(c) if k != 0 => {
+            let call = calls.file.stmt(q, STMT_RIGHT);
+            find_replacements(&calls.file, c, call, rows, level);
+            write_flats(calls, rows, k, c, level + 1, out, done)
+        },
+        _ => done,
     }
-    find_replacements(file, c - 1, file.stmt(q, STMT_RIGHT), rows, level);
-    write_flats(file, callees, rows, k, c - 1, level + 1, out, done)
 }

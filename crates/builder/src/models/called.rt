@@ -1,33 +1,33 @@
 // The root, and the model that each submodel statement calls.
 ghost use Rattle.std.specs.Prelude.{◌≡◌, ◌<◌};
-ghost use Rattle.functions.specs.Lists.{plus_one};
 ghost use Rattle.ast.specs.Views.{file_seen};
 ghost use Rattle.definitions.specs.Flatten.{model_named};
 ghost use Rattle.definitions.specs.Build.{root_of};
 ghost use Rattle.builder.specs.Tables.{callee_of, Callees};
 ghost use Rattle.builder.specs.Checking.{stmt_in};
+ghost use Rattle.builder.specs.Starting.{place_as};
 
 use crate::names::name_text;
-use ast::layout::{MODEL_NAME, MOST_STMTS, NODE_NAME, STMT_KIND, STMT_RIGHT, SUBMODEL_KIND};
+use ast::kinds::StmtKind;
+use ast::layout::{MODEL_NAME, MOST_STMTS, NODE_NAME, STMT_RIGHT};
 use ast::view::View;
 use functions::same_bytes;
 
-// The number, plus 1, of the first model that bears the root name, or 0.
-pub fn find_root(file: &View, root: &[u8]) -> usize
-    ensures { result ≡ plus_one (root_of (file_seen file.now) root.now) }
+// The number of the first model that bears the root name.
+pub fn find_root(file: &View, root: &[u8]) -> Option<usize>
+    ensures { place_as result ≡ root_of (file_seen file.now) root.now }
 {
-    (0..file.sections.counts.models)
-        .position(|m| same_bytes(root, name_text(file, file.model(m, MODEL_NAME))))
-        .map_or(0, |m| m + 1)
+    (0..file.sections.counts.models).position(|m| {
+        let name = file.model(m, MODEL_NAME);
+        same_bytes(root, name_text(file, name))
+    })
 }
 
-// The number, plus 1, of the first model that bears a name, or 0.
-fn find_model(file: &View, name: usize) -> usize
-    ensures { result ≡ plus_one (model_named (file_seen file.now) name) }
+// The number of the first model that bears a name.
+fn find_model(file: &View, name: usize) -> Option<usize>
+    ensures { place_as result ≡ model_named (file_seen file.now) name }
 {
-    (0..file.sections.counts.models)
-        .position(|m| name == file.model(m, MODEL_NAME))
-        .map_or(0, |m| m + 1)
+    (0..file.sections.counts.models).position(|m| name == file.model(m, MODEL_NAME))
 }
 
 // The number, plus 1, of the model that statement q calls, or 0.
@@ -35,20 +35,49 @@ fn callee(file: &View, q: usize) -> u8
     requires { q < file.now.sections.counts.stmts }
     ensures { result ≡ callee_of (file_seen file.now) (stmt_in file.now.bytes.now file.now.sections q) }
 {
-    if file.stmt(q, STMT_KIND) != SUBMODEL_KIND {
+    if !file.is_stmt(q, StmtKind::Submodel) {
         return 0;
     }
     let call = file.stmt(q, STMT_RIGHT);
-    find_model(file, file.node(call, NODE_NAME)) as u8
+    find_model(file, file.node(call, NODE_NAME)).map_or(0, |m| m as u8 + 1)
 }
 
-// The same of each statement.
-pub fn callees(file: &View) -> [u8; MOST_STMTS]
-    ensures { Callees file.now.bytes.now file.now.sections result }
-{
-    let mut out = [0u8; MOST_STMTS];
-    for q in 0..file.sections.counts.stmts {
-        out[q] = callee(file, q);
+// An open file, and the model that each of its submodel statements calls: of each statement its number, plus 1, or 0.
+#[derive(Drop)]
+pub struct Calls<'a> {
+    pub file: View<'a>,
+    pub callees: [u8; MOST_STMTS],
+    pub ghost called: { Callees file.bytes.now file.sections callees },
+}
+
+impl Calls<'_> {
+    ghost use Rattle.builder.specs.Starting.{place_as};
+    ghost use Rattle.builder.specs.Tables.{called_by};
+
+    // The model that statement q calls, if it calls one.
+    pub fn callee(&self, q: usize) -> Option<usize>
+        requires { q < self.now.file.sections.counts.stmts }
+        ensures { place_as result ≡ called_by (file_seen self.now.file)
+            (stmt_in self.now.file.bytes.now self.now.file.sections q) }
+    {
+        let c = usize::from(self.callees[q]);
+        if c == 0 {
+            return None;
+        }
+        Some(c - 1)
     }
-    out
+}
+
+// The file with the models that its statements call.
+pub fn find_calls<'a>(file: &View<'a>) -> Calls<'a>
+    ensures { result.file ≡ file.now }
+{
+    let mut callees = [0u8; MOST_STMTS];
+    for q in 0..file.sections.counts.stmts {
+        callees[q] = callee(file, q);
+    }
+    Calls {
+        file: *file,
+        callees,
+    }
 }

@@ -5,16 +5,17 @@ ghost use Rattle.ast.specs.Nodes.{kind_at, op_at, size_at, args_before};
 ghost use Rattle.ast.specs.Views.{contents_seen, file_seen};
 ghost use Rattle.definitions.specs.Numbers.{call_kind};
 ghost use Rattle.definitions.specs.Flatten as flatten;
-ghost use Rattle.builder.specs.Tables.{Classes, ClassedModel, Callees, ReachedIn};
+ghost use Rattle.builder.specs.Tables.{Classes, ClassedModel, ReachedIn};
 ghost use Rattle.builder.specs.Checking.{unknown_in, stmt_in};
-ghost use Rattle.builder.specs.Rounds.{model_pairs, onward, Added, Stepped, RoundOf, RowsOf};
+ghost use Rattle.builder.specs.Rounds.{model_pairs, onward, Added, Stepped, RowsOf};
 
+use crate::models::called::Calls;
 use crate::models::scope::names_dep;
-use crate::names::{is_reserved, is_time};
+use crate::names::Class;
 use crate::numbers::MODEL_PAIRS;
 use ast::layout::{
     MODEL_FIRST_STMT, MODEL_FIRST_UNKNOWN, MODEL_STMTS, MODEL_UNKNOWNS, MOST_MODELS, MOST_NAMES,
-    MOST_STMTS, NODE_NAME, NODE_OP, NODE_SIZE, STMT_RIGHT, UNKNOWN_NAME,
+    NODE_NAME, NODE_OP, NODE_SIZE, STMT_RIGHT, UNKNOWN_NAME,
 };
 use ast::view::View;
 
@@ -38,65 +39,55 @@ fn add_reached(old: &[u8], models: usize, c: usize, new: &mut [u8], a: usize)
 }
 
 // The same for the model that statement q calls, if it calls one.
-fn add_called(
-    file: &View,
-    callees: &[u8; MOST_STMTS],
-    old: &[u8],
-    q: usize,
-    new: &mut [u8],
-    a: usize,
-)
-    requires { RoundOf file.now.bytes.now file.now.sections callees.now old.now
+fn add_called(calls: &Calls, old: &[u8], q: usize, new: &mut [u8], a: usize)
+    requires { (length old.now ≡ model_pairs)
         × (length new.old ≡ model_pairs)
-        × (q < file.now.sections.counts.stmts)
-        × (a < file.now.sections.counts.models) }
-    ensures { Added file.now.sections.counts.models a (λ y. any (onward old.now y)
-        (flatten.stmt_models (file_seen file.now) (stmt_in file.now.bytes.now file.now.sections q))) new.old
-        new.new }
+        × (q < calls.now.file.sections.counts.stmts)
+        × (a < calls.now.file.sections.counts.models) }
+    ensures { Added calls.now.file.sections.counts.models a (λ y. any (onward old.now y)
+        (flatten.stmt_models (file_seen calls.now.file)
+        (stmt_in calls.now.file.bytes.now calls.now.file.sections q))) new.old new.new }
 {
-    let c = usize::from(callees[q]);
-    if c == 0 {
-        return;
+    if let Some(c) = calls.callee(q) {
+        add_reached(old, calls.file.sections.counts.models, c, new, a);
     }
-    add_reached(old, file.sections.counts.models, c - 1, new, a);
 }
 
 // Row a of the next table: what model a's statements add.
-fn reach_row(file: &View, callees: &[u8; MOST_STMTS], old: &[u8], a: usize, new: &mut [u8])
-    requires { RoundOf file.now.bytes.now file.now.sections callees.now old.now
-        × (a < file.now.sections.counts.models)
-        × Stepped (file_seen file.now) file.now.sections.counts.models old.now a new.old }
-    ensures { Stepped (file_seen file.now) file.now.sections.counts.models old.now (a + 1)
+fn reach_row(calls: &Calls, old: &[u8], a: usize, new: &mut [u8])
+    requires { (length old.now ≡ model_pairs)
+        × (a < calls.now.file.sections.counts.models)
+        × Stepped (file_seen calls.now.file) calls.now.file.sections.counts.models old.now a new.old }
+    ensures { Stepped (file_seen calls.now.file) calls.now.file.sections.counts.models old.now (a + 1)
         new.new }
 {
-    let first = file.model(a, MODEL_FIRST_STMT);
-    let count = file.model(a, MODEL_STMTS);
+    let first = calls.file.model(a, MODEL_FIRST_STMT);
+    let count = calls.file.model(a, MODEL_STMTS);
     for i in 0..count {
-        add_called(file, callees, old, first + i, new, a);
+        add_called(calls, old, first + i, new, a);
     }
 }
 
 // The next table: one step more.
-fn reach_round(file: &View, callees: &[u8; MOST_STMTS], old: &[u8]) -> [u8; MODEL_PAIRS]
-    requires { RoundOf file.now.bytes.now file.now.sections callees.now old.now }
-    ensures { Stepped (file_seen file.now) file.now.sections.counts.models old.now
-        file.now.sections.counts.models result }
+fn reach_round(calls: &Calls, old: &[u8]) -> [u8; MODEL_PAIRS]
+    requires { length old.now ≡ model_pairs }
+    ensures { Stepped (file_seen calls.now.file) calls.now.file.sections.counts.models old.now
+        calls.now.file.sections.counts.models result }
 {
     let mut new = [0u8; MODEL_PAIRS];
-    for a in 0..file.sections.counts.models {
-        reach_row(file, callees, old, a, &mut new);
+    for a in 0..calls.file.sections.counts.models {
+        reach_row(calls, old, a, &mut new);
     }
     new
 }
 
 // Whether model b is reached from model a, at 32 a + b.
-pub fn reach(file: &View, callees: &[u8; MOST_STMTS]) -> [u8; MODEL_PAIRS]
-    requires { Callees file.now.bytes.now file.now.sections callees.now }
-    ensures { ReachedIn file.now.bytes.now file.now.sections result }
+pub fn reach(calls: &Calls) -> [u8; MODEL_PAIRS]
+    ensures { ReachedIn calls.now.file.bytes.now calls.now.file.sections result }
 {
     let mut table = [0u8; MODEL_PAIRS];
-    for _ in 0..file.sections.counts.models {
-        table = reach_round(file, callees, &table);
+    for _ in 0..calls.file.sections.counts.models {
+        table = reach_round(calls, &table);
     }
     table
 }
@@ -112,14 +103,13 @@ fn is_reached(file: &View, table: &[u8; MODEL_PAIRS], root: usize, m: usize) -> 
 }
 
 // Whether unknown u, t or unreserved, lists itself.
-fn lists_itself(file: &View, classes: &[u8; MOST_NAMES], u: usize) -> bool
+fn lists_itself(file: &View, classes: &[Class; MOST_NAMES], u: usize) -> bool
     requires { Classes (file_seen file.now).names classes.now
         × (u < file.now.sections.counts.unknowns) }
     ensures { result ≡ flatten.lists_itself (file_seen file.now) (unknown_in file.now.bytes.now file.now.sections u) }
 {
     let name = file.unknown(u, UNKNOWN_NAME);
-    let class = classes[name];
-    (is_time(class) || !is_reserved(class)) && names_dep(file, u, name)
+    classes[name] != Class::Reserved && names_dep(file, u, name)
 }
 
 // Whether a positional argument of a call has a number that is not below n.
@@ -142,20 +132,16 @@ fn beyond(file: &View, call: usize, n: usize) -> bool
 }
 
 // Whether statement q calls a model with a positional argument whose number is not below the model's count of unknowns.
-fn too_many(file: &View, callees: &[u8; MOST_STMTS], q: usize) -> bool
-    requires { Callees file.now.bytes.now file.now.sections callees.now
-        × (q < file.now.sections.counts.stmts) }
-    ensures { result ≡ flatten.stmt_beyond (file_seen file.now) (stmt_in file.now.bytes.now file.now.sections q) }
+fn too_many(calls: &Calls, q: usize) -> bool
+    requires { q < calls.now.file.sections.counts.stmts }
+    ensures { result ≡ flatten.stmt_beyond (file_seen calls.now.file)
+        (stmt_in calls.now.file.bytes.now calls.now.file.sections q) }
 {
-    let c = usize::from(callees[q]);
-    if c == 0 {
+    let Some(c) = calls.callee(q) else {
         return false;
-    }
-    beyond(
-        file,
-        file.stmt(q, STMT_RIGHT),
-        file.model(c - 1, MODEL_UNKNOWNS),
-    )
+    };
+    let call = calls.file.stmt(q, STMT_RIGHT);
+    beyond(&calls.file, call, calls.file.model(c, MODEL_UNKNOWNS))
 }
 
 // Whether a model, the root or reached from it, is reached from itself.
@@ -170,7 +156,7 @@ pub fn cyclic(file: &View, table: &[u8; MODEL_PAIRS], root: usize) -> bool
 }
 
 // Whether an unknown of model m lists itself.
-fn has_self_listed(file: &View, classes: &[u8; MOST_NAMES], m: usize) -> bool
+fn has_self_listed(file: &View, classes: &[Class; MOST_NAMES], m: usize) -> bool
     requires { ClassedModel file.now.bytes.now file.now.sections classes.now m }
     ensures { result ≡ any (flatten.lists_itself (file_seen file.now))
         (flatten.model_at (file_seen file.now) m).unknowns }
@@ -183,7 +169,7 @@ fn has_self_listed(file: &View, classes: &[u8; MOST_NAMES], m: usize) -> bool
 // Whether a model, the root or reached from it, has an unknown that lists itself.
 pub fn self_listed(
     file: &View,
-    classes: &[u8; MOST_NAMES],
+    classes: &[Class; MOST_NAMES],
     table: &[u8; MODEL_PAIRS],
     root: usize,
 ) -> bool
@@ -197,30 +183,23 @@ pub fn self_listed(
 }
 
 // Whether a statement of model m calls a model with an argument beyond that model's unknowns.
-fn has_too_many(file: &View, callees: &[u8; MOST_STMTS], m: usize) -> bool
-    requires { Callees file.now.bytes.now file.now.sections callees.now
-        × (m < file.now.sections.counts.models) }
-    ensures { result ≡ any (flatten.stmt_beyond (file_seen file.now))
-        (flatten.model_at (file_seen file.now) m).stmts }
+fn has_too_many(calls: &Calls, m: usize) -> bool
+    requires { m < calls.now.file.sections.counts.models }
+    ensures { result ≡ any (flatten.stmt_beyond (file_seen calls.now.file))
+        (flatten.model_at (file_seen calls.now.file) m).stmts }
 {
-    let first = file.model(m, MODEL_FIRST_STMT);
-    let count = file.model(m, MODEL_STMTS);
-    (first..first + count).any(|q| too_many(file, callees, q))
+    let first = calls.file.model(m, MODEL_FIRST_STMT);
+    let count = calls.file.model(m, MODEL_STMTS);
+    (first..first + count).any(|q| too_many(calls, q))
 }
 
 // Whether a model, the root or reached from it, has such a statement.
-pub fn overfull(
-    file: &View,
-    callees: &[u8; MOST_STMTS],
-    table: &[u8; MODEL_PAIRS],
-    root: usize,
-) -> bool
-    requires { Callees file.now.bytes.now file.now.sections callees.now
-        × ReachedIn file.now.bytes.now file.now.sections table.now
-        × (root < file.now.sections.counts.models) }
-    ensures { result ≡ flatten.overfull (file_seen file.now) root }
+pub fn overfull(calls: &Calls, table: &[u8; MODEL_PAIRS], root: usize) -> bool
+    requires { ReachedIn calls.now.file.bytes.now calls.now.file.sections table.now
+        × (root < calls.now.file.sections.counts.models) }
+    ensures { result ≡ flatten.overfull (file_seen calls.now.file) root }
 {
-    (0..file.sections.counts.models)
-        .filter(|m| is_reached(file, table, root, *m))
-        .any(|m| has_too_many(file, callees, m))
+    (0..calls.file.sections.counts.models)
+        .filter(|m| is_reached(&calls.file, table, root, *m))
+        .any(|m| has_too_many(calls, m))
 }

@@ -11,7 +11,7 @@ ghost use Rattle.definitions.specs.Flatten.{model_at};
 ghost use Rattle.builder.specs.Tables.{Classes, ClassedModel, Blank, VarsOf, Marks, kept_in};
 ghost use Rattle.builder.specs.Checking.{scope_in, kept_names, unknown_in, Scoped};
 
-use crate::names::{is_reserved, time_name};
+use crate::names::{Class, is_reserved, time_name};
 use ast::layout::{
     MODEL_FIRST_UNKNOWN, MODEL_UNKNOWNS, MOST_NAMES, UNKNOWN_DEPS, UNKNOWN_FIRST_DEP, UNKNOWN_NAME,
 };
@@ -60,19 +60,18 @@ pub fn no_marks() -> [u16; MOST_NAMES]
 }
 
 // Marks t's name, in a table without marks.
-fn time_declared(file: &View, classes: &[u8; MOST_NAMES], out: &mut [u16])
+fn time_declared(file: &View, classes: &[Class; MOST_NAMES], out: &mut [u16])
     requires { Classes (file_seen file.now).names classes.now
         × Blank most_names out.old }
     ensures { Marks file.now.sections.counts.names (time_name (file_seen file.now).names ∷ []) out.new }
 {
-    let time = time_name(file, classes);
-    if time != 0 {
-        out[time - 1] = 1;
+    if let Some(time) = time_name(file, classes) {
+        out[time] = 1;
     }
 }
 
 // Marks the variables of model m, in a table without marks: t, and each unreserved unknown's name.
-fn declared(file: &View, classes: &[u8; MOST_NAMES], m: usize, out: &mut [u16])
+fn declared(file: &View, classes: &[Class; MOST_NAMES], m: usize, out: &mut [u16])
     requires { ClassedModel file.now.bytes.now file.now.sections classes.now m
         × Blank most_names out.old }
     ensures { Marks file.now.sections.counts.names (variable_names (file_seen file.now).names
@@ -105,7 +104,7 @@ fn kept_count(file: &View, vars: &[u16], u: usize) -> u16
 
 // Notes the variables of model m by name, in a table without marks: 0 where a name is none, else 1 plus the count of
 // its kept dependents.
-pub fn model_vars(file: &View, classes: &[u8; MOST_NAMES], m: usize, out: &mut [u16])
+pub fn model_vars(file: &View, classes: &[Class; MOST_NAMES], m: usize, out: &mut [u16])
     requires { ClassedModel file.now.bytes.now file.now.sections classes.now m
         × Blank most_names out.old }
     ensures { VarsOf (scope_in file.now.bytes.now file.now.sections m) out.new

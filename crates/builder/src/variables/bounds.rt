@@ -1,5 +1,5 @@
 // The bounds of variables and of time, by the domains that the root's unknowns declare.
-ghost use Rattle.std.specs.Prelude.{◌≡◌, [], ◌∷◌, ◌+◌, ◌*◌, ◌≤◌, ◌<◌, length};
+ghost use Rattle.std.specs.Prelude.{◌≡◌, [], ◌∷◌, ◌+◌, ◌*◌, ◌≤◌, ◌<◌, length, IfSome};
 ghost use Rattle.ast.specs.Words.{low, high, bytes_of};
 ghost use Rattle.ast.specs.Bytes.{put};
 ghost use Rattle.ast.specs.Views.{file_seen};
@@ -11,7 +11,7 @@ ghost use Rattle.builder.specs.Tables.{Classes};
 ghost use Rattle.builder.specs.Bounding.{bounds_from, floats, Floating, case_bounds, NamedBelow, unknown_bounds, declared_bounds, LastDeclared, time_in, bound_bits, bounds_bits, NanDeclared, NansDeclared, Bounded};
 ghost use Rattle.builder.specs.VarRecords.{var_bounds};
 
-use crate::names::{NON_NEGATIVE, is_time};
+use crate::names::Class;
 use area::layout::FLOAT_BYTES;
 use ast::layout::{
     MODEL_FIRST_UNKNOWN, MODEL_UNKNOWNS, UNKNOWN_LOWER, UNKNOWN_NAME, UNKNOWN_UPPER,
@@ -19,19 +19,16 @@ use ast::layout::{
 use ast::numbers::{Bounds, Domain};
 use ast::view::View;
 
-// The unknown of model m, plus 1, that declares a name (plus 1) last, or 0.
-pub fn last_declared(file: &View, m: usize, name: usize) -> usize
+// The unknown of model m that declares a name (plus 1) last.
+pub fn last_declared(file: &View, m: usize, name: usize) -> Option<usize>
     requires { m < file.now.sections.counts.models }
     ensures { LastDeclared file.now.bytes.now file.now.sections m name result }
 {
     let first = file.model(m, MODEL_FIRST_UNKNOWN);
     let count = file.model(m, MODEL_UNKNOWNS);
-    for i in (0..count).rev() {
-        if file.unknown(first + i, UNKNOWN_NAME) + 1 == name {
-            return first + i + 1;
-        }
-    }
-    0
+    (first..first + count)
+        .rev()
+        .find(|u| file.unknown(*u, UNKNOWN_NAME) + 1 == name)
 }
 
 // From 0 to infinity, or unbounded.
@@ -47,62 +44,62 @@ fn bounds_from(floor: bool) -> Bounds
 
 // The bounds of an unknown by its domain: a range has its own, a name's go by its class, and without a domain a time
 // begins at 0.
-fn domain_bounds(domain: Domain, time: bool, classes: &[u8]) -> Bounds
+fn domain_bounds(domain: Domain, time: bool, classes: &[Class]) -> Bounds
     requires { NamedBelow (length classes.now) domain }
     ensures { result ≡ case_bounds domain time classes.now }
 {
     match domain {
         Domain::Span(lower, upper) => Bounds { lower, upper },
-        Domain::Named(n) => bounds_from(classes[n as usize] == NON_NEGATIVE),
+        Domain::Named(n) => bounds_from(classes[n as usize] == Class::NonNegative),
         Domain::None => bounds_from(time),
     }
 }
 
 // The bounds of unknown u.
-fn unknown_bounds(file: &View, classes: &[u8], u: usize) -> Bounds
+fn unknown_bounds(file: &View, classes: &[Class], u: usize) -> Bounds
     requires { Classes (file_seen file.now).names classes.now
         × (file.now.sections.counts.names ≤ length classes.now)
         × (u < file.now.sections.counts.unknowns) }
     ensures { Floating (unknown_bounds file.now.bytes.now file.now.sections u) result }
 {
-    let time = is_time(classes[file.unknown(u, UNKNOWN_NAME)]);
+    let time = classes[file.unknown(u, UNKNOWN_NAME)] == Class::Time;
     let domain = file.domain(u);
     domain_bounds(domain, time, classes)
 }
 
-// The bounds of unknown u - 1; those from 0 or the unbounded ones where u is 0.
-fn declared_bounds(file: &View, classes: &[u8], u: usize, floor: bool) -> Bounds
+// The bounds of unknown u; where there is none, those from 0 or the unbounded ones.
+fn declared_bounds(file: &View, classes: &[Class], u: Option<usize>, floor: bool) -> Bounds
     requires { Classes (file_seen file.now).names classes.now
         × (file.now.sections.counts.names ≤ length classes.now)
-        × (u ≤ file.now.sections.counts.unknowns) }
+        × IfSome u (λ i. i < file.now.sections.counts.unknowns) }
     ensures { Floating (declared_bounds file.now.bytes.now file.now.sections u (bounds_from floor)) result }
 {
-    if u == 0 {
-        return bounds_from(floor);
+    match u {
+        Some(i) => unknown_bounds(file, classes, i),
+        None => bounds_from(floor),
     }
-    unknown_bounds(file, classes, u - 1)
 }
 
 // Time's bounds: those that model m declares last for the name (plus 1) of t, and from 0 where it declares none.
-pub fn time_bounds(file: &View, classes: &[u8], m: usize, name: usize) -> Bounds
+pub fn time_bounds(file: &View, classes: &[Class], m: usize, name: usize) -> Bounds
     requires { Bounded file.now.bytes.now file.now.sections classes.now m }
     ensures { Floating (time_in file.now.bytes.now file.now.sections m name) result }
 {
     declared_bounds(file, classes, last_declared(file, m, name), true)
 }
 
-// The bits of a bound that unknown u - 1 declares. A NaN has none of its own: they are the file's, from word k of the
-// unknown on.
-fn bound_bits(x: f64, file: &View, u: usize, k: usize) -> u64
-    requires { (u ≤ file.now.sections.counts.unknowns)
+// The bits of a bound that unknown u declares, or that none does. A NaN has none of its own: they are the file's, from
+// word k of the unknown on.
+fn bound_bits(x: f64, file: &View, u: Option<usize>, k: usize) -> u64
+    requires { IfSome u (λ i. i < file.now.sections.counts.unknowns)
         × (k + 1 < unknown_length)
         × NanDeclared u x }
     ensures { result ≡ bound_bits file.now.bytes.now file.now.sections u k x }
 {
-    if x.is_nan() {
-        return file.unknown_bits(u - 1, k);
+    match u {
+        Some(i) if x.is_nan() => file.unknown_bits(i, k),
+        _ => x.to_bits(),
     }
-    x.to_bits()
 }
 
 // Writes the two words of a number's bits.
@@ -113,9 +110,9 @@ fn put_bits(bits: u64, out: &mut [u8], place: usize)
     out[place..place + FLOAT_BYTES].copy_from_slice(&bits.to_le_bytes());
 }
 
-// Writes the four words of bounds, declared by unknown u - 1, or by none where u is 0.
-pub fn put_bounds(b: Bounds, file: &View, u: usize, out: &mut [u8], place: usize)
-    requires { (u ≤ file.now.sections.counts.unknowns)
+// Writes the four words of bounds; u is the unknown that declares them, if one does.
+pub fn put_bounds(b: Bounds, file: &View, u: Option<usize>, out: &mut [u8], place: usize)
+    requires { IfSome u (λ i. i < file.now.sections.counts.unknowns)
         × NansDeclared u b
         × (place + 4 * bounds_length ≤ length out.old) }
     ensures { out.new ≡ put out.old place
@@ -132,7 +129,7 @@ pub fn put_bounds(b: Bounds, file: &View, u: usize, out: &mut [u8], place: usize
 // Writes the bounds of variable v, of a name (plus 1) of model m.
 pub fn put_var_bounds(
     file: &View,
-    classes: &[u8],
+    classes: &[Class],
     m: usize,
     v: usize,
     name: usize,
@@ -146,7 +143,7 @@ pub fn put_var_bounds(
         (model_at (file_seen file.now) m).unknowns v name))) }
 {
     if v == 0 {
-        put_bounds(bounds_from(true), file, 0, out, place);
+        put_bounds(bounds_from(true), file, None, out, place);
         return;
     }
     let u = last_declared(file, m, name);

@@ -7,6 +7,7 @@ ghost use Rattle.builder.specs.VariableTables.{roster_in, Numbers};
 ghost use Rattle.builder.specs.Bounding.{Bounded};
 ghost use Rattle.builder.specs.Root.{VarsRoom, VarsLaid};
 
+use crate::names::Class;
 use crate::variables::reaching::reach_time;
 use crate::variables::records::write_vars;
 use crate::variables::roster::roster_of;
@@ -18,7 +19,7 @@ use ast::view::View;
 // without entries, and gives the sizes.
 pub fn lay_vars(
     file: &View,
-    classes: &[u8; MOST_NAMES],
+    classes: &[Class; MOST_NAMES],
     m: usize,
     area: &mut [u8],
     n: usize,

@@ -3,25 +3,26 @@ ghost use Rattle.std.specs.Prelude.{◌≡◌, false, ℕ, ◌<◌, eqb, length,
 ghost use Rattle.functions.specs.Lists.{any, flag};
 ghost use Rattle.definitions.specs.Numbers.{most_variables};
 ghost use Rattle.area.specs.Sections.{area_vars, VarsAre};
-ghost use Rattle.builder.specs.Reaching.{deps_in, marks_in, leads, DepsIn, Round, timed_by, timed_from};
+ghost use Rattle.builder.specs.Areas.{deps_seen, marks_seen, DepsSeen};
+ghost use Rattle.builder.specs.Reaching.{marks_in, leads, DepsIn, Round, timed_by, timed_from};
 
 use area::layout::{MOST_VARS, VAR_DEPS, VAR_FIRST_DEP, VAR_TIMED};
-use area::records::{put_var, var_of};
+use area::records::{Area, put_var};
 use area::sections::{Sizes, deps_at};
 use ast::sections::dep_word;
 
 // Whether one of the dependents of variable v is marked as time-dependent.
-fn reaches_time(area: &[u8], z: Sizes, v: usize) -> bool
-    requires { DepsIn z area.now
-        × (v < z.vars) }
-    ensures { result ≡ any (leads (marks_in area.now z)) (deps_in area.now z v) }
+fn reaches_time(area: &Area, v: usize) -> bool
+    requires { DepsSeen area.now
+        × (v < area.now.sizes.vars) }
+    ensures { result ≡ any (leads (marks_seen area.now)) (deps_seen area.now v) }
 {
-    let at = deps_at(z);
-    let first = var_of(area, z, v, VAR_FIRST_DEP) as usize;
-    let count = var_of(area, z, v, VAR_DEPS) as usize;
+    let at = deps_at(area.sizes);
+    let first = area.var(v, VAR_FIRST_DEP) as usize;
+    let count = area.var(v, VAR_DEPS) as usize;
     for i in 0..count {
-        let d = dep_word(area, at, z.deps, first + i);
-        if var_of(area, z, d, VAR_TIMED) == 1 {
+        let d = dep_word(area.bytes, at, area.sizes.deps, first + i);
+        if area.var(d, VAR_TIMED) == 1 {
             return true;
         }
     }
@@ -29,13 +30,13 @@ fn reaches_time(area: &[u8], z: Sizes, v: usize) -> bool
 }
 
 // The next round of marks: t's, and that of each variable of which a dependent was marked.
-fn time_round(area: &[u8], z: Sizes) -> [u8; MOST_VARS]
-    requires { DepsIn z area.now }
-    ensures { Round z area.now result }
+fn time_round(area: &Area) -> [u8; MOST_VARS]
+    requires { DepsSeen area.now }
+    ensures { Round area.now.sizes area.now.bytes.now result }
 {
     let mut new = [0u8; MOST_VARS];
-    for v in 0..z.vars {
-        new[v] = u8::from((v == 0) | reaches_time(area, z, v));
+    for v in 0..area.sizes.vars {
+        new[v] = u8::from((v == 0) | reaches_time(area, v));
     }
     new
 }
@@ -52,7 +53,11 @@ fn take_marks(area: &mut [u8], z: Sizes, next: &[u8]) -> bool
 {
     let mut changed = false;
     for v in 0..z.vars {
-        let old = var_of(area, z, v, VAR_TIMED);
+        let read = Area {
+            bytes: area,
+            sizes: z,
+        };
+        let old = read.var(v, VAR_TIMED);
         let new = u32::from(next[v]);
         changed |= old != new;
         put_var(area, z, v, VAR_TIMED, new);
@@ -69,7 +74,11 @@ pub fn reach_time(area: &mut [u8], z: Sizes)
         (area_vars area.old z)) area.new }
 {
     for _ in 0..z.vars {
-        let next = time_round(area, z);
+        let read = Area {
+            bytes: area,
+            sizes: z,
+        };
+        let next = time_round(&read);
         if !take_marks(area, z, &next) {
             return;
         }

@@ -17,12 +17,13 @@ ghost use Rattle.builder.specs.Allocating.{names_in};
 ghost use Rattle.builder.specs.VarRecords.{is_time, LeadOf, lead_words, var_bounds, unheld_words, untimed_records, Headed, head_words};
 ghost use Rattle.builder.specs.Root.{scope_at, VarsNamed, VarNext};
 
+use crate::names::Class;
 use crate::root::Root;
 use crate::variables::bounds::{put_time_bounds, put_var_bounds};
 use crate::variables::roster::{set_dependents, time_index};
 use area::header::put_counts;
 use area::layout::{BOUNDS_AT, TIME_AT, VAR_BYTES, VAR_NAME};
-use area::records::var_of;
+use area::records::Area;
 use area::sections::{Sizes, deps_at, vars_at};
 use ast::layout::MOST_NAMES;
 use ast::view::View;
@@ -56,7 +57,7 @@ fn put_lead(area: &mut [u8], at: usize, lead: Lead)
 // Writes the record of variable v at a place.
 fn put_variable(
     file: &View,
-    classes: &[u8],
+    classes: &[Class],
     m: usize,
     area: &mut [u8],
     at: usize,
@@ -85,20 +86,20 @@ fn put_variable(
 
 // What the record of variable v says, whose name (plus 1) is given, and whose dependents stand in the area from `first`
 // up to `end`.
-fn lead_of(area: &[u8], z: Sizes, v: usize, name: u32, first: usize, end: usize) -> Lead
-    requires { Small z
+fn lead_of(area: &Area, v: usize, name: u32, first: usize, end: usize) -> Lead
+    requires { Small area.now.sizes
         × (first ≤ end)
         × (end ≤ most_deps)
-        × (deps_at z + 4 * end ≤ length area.now) }
-    ensures { LeadOf result v name first end (words_from (drop (deps_at z) area.now) first end) }
+        × (deps_at area.now.sizes + 4 * end ≤ length area.now.bytes.now) }
+    ensures { LeadOf result v name first end (words_from (drop (deps_at area.now.sizes) area.now.bytes.now) first end) }
 {
-    let at = deps_at(z);
-    let index = time_index(&area[at..], first, end) as u32;
+    let at = deps_at(area.sizes);
+    let index = time_index(&area.bytes[at..], first, end);
     Lead {
         name,
         first: first as u32,
         end: end as u32,
-        index,
+        index: index.map_or(0, |i| i as u32 + 1),
         time: v == 0,
     }
 }
@@ -107,7 +108,7 @@ fn lead_of(area: &[u8], z: Sizes, v: usize, name: u32, first: usize, end: usize)
 // yet, and gives the new count of dependents.
 fn write_var(
     file: &View,
-    classes: &[u8; MOST_NAMES],
+    classes: &[Class; MOST_NAMES],
     m: usize,
     area: &mut [u8],
     z: Sizes,
@@ -123,10 +124,18 @@ fn write_var(
         (bytes_of (at (scope_at (file_seen file.now) m).vars v).deps)) (vars_at z + 4 * variable_length * v)
         (bytes_of (unheld_words is_time v done (at (scope_at (file_seen file.now) m).vars v)))) }
 {
-    let name = var_of(area, z, v, VAR_NAME);
+    let named = Area {
+        bytes: area,
+        sizes: z,
+    };
+    let name = named.var(v, VAR_NAME);
     let from = deps_at(z);
     let end = set_dependents(file, numbers, m, name as usize, &mut area[from..], done);
-    let lead = lead_of(area, z, v, name, done, end);
+    let written = Area {
+        bytes: area,
+        sizes: z,
+    };
+    let lead = lead_of(&written, v, name, done, end);
     let place = vars_at(z) + VAR_BYTES * v;
     put_variable(file, classes, m, area, place, v, lead);
     end
@@ -135,7 +144,7 @@ fn write_var(
 // The same of all variables, whose records have their names before; gives the count of dependents.
 pub fn write_vars(
     file: &View,
-    classes: &[u8; MOST_NAMES],
+    classes: &[Class; MOST_NAMES],
     m: usize,
     area: &mut [u8],
     z: Sizes,
@@ -164,8 +173,9 @@ pub fn write_header(file: &View, root: Root, area: &mut [u8], errors: usize)
         (last_bounds (file_seen file.now).names (get_or (names_in area.old root.sizes) 0 0) from_zero
         (model_at (file_seen file.now) root.model).unknowns))) }
 {
-    let z = root.sizes;
-    let name = var_of(area, z, 0, VAR_NAME) as usize;
-    put_counts(area, z, errors, root.instances);
+    let sizes = root.sizes;
+    let read = Area { bytes: area, sizes };
+    let name = read.var(0, VAR_NAME) as usize;
+    put_counts(area, sizes, errors, root.instances);
     put_time_bounds(root.time, file, root.model, name, area, TIME_AT);
 }

@@ -1,5 +1,5 @@
 // The root's variables: t first, then each unreserved unknown's name in order of first declaration.
-ghost use Rattle.std.specs.Prelude.{◌≡◌, [], ◌∷◌, ◌+◌, ◌*◌, ◌≤◌, ◌<◌, length};
+ghost use Rattle.std.specs.Prelude.{◌≡◌, [], ◌∷◌, ◌+◌, ◌*◌, ◌≤◌, ◌<◌, length, IfSome};
 ghost use Rattle.std.proofs.Math.Option.{none};
 ghost use Rattle.functions.specs.Lists.{plus_one};
 ghost use Rattle.definitions.specs.Numbers.{most_names, most_variables};
@@ -9,8 +9,9 @@ ghost use Rattle.area.specs.Sections.{Grown, area_vars, VarsAre};
 ghost use Rattle.builder.specs.VariableTables.{words_from, declare_one, Listing, unknowns_in, roster_in, unknown_in, one_below, kept_by, kept_named, RoomBehind, PutBehind, Numbered, RosterRoom};
 ghost use Rattle.builder.specs.Allocating.{names_in};
 ghost use Rattle.builder.specs.Root.{VarsRoom, VarsListed};
+ghost use Rattle.builder.specs.Starting.{place_as};
 
-use crate::names::{is_reserved, time_name};
+use crate::names::{Class, is_reserved, time_name};
 use area::layout::VAR_NAME;
 use area::records::put_var;
 use area::sections::Sizes;
@@ -23,17 +24,17 @@ use ast::words::{put_word, read_word};
 
 // Lists t alone, as the one variable there is: its record has its name's number plus 1 (0 where no name is t), and
 // `numbers`, without entries before, a variable's number plus 1 by a name's number.
-fn time_alone(time: usize, area: &mut [u8], z: Sizes, numbers: &mut [u16])
-    requires { (time ≤ most_names)
+fn time_alone(time: Option<usize>, area: &mut [u8], z: Sizes, numbers: &mut [u16])
+    requires { IfSome time (λ n. n < most_names)
         × RosterRoom z area.old
         × (z.vars ≡ 1)
         × Blank most_names numbers.old }
-    ensures { Listing (time ∷ []) (names_in area.new z) numbers.new
+    ensures { Listing (plus_one (place_as time) ∷ []) (names_in area.new z) numbers.new
         × VarsAre z area.old (area_vars area.new z) area.new }
 {
-    put_var(area, z, 0, VAR_NAME, time as u32);
-    if 0 < time {
-        numbers[time - 1] = 1;
+    put_var(area, z, 0, VAR_NAME, time.map_or(0, |n| n as u32 + 1));
+    if let Some(n) = time {
+        numbers[n] = 1;
     }
 }
 
@@ -65,7 +66,7 @@ fn declare(area: &mut [u8], z: Sizes, numbers: &mut [u16], name: usize) -> Sizes
 // sizes with them.
 pub fn roster_of(
     file: &View,
-    classes: &[u8; MOST_NAMES],
+    classes: &[Class; MOST_NAMES],
     m: usize,
     area: &mut [u8],
     n: usize,
@@ -169,16 +170,11 @@ pub fn set_dependents(
     total
 }
 
-// The place, plus 1, of the last t among the dependents from `first` up to `end`, or 0.
-pub fn time_index(deps: &[u8], first: usize, end: usize) -> usize
+// The place of the last t among the dependents from `first` up to `end`.
+pub fn time_index(deps: &[u8], first: usize, end: usize) -> Option<usize>
     requires { (first ≤ end)
         × (4 * end ≤ length deps.now) }
-    ensures { result ≡ plus_one (last_time 0 none (words_from deps.now first end)) }
+    ensures { place_as result ≡ last_time 0 none (words_from deps.now first end) }
 {
-    for i in (first..end).rev() {
-        if read_word(deps, DEP_BYTES * i) == 0 {
-            return i - first + 1;
-        }
-    }
-    0
+    (first..end).rposition(|i| read_word(deps, DEP_BYTES * i) == 0)
 }

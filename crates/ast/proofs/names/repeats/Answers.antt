@@ -11,5 +11,6 @@ use Rattle.ast.proofs.names.repeats.Goals as goal
 
 pub returns-else-again : goal.returns-else-again
 returns-else-again c = let a = c.args in
+    let s = a.names.now.section in
     let n = ne_eqb _ _ c.if-again.false in
-    (n ∙ sym (name_new a.n a.at a.f.now (text_of_name (take a.size a.f.now)) a.noted.now a.i _ c.requires.3 (c.hash_of-hash.ensures.0 ∙ ap hash_of c.name_text.ensures) n), search rules, grind (arith, common_steps))
+    (n ∙ sym (name_new s.count s.at s.bytes.now (text_of_name (take a.names.now.size s.bytes.now)) a.noted.now a.i _ c.requires.2 (c.hash_of-hash.ensures.0 ∙ ap hash_of c.name_text.ensures) n), search rules, grind (arith, common_steps))

@@ -4,9 +4,9 @@ use Rattle.ast.proofs.subst.copy_node.Goals as goal
 
 pub returns : goal.returns
 returns c = let a = c.args in
-    let low = c.node_field-low.ensures in (
+    let low = c.field-low.ensures in (
       copied_put _ a.out.now _ _ _ _ _ _ _ _ _
-          c.node_field-kind.ensures c.node_field-name.ensures
-          c.node_field-op.ensures low c.node_field-high.ensures c.put_record.ensures,
+          c.field-kind.ensures c.field-name.ensures
+          c.field-op.ensures low c.field-high.ensures c.put_record.ensures,
       omega (arith, low),
     )

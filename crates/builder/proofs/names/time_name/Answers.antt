@@ -1,13 +1,14 @@
-use mathlib.Core.Path.{refl, sym}
+use mathlib.Core.Path.{refl, sym, ap}
 use mathlib.Core.List.{[]}
 use native.Mathlib.Omega.{arith}
 use borrow.Author.Rules.{rules}
 use borrow.Author.Tests.{tests}
-use lib.Dec.{eqb}
 use lib.ListN.{get_or}
-use Rattle.functions.specs.Lists.{text, same_text}
+use Rattle.functions.specs.Lists.{text, same_text, plus_one}
 use Rattle.ast.specs.Opens.{file_in}
 use Rattle.definitions.specs.Names.{time_name}
+use Rattle.builder.specs.declared.names.Class.TheVariants.{Time}
+use Rattle.builder.specs.contracts.names.ClassPartialEq.TheImpl.{ghosts}
 use Rattle.builder.proofs.laws.Open.{names_long}
 use Rattle.builder.proofs.laws.ScopeTables.{time_test}
 use Rattle.builder.proofs.laws.Ranges.{first_over}
@@ -17,5 +18,5 @@ pub returns : goal.returns
 unfolding time_name
 returns c = let a = c.args in
     let long = names_long a.file.now.bytes.now a.file.now.sections in
-    first_over (λ n. eqb (get_or a.classes.now n 0) 0) (same_text (text "t")) [] a.file.now.sections.counts.names _ _ (file_in a.file.now.bytes.now a.file.now.sections).names (omega arith) refl c.position.ensures.ran (λ n b q k. search (rules, tests))
-    (λ n l. sym (time_test (file_in a.file.now.bytes.now a.file.now.sections).names a.classes.now c.requires n l)) c.map_or.ensures (λ k e. search (rules, tests))
+    ap plus_one (first_over (λ n. ghosts.eq (get_or a.classes.now n Time) Time) (same_text (text "t")) [] a.file.now.sections.counts.names (file_in a.file.now.bytes.now a.file.now.sections).names (omega arith) refl c.position.ensures.ran (λ n b q k. search (rules, tests))
+    (λ n l. sym (time_test (file_in a.file.now.bytes.now a.file.now.sections).names a.classes.now c.requires n l)))

@@ -4,4 +4,4 @@ use Rattle.keeping.proofs.stmts.row_fits.Goals as goal
 
 pub returns : goal.returns
 unfolding row_fits
-returns c = rw (c.stmt_fits.ensures, c.word_of.ensures.0, c.fate_fits.ensures) refl
+returns c = rw (c.stmt_fits.ensures, c.word.ensures.0, c.fate_fits.ensures) refl

@@ -10,7 +10,7 @@ returns-then-not-row_fits c = let l = c.loop-i in
 
 pub loop-i-preserved : goal.loop-i-preserved
 loop-i-preserved c = let l = c.loop-i in
-    (omega arith, l.invariant.1 ∙ rows_turn _ (nodes_in _ _) _ _ _ _ _ l.i l.first c.loop-i-test.true ∙ rw (sym c.row_fits.ensures ∙ c.if-not-row_fits.false, c.word_of-first.ensures.0))
+    (omega arith, l.invariant.1 ∙ rows_turn _ (nodes_in _ _) _ _ _ _ _ l.i l.first c.loop-i-test.true ∙ rw (sym c.row_fits.ensures ∙ c.if-not-row_fits.false, c.word-first.ensures.0))
 
 pub returns : goal.returns
 returns c = let l = c.loop-i in

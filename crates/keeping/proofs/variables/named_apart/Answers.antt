@@ -6,11 +6,11 @@ use Rattle.keeping.proofs.variables.named_apart.Goals as goal
 
 pub returns-then-other-name : goal.returns-then-other-name
 returns-then-other-name c = let l = c.loop-i in
-    sym (l.invariant ∙ all_turn _ _ _ _ l.i (named_apart _) c.loop-i-test.true ∙ rw (apart_no _ _ _ c.word_of-other.ensures.0 c.if-other-name.true))
+    sym (l.invariant ∙ all_turn _ _ _ _ l.i (named_apart _) c.loop-i-test.true ∙ rw (apart_no _ _ _ c.word-other.ensures.0 c.if-other-name.true))
 
 pub loop-i-preserved : goal.loop-i-preserved
 loop-i-preserved c = let l = c.loop-i in
-    l.invariant ∙ all_turn _ _ _ _ l.i (named_apart _) c.loop-i-test.true ∙ rw (apart_yes _ _ _ c.word_of-other.ensures.0 c.if-other-name.false)
+    l.invariant ∙ all_turn _ _ _ _ l.i (named_apart _) c.loop-i-test.true ∙ rw (apart_yes _ _ _ c.word-other.ensures.0 c.if-other-name.false)
 
 pub returns : goal.returns
 returns c = let l = c.loop-i in

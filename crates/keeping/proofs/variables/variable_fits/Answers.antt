@@ -4,12 +4,12 @@ use Rattle.keeping.proofs.variables.variable_fits.Goals as goal
 pub returns : goal.returns
 unfolding variable_fits
 returns c = rw (
-  c.word_of-count.ensures.0,
-  c.word_of.ensures.0,
-  c.word_of-2.ensures.0,
-  c.word_of-3.ensures.0,
-  c.word_of-4.ensures.0,
-  c.word_of-5.ensures.0,
-  c.word_of-6.ensures.0,
-  c.word_of-7.ensures.0,
+  c.word-count.ensures.0,
+  c.word.ensures.0,
+  c.word-2.ensures.0,
+  c.word-3.ensures.0,
+  c.word-4.ensures.0,
+  c.word-5.ensures.0,
+  c.word-6.ensures.0,
+  c.word-7.ensures.0,
 )

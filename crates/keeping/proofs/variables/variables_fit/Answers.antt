@@ -13,8 +13,8 @@ returns-then-not-variable_fits c = let l = c.loop-i in
 pub loop-i-preserved : goal.loop-i-preserved
 loop-i-preserved c = let l = c.loop-i in
     let r = sym c.variable_fits.ensures ∙ c.if-not-variable_fits.false in (
-      omega (arith, variable_next _ _ _ (get_or (records_in _ _) _ []) r, c.word_of-first.ensures.0),
-      l.invariant.1 ∙ variables_turn _ _ _ _ _ _ l.i l.first c.loop-i-test.true ∙ rw (r, c.word_of-first.ensures.0),
+      omega (arith, variable_next _ _ _ (get_or (records_in _ _) _ []) r, c.word-first.ensures.0),
+      l.invariant.1 ∙ variables_turn _ _ _ _ _ _ l.i l.first c.loop-i-test.true ∙ rw (r, c.word-first.ensures.0),
     )
 
 pub returns : goal.returns

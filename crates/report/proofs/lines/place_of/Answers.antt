@@ -3,4 +3,4 @@ use Rattle.report.proofs.lines.place_of.Goals as goal
 
 pub returns : goal.returns
 unfolding tabled_place
-returns c = rw (← c.word_of-from.ensures.0, ← c.word_of-to.ensures.0) c.shown.ensures
+returns c = rw (← c.word-from.ensures.0, ← c.word-to.ensures.0) c.shown.ensures

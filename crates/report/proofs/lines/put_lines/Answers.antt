@@ -15,10 +15,10 @@ pub loop-i-preserved : goal.loop-i-preserved
 loop-i-preserved c = let a = c.args in
     let p = c.loop-i in
     let is-place = c.place_of-place.ensures in
-    let is-kind = c.word_of-kind.ensures.0 in
+    let is-kind = c.word-kind.ensures.0 in
     let put = c.put_line-at.ensures in
     let fits : p.i < length a.entries.now = omega arith in
-    let one = one_of_them a.es a.area.now p.i c.loop-i-test.true in (
+    let one = one_of_them a.es.now.records a.es.now.bytes.now p.i c.loop-i-test.true in (
       omega arith,
       more_end a.entries.now _ p.i _ _ _ fits one is-place is-kind _ p.invariant.1 _ put.0,
       put_more a.entries.now _ p.i _ _ _ fits one is-place is-kind _ p.invariant.1 a.out.now _ _ p.invariant.2 put.2,
@@ -26,5 +26,5 @@ loop-i-preserved c = let a = c.args in
 
 pub returns : goal.returns
 returns c = let a = c.args in
-    let all = all_of_them a.es a.area.now c.loop-i.i c.loop-i-test.false in
+    let all = all_of_them a.es.now.records a.es.now.bytes.now c.loop-i.i c.loop-i-test.false in
     (rw all at c.loop-i.invariant.1, rw all at c.loop-i.invariant.2)

@@ -10,8 +10,8 @@ loop-i-init c = sym (front_none _)
 pub loop-i-preserved : goal.loop-i-preserved
 loop-i-preserved c = let a = c.args in
     let p = c.loop-i in
-    noted_more _ a.entries.now p.entries p.i _ (one_of_them a.es a.area.now p.i c.loop-i-test.true) (omega arith) p.invariant c.word_of.ensures.0
+    noted_more _ a.entries.now p.entries p.i _ (one_of_them a.es.now.records a.es.now.bytes.now p.i c.loop-i-test.true) (omega arith) p.invariant c.word.ensures.0
 
 pub returns : goal.returns
 returns c = let a = c.args in
-    rw (all_of_them a.es a.area.now c.loop-i.i c.loop-i-test.false) at c.loop-i.invariant
+    rw (all_of_them a.es.now.records a.es.now.bytes.now c.loop-i.i c.loop-i-test.false) at c.loop-i.invariant

@@ -1,4 +1,4 @@
-use mathlib.Core.Path.{◌≡◌, sym, ap, ◌∙◌}
+use mathlib.Core.Path.{◌≡◌, sym, ◌∙◌}
 use Prim.Native.Nat.{◌≤◌}
 use native.Mathlib.Omega.{arith}
 use lib.ListN.{length}
@@ -25,5 +25,5 @@ loop-v-preserved c =
 
 pub returns : goal.returns
 returns c =
-    let all : c.loop-v.v ≡ c.args.z.vars = omega arith in
+    let all : c.loop-v.v ≡ c.args.area.now.sizes.vars = omega arith in
     rw all at c.loop-v.invariant

@@ -11,5 +11,5 @@ loop-i-preserved c =
 
 pub returns : goal.returns
 returns c =
-    let all : c.loop-i.i ≡ c.args.z.stmts = omega arith in
+    let all : c.loop-i.i ≡ c.args.area.now.sizes.stmts = omega arith in
     rw all at c.loop-i.invariant.1 ∙ map_by _ _ _

@@ -7,18 +7,18 @@ pub overflow_sub-arg : goal.overflow_sub-arg
 overflow_sub-arg c = let s = c.in-Some-Number in
     (number_fits _ _ _ _ _ s.is (rw s.is at s.field-0-is) c.requires.2).1
 
-pub record_bits-bits-requires : goal.record_bits-bits-requires
-record_bits-bits-requires c = let s = c.in-Some-Number in
+pub node_bits-bits-requires : goal.node_bits-bits-requires
+node_bits-bits-requires c = let s = c.in-Some-Number in
     let n = number_fits _ _ _ _ _ s.is (rw s.is at s.field-0-is) c.requires.2 in
     (omega (arith, c.requires.0), omega (arith, n.1, n.2), omega arith)
 
 pub returns-then-same_number : goal.returns-then-same_number
 returns-then-same_number c = let s = c.in-Some-Number in
-    λ f. role_lower _ _ _ _ _ s.is _ _ (rw s.is at s.field-0-is) (rw (← c.record_bits-bits.ensures) (sym c.same_number.ensures ∙ c.if-same_number.true))
+    λ f. role_lower _ _ _ _ _ s.is _ _ (rw s.is at s.field-0-is) (rw (← c.node_bits-bits.ensures) (sym c.same_number.ensures ∙ c.if-same_number.true))
 
 pub returns-else-same_number : goal.returns-else-same_number
 returns-else-same_number c = let s = c.in-Some-Number in
-    λ f. role_wrong _ _ _ _ _ s.is _ _ (rw s.is at s.field-0-is) (rw (← c.record_bits-bits.ensures) (sym c.same_number.ensures ∙ c.if-same_number.false))
+    λ f. role_wrong _ _ _ _ _ s.is _ _ (rw s.is at s.field-0-is) (rw (← c.node_bits-bits.ensures) (sym c.same_number.ensures ∙ c.if-same_number.false))
 
 pub returns-in-Some-Short : goal.returns-in-Some-Short
 returns-in-Some-Short c = λ f. role_short _ _ _ _ _ c.in-Some-Short.is (rw c.in-Some-Short.is at c.in-Some-Short.field-0-is)

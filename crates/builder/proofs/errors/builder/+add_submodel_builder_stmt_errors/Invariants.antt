@@ -2,10 +2,10 @@
 use Prim.Native.Nat.{◌+◌, ◌-◌, ◌*◌}
 use lib.ListN.{take}
 use Rattle.functions.specs.Lists.{each}
-use Rattle.ast.specs.Opens.{file_in}
+use Rattle.ast.specs.Views.{file_seen}
 use Rattle.definitions.specs.Flatten.{model_at, stmt_errors, errors_of}
-use Rattle.area.specs.Listing.{Lists}
-use Rattle.builder.specs.Checking.{scope_in}
+use Rattle.area.specs.Listing.{Listed}
+use Rattle.builder.specs.Seen.{scope_seen}
 use Rattle.builder.proofs.errors.builder.+add_submodel_builder_stmt_errors.Given as goal
 
 abbrev pub decreases-add_submodel : goal.decreases-add_submodel
@@ -18,4 +18,4 @@ abbrev pub decreases-stmt_errors : goal.decreases-stmt_errors
 decreases-stmt_errors l = 3 * l.place.depth + 2
 
 abbrev pub invariant-builder-loop-i : goal.invariant-builder-loop-i
-invariant-builder-loop-i l = Lists l.initial.out l.initial.listed (each (stmt_errors (file_in l.file.bytes.now l.file.sections) (λ j. errors_of (file_in l.file.bytes.now l.file.sections) (l.k - 1) j) (scope_in l.file.bytes.now l.file.sections l.m)) (take l.i (model_at (file_in l.file.bytes.now l.file.sections) l.m).stmts)) l.listed l.out
+invariant-builder-loop-i l = Listed l.initial.errors (each (stmt_errors (file_seen l.tables.file) (λ j. errors_of (file_seen l.tables.file) (l.k - 1) j) (scope_seen l.tables.file l.m)) (take l.i (model_at (file_seen l.tables.file) l.m).stmts)) l.errors

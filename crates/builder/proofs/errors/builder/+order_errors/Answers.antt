@@ -14,36 +14,36 @@ pub overflow_sub-last : goal.overflow_sub-last
 overflow_sub-last t c = let l = arg_last c.requires.0.1 c.if-run-eq0.false in
     omega (arith, l.two)
 
-pub order_errors-before-requires : goal.order_errors-before-requires
-order_errors-before-requires t c = let if1 = c.if-run-eq0 in
+pub order_errors-requires : goal.order_errors-requires
+order_errors-requires t c = let if1 = c.if-run-eq0 in
     let before_last = c.before_last-rest in
     let q = c.requires.0.1 in
     let z = before_last.result in
     let e = before_last.ensures in
-    (omega (arith, c.decreases, args_fewer q if1.false z e), ((c.requires.0.0, args_rest q if1.false z e), room_first (order_more q if1.false z e _ refl _ refl) c.requires.1))
+    (omega (arith, c.decreases, args_fewer q if1.false z e), ((c.requires.0.0, args_rest q if1.false z e), room_first (order_more q if1.false z e _ refl _ refl) _ c.requires.1))
 
-pub node_word-keyword-requires : goal.node_word-keyword-requires
-node_word-keyword-requires t c = (c.requires.0.1.formed.lie, arg_within c.requires.0.1 c.if-run-eq0.false, omega arith)
+pub word-keyword-requires : goal.word-keyword-requires
+word-keyword-requires t c = (arg_within c.requires.0.1 c.if-run-eq0.false, omega arith)
 
 pub has_keyword-named-requires : goal.has_keyword-named-requires
 has_keyword-named-requires t c = let before_last = c.before_last-rest in
     (c.requires.0.0, args_rest c.requires.0.1 c.if-run-eq0.false before_last.result before_last.ensures)
 
 pub found_at-found-requires : goal.found_at-found-requires
-found_at-found-requires t c = (c.requires.0.1.formed.lie, arg_within c.requires.0.1 c.if-run-eq0.false, omega arith)
+found_at-found-requires t c = (arg_within c.requires.0.1 c.if-run-eq0.false, omega arith)
 
 pub list-requires : goal.list-requires
 list-requires t c = let before_last = c.before_last-rest in
-    let node_word = c.node_word-keyword in
+    let node_word = c.word-keyword in
     let has-keyword = c.has_keyword-named in
     let e = order_more c.requires.0.1 c.if-run-eq0.false before_last.result before_last.ensures node_word.result node_word.ensures.0 has-keyword.result has-keyword.ensures in
-    let r = room_then e _ _ c.requires.1 c.order_errors-before.ensures in
-    (r.long, omega (arith, r.few))
+    let r = room_then e _ _ _ _ c.requires.1 c.order_errors.ensures in
+    omega (arith, r)
 
 pub returns : goal.returns
 returns t c = let before_last = c.before_last-rest in
-    let node_word = c.node_word-keyword in
+    let node_word = c.word-keyword in
     let has-keyword = c.has_keyword-named in
     let e = order_more c.requires.0.1 c.if-run-eq0.false before_last.result before_last.ensures node_word.result node_word.ensures.0 has-keyword.result has-keyword.ensures in
     let l = rw c.found_at-found.ensures at c.list.ensures in
-    lists_then e _ _ _ _ _ _ c.order_errors-before.ensures l
+    lists_then e _ _ _ _ _ _ c.order_errors.ensures l

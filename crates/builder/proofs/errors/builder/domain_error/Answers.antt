@@ -27,4 +27,4 @@ returns-in-Span c = let read = c.domain in
 
 pub returns-in-Named : goal.returns-in-Named
 returns-in-Named c = let read = c.domain in
-    c.unknown_error.ensures ∙ sym (domain_named c.requires read.result read.ensures _ c.in-Named.is)
+    c.unknown_error.ensures ∙ sym (domain_named c.requires read.result read.ensures _ c.in-Named.is _ _ c.eq.ensures c.eq-in-Named.ensures)

@@ -13,22 +13,18 @@ unknown_error-requires c = let p = c.requires in
     let unknown = c.unknown-name in
     (p.0.within, omega (arith, unknown_small p.0 unknown.result unknown.ensures.0))
 
-pub list-requires : goal.list-requires
-list-requires c = let p = c.requires in
+pub list-requires-2 : goal.list-requires-2
+list-requires-2 c = let p = c.requires in
     let unknown = c.unknown-name in
-    let is-reserved = c.is_reserved in
-    let is-time = c.is_time in
-    let e = unknown_more p.0 unknown.result unknown.ensures.0 is-reserved.result is-time.result is-reserved.ensures is-time.ensures in
-    let l = rw c.domain_error.ensures at c.list-listed.ensures in
-    let r = room_then e _ _ p.1 l in
-    (r.long, omega (arith, r.few))
+    let e = unknown_more p.0 unknown.result unknown.ensures.0 _ c.ne-usable.ensures in
+    let l = rw c.domain_error.ensures at c.list.ensures in
+    let r = room_then e _ _ _ _ p.1 l in
+    omega (arith, r)
 
 pub returns : goal.returns
-returns c = let list = c.list-listed in
+returns c = let list = c.list in
     let unknown = c.unknown-name in
-    let is-reserved = c.is_reserved in
-    let is-time = c.is_time in
-    let e = unknown_more c.requires.0 unknown.result unknown.ensures.0 is-reserved.result is-time.result is-reserved.ensures is-time.ensures in
+    let e = unknown_more c.requires.0 unknown.result unknown.ensures.0 _ c.ne-usable.ensures in
     let l = rw c.domain_error.ensures at list.ensures in
-    let n = rw c.unknown_error.ensures at c.list.ensures in
+    let n = rw c.unknown_error.ensures at c.list-2.ensures in
     lists_then e _ _ _ _ _ _ l n

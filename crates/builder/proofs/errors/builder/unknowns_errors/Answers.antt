@@ -11,8 +11,8 @@ pub loop-i-init : goal.loop-i-init
 loop-i-init c = let a = c.args in
     run_begins (unknown_errors (file_in a.file.now.bytes.now a.file.now.sections).names) (model_at (file_in a.file.now.bytes.now a.file.now.sections) a.m).unknowns _ _
 
-pub unknown_errors-listed-requires : goal.unknown_errors-listed-requires
-unknown_errors-listed-requires c = let a = c.args in
+pub unknown_errors-requires : goal.unknown_errors-requires
+unknown_errors-requires c = let a = c.args in
     let p = c.requires in
     let model = c.model-first in
     let model2 = c.model-unknowns in
@@ -31,7 +31,7 @@ loop-i-preserved c = let a = c.args in
     let loop-test = c.loop-i-test in
     let there = unknown_there a.file.now.bytes.now a.file.now.sections c.args.file.now.opened a.m p.1 model.result model2.result loop.i model.ensures.0 model2.ensures.0 loop-test.true in
     let here = unknown_here a.file.now.bytes.now a.file.now.sections c.args.file.now.opened a.m p.1 model.result model2.result loop.i model.ensures.0 model2.ensures.0 loop-test.true in
-    run_goes (unknown_errors (file_in a.file.now.bytes.now a.file.now.sections).names) (model_at (file_in a.file.now.bytes.now a.file.now.sections) a.m).unknowns (unknown_in a.file.now.bytes.now a.file.now.sections (model.result + loop.i)) loop.i there here _ _ _ _ _ _ loop.invariant c.unknown_errors-listed.ensures
+    run_goes (unknown_errors (file_in a.file.now.bytes.now a.file.now.sections).names) (model_at (file_in a.file.now.bytes.now a.file.now.sections) a.m).unknowns (unknown_in a.file.now.bytes.now a.file.now.sections (model.result + loop.i)) loop.i there here _ _ _ _ _ _ loop.invariant c.unknown_errors.ensures
 
 pub returns : goal.returns
 returns c = let a = c.args in

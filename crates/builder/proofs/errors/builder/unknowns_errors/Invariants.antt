@@ -4,8 +4,8 @@ use Rattle.functions.specs.Lists.{each}
 use Rattle.ast.specs.Opens.{file_in}
 use Rattle.definitions.specs.Variables.{unknown_errors}
 use Rattle.definitions.specs.Flatten.{model_at}
-use Rattle.area.specs.Listing.{Lists}
+use Rattle.area.specs.Listing.{Listed}
 use Rattle.builder.proofs.errors.builder.unknowns_errors.Given as goal
 
 abbrev pub invariant-loop-i : goal.invariant-loop-i
-invariant-loop-i l = Lists l.initial.out l.count (each (unknown_errors (file_in l.file.bytes.now l.file.sections).names) (take l.i (model_at (file_in l.file.bytes.now l.file.sections) l.m).unknowns)) l.listed l.out
+invariant-loop-i l = Listed l.initial.errors (each (unknown_errors (file_in l.file.bytes.now l.file.sections).names) (take l.i (model_at (file_in l.file.bytes.now l.file.sections) l.m).unknowns)) l.errors

@@ -12,12 +12,12 @@ pub overflow_sub-run : goal.overflow_sub-run
 overflow_sub-run t c = let l = arg_last c.requires.1 c.if-run-eq0.false in
     omega (arith, l.two)
 
-pub node_word-requires : goal.node_word-requires
-node_word-requires t c = (c.requires.1.formed.lie, arg_within c.requires.1 c.if-run-eq0.false, omega arith)
+pub word-requires : goal.word-requires
+word-requires t c = (arg_within c.requires.1 c.if-run-eq0.false, omega arith)
 
-pub returns-then-node_word-ne0 : goal.returns-then-node_word-ne0
-returns-then-node_word-ne0 t c = let node_word = c.node_word in
-    sym (has_keyword_here c.requires.1 c.if-run-eq0.false node_word.result node_word.ensures.0 c.if-node_word-ne0.true)
+pub returns-then-word-ne0 : goal.returns-then-word-ne0
+returns-then-word-ne0 t c = let node_word = c.word in
+    sym (has_keyword_here c.requires.1 c.if-run-eq0.false node_word.result node_word.ensures.0 c.if-word-ne0.true)
 
 pub has_keyword-requires : goal.has_keyword-requires
 has_keyword-requires t c = let if1 = c.if-run-eq0 in
@@ -28,6 +28,6 @@ has_keyword-requires t c = let if1 = c.if-run-eq0 in
 
 pub returns : goal.returns
 returns t c = let if1 = c.if-run-eq0 in
-    let node_word = c.node_word in
+    let node_word = c.word in
     let before_last = c.before_last in
-    c.has_keyword.ensures ∙ sym (has_keyword_before c.requires.1 if1.false before_last.result before_last.ensures node_word.result node_word.ensures.0 c.if-node_word-ne0.false)
+    c.has_keyword.ensures ∙ sym (has_keyword_before c.requires.1 if1.false before_last.result before_last.ensures node_word.result node_word.ensures.0 c.if-word-ne0.false)

@@ -8,16 +8,16 @@ overflow_sub-run c = let p = c.requires in
     let l = arg_last p.0.1 (λ e. omega (arith, e, p.1)) in
     omega (arith, l.two)
 
-pub node_word-size-requires : goal.node_word-size-requires
-node_word-size-requires c = let p = c.requires in
-    (p.0.1.formed.lie, arg_within p.0.1 (λ e. omega (arith, e, p.1)), omega arith)
+pub word-size-requires : goal.word-size-requires
+word-size-requires c = let p = c.requires in
+    (arg_within p.0.1 (λ e. omega (arith, e, p.1)), omega arith)
 
 pub overflow_sub-end : goal.overflow_sub-end
 overflow_sub-end c = let p = c.requires in
     let l = arg_last p.0.1 (λ e. omega (arith, e, p.1)) in
-    omega (arith, c.node_word-size.ensures.0, l.within)
+    omega (arith, c.word-size.ensures.0, l.within)
 
 pub overflow_sub-total : goal.overflow_sub-total
 overflow_sub-total c = let p = c.requires in
     let l = arg_last p.0.1 (λ e. omega (arith, e, p.1)) in
-    omega (arith, c.node_word-size.ensures.0, l.le)
+    omega (arith, c.word-size.ensures.0, l.le)

@@ -11,4 +11,4 @@ returns-then-passed c = rw c.if-passed.true refl
 
 pub returns : goal.returns
 unfolding unless found_as span_from
-returns c = rw (c.if-passed.false, c.node_field-from.ensures, c.node_field-to.ensures) refl
+returns c = rw (c.if-passed.false, c.field-from.ensures, c.field-to.ensures) refl

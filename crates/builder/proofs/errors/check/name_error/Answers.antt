@@ -4,4 +4,4 @@ use Rattle.builder.proofs.errors.check.name_error.Goals as goal
 
 pub returns : goal.returns
 unfolding name_absent
-returns c = rw c.node_word-name.ensures.0 at c.found_at.ensures
+returns c = rw c.word-name.ensures.0 at c.found_at.ensures

@@ -4,4 +4,4 @@ use Rattle.builder.proofs.laws.Calls.{call_sized}
 use Rattle.builder.proofs.errors.check.run_of.Goals as goal
 
 pub overflow_sub-total : goal.overflow_sub-total
-overflow_sub-total c = omega (arith, c.node_word-total.ensures.0, call_sized c.requires.1)
+overflow_sub-total c = omega (arith, c.word-total.ensures.0, call_sized c.requires.1)

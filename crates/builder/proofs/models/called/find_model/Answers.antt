@@ -15,5 +15,5 @@ pub returns : goal.returns
 unfolding model_named model_at
 returns c = let a = c.args in
     let long = models_long a.file.now.bytes.now a.file.now.sections in
-    first_over (λ m. eqb a.name (word_of (model_record a.file.now.bytes.now a.file.now.sections m) 0)) (is_named a.file.now.bytes.now a.file.now.sections a.name) no_model a.file.now.sections.counts.models _ _ (file_in a.file.now.bytes.now a.file.now.sections).models (omega arith) refl c.position.ensures.ran (λ m b q k. search (rules, tests))
-    (λ m l. sym (named_test a.file.now.bytes.now a.file.now.sections a.name m (omega arith))) c.map_or.ensures (λ k e. search (rules, tests))
+    first_over (λ m. eqb a.name (word_of (model_record a.file.now.bytes.now a.file.now.sections m) 0)) (is_named a.file.now.bytes.now a.file.now.sections a.name) no_model a.file.now.sections.counts.models (file_in a.file.now.bytes.now a.file.now.sections).models (omega arith) refl c.position.ensures.ran (λ m b q k. search (rules, tests))
+    (λ m l. sym (named_test a.file.now.bytes.now a.file.now.sections a.name m (omega arith)))

@@ -25,5 +25,5 @@ pub returns : goal.returns
 unfolding root_of model_at
 returns c = let a = c.args in
     let long = models_long a.file.now.bytes.now a.file.now.sections in
-    first_over (λ m. same_text a.root.now (text_of (file_in a.file.now.bytes.now a.file.now.sections).names (word_of (model_record a.file.now.bytes.now a.file.now.sections m) 0))) (is_root_name a.file.now.bytes.now a.file.now.sections a.root.now) no_model a.file.now.sections.counts.models _ _ (file_in a.file.now.bytes.now a.file.now.sections).models (omega arith) refl
-    c.position.ensures.ran (λ m b q k. search (rules, tests)) (λ m l. sym (root_test a.file.now.bytes.now a.file.now.sections a.root.now m (omega arith))) c.map_or.ensures (λ k e. search (rules, tests))
+    first_over (λ m. same_text a.root.now (text_of (file_in a.file.now.bytes.now a.file.now.sections).names (word_of (model_record a.file.now.bytes.now a.file.now.sections m) 0))) (is_root_name a.file.now.bytes.now a.file.now.sections a.root.now) no_model a.file.now.sections.counts.models (file_in a.file.now.bytes.now a.file.now.sections).models (omega arith) refl
+    c.position.ensures.ran (λ m b q k. search (rules, tests)) (λ m l. sym (root_test a.file.now.bytes.now a.file.now.sections a.root.now m (omega arith)))

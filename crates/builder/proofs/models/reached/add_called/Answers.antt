@@ -1,25 +1,34 @@
+use mathlib.Core.Path.{sym}
 use native.Mathlib.Omega.{arith}
-use Rattle.builder.proofs.laws.Calling.{entry_below}
+use Rattle.ast.specs.Opens.{file_in}
+use Rattle.builder.specs.Checking.{stmt_in}
+use Rattle.builder.specs.Starting.{place_as}
+use Rattle.builder.proofs.laws.Calling.{called_below}
+use Rattle.builder.proofs.laws.Open.{models_long}
 use Rattle.builder.proofs.laws.Rounds.{called_none, called_one}
 use Rattle.builder.proofs.models.reached.add_called.Goals as goal
 
-pub returns-then-c-eq0 : goal.returns-then-c-eq0
-returns-then-c-eq0 c = let a = c.args in
-    let p = c.requires in
-    called_none a.file.now.bytes.now a.file.now.sections a.callees.now p.0.callees a.q p.2 a.old.now a.file.now.sections.counts.models a.a a.new.now (rw c.from-c.ensures at c.if-c-eq0.true)
+pub returns-in_default : goal.returns-in_default
+unfolding place_as
+returns-in_default c = let a = c.args in
+    let s = a.calls.now.file in
+    called_none (file_in s.bytes.now s.sections) (stmt_in s.bytes.now s.sections a.q) a.old.now s.sections.counts.models a.a a.new.now (sym c.in_default.ensures)
 
 pub add_reached-requires : goal.add_reached-requires
+unfolding place_as
 add_reached-requires c = let a = c.args in
     let p = c.requires in
+    let s = a.calls.now.file in
     record {
-      old_long = p.0.old_long;
+      old_long = p.0;
       new_long = p.1;
-      few = p.0.opened.laid.within.models;
-      called = omega (arith, entry_below a.file.now.bytes.now a.file.now.sections p.0.opened a.callees.now p.0.callees a.q p.2, c.if-c-eq0.false);
+      few = s.opened.laid.within.models;
+      called = omega (arith, called_below (file_in s.bytes.now s.sections) _ _ (sym c.in-Some.ensures), models_long s.bytes.now s.sections);
       row = p.3;
     }
 
-pub returns : goal.returns
-returns c = let a = c.args in
-    let p = c.requires in
-    called_one a.file.now.bytes.now a.file.now.sections a.callees.now p.0.callees a.q p.2 a.old.now a.file.now.sections.counts.models a.a a.new.now _ (rw c.from-c.ensures at c.if-c-eq0.false) (rw c.from-c.ensures at c.add_reached.ensures)
+pub returns-in-Some : goal.returns-in-Some
+unfolding place_as
+returns-in-Some c = let a = c.args in
+    let s = a.calls.now.file in
+    called_one (file_in s.bytes.now s.sections) (stmt_in s.bytes.now s.sections a.q) a.old.now s.sections.counts.models a.a a.new.now _ _ (sym c.in-Some.ensures) c.add_reached.ensures

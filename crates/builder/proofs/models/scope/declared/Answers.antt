@@ -27,6 +27,12 @@ bounds-classes-name c = let p = c.requires.0 in
     let u = unknown_of_run _ _ p.opened _ p.model _ _ c.loop-i.i c.model-first.ensures.0 c.model-count.ensures.0 c.loop-i-test.true in
     omega arith
 
+pub bounds-out-name : goal.bounds-out-name
+unfolding unknown_of
+bounds-out-name c = let p = c.requires.0 in
+    let u = unknown_of_run _ _ p.opened _ p.model _ _ c.loop-i.i c.model-first.ensures.0 c.model-count.ensures.0 c.loop-i-test.true in
+    omega arith
+
 pub loop-i-preserved : goal.loop-i-preserved
 unfolding unknown_of
 loop-i-preserved c = let a = c.args in

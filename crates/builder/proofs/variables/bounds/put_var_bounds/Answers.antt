@@ -2,6 +2,7 @@ use native.Mathlib.Omega.{arith}
 use mathlib.Core.Path.{refl, ◌∙◌}
 use mathlib.Core.Logic.{inl}
 use mathlib.Core.Bool.{true, false}
+use Rattle.std.specs.Prelude.{None}
 use Rattle.ast.specs.Opens.{file_in}
 use Rattle.definitions.specs.Flatten.{model_at}
 use Rattle.builder.specs.Bounding.{bounds_from}
@@ -12,12 +13,12 @@ use Rattle.builder.proofs.variables.bounds.put_var_bounds.Goals as goal
 pub put_bounds-requires : goal.put_bounds-requires
 put_bounds-requires c = let a = c.args in
     let p = c.requires in
-    (omega arith, stands_nans a.file.now.bytes.now a.file.now.sections 0 (bounds_from true) _ (from_floating true _ c.bounds_from.ensures) (inl (true, refl)), omega arith)
+    (tt, stands_nans a.file.now.bytes.now a.file.now.sections None (bounds_from true) _ (from_floating true _ c.bounds_from.ensures) (inl (true, refl)), omega arith)
 
 pub returns-then-v-eq0 : goal.returns-then-v-eq0
 returns-then-v-eq0 c = let a = c.args in
     let p = c.requires in
-    c.put_bounds.ensures ∙ rw (stands_bits a.file.now.bytes.now a.file.now.sections 0 (bounds_from true) _ (from_floating true _ c.bounds_from.ensures) (inl (true, refl)), bounds_of_time (file_in a.file.now.bytes.now a.file.now.sections).names (model_at (file_in a.file.now.bytes.now a.file.now.sections) a.m).unknowns a.name a.v c.if-v-eq0.true) refl
+    c.put_bounds.ensures ∙ rw (stands_bits a.file.now.bytes.now a.file.now.sections None (bounds_from true) _ (from_floating true _ c.bounds_from.ensures) (inl (true, refl)), bounds_of_time (file_in a.file.now.bytes.now a.file.now.sections).names (model_at (file_in a.file.now.bytes.now a.file.now.sections) a.m).unknowns a.name a.v c.if-v-eq0.true) refl
 
 pub put_bounds-requires-2 : goal.put_bounds-requires-2
 put_bounds-requires-2 c = let a = c.args in

@@ -25,5 +25,5 @@ pub returns : goal.returns
 returns c = let a = c.args in
     let p = c.requires in
     let n : word_of (unknown_record a.file.now.bytes.now a.file.now.sections a.u) 0 < length (Opens.file_in a.file.now.bytes.now a.file.now.sections).names = omega (arith, (unknown_is a.file.now.bytes.now a.file.now.sections c.args.file.now.opened a.u p.2).name_below, names_long a.file.now.bytes.now a.file.now.sections) in
-    let t : c.is_time-time.result ≡ is_time (Opens.file_in a.file.now.bytes.now a.file.now.sections).names (word_of (unknown_record a.file.now.bytes.now a.file.now.sections a.u) 0) = c.is_time-time.ensures ∙ rw (c.unknown.ensures.0, p.0.class (word_of (unknown_record a.file.now.bytes.now a.file.now.sections a.u) 0) n) (class_time (Opens.file_in a.file.now.bytes.now a.file.now.sections).names (word_of (unknown_record a.file.now.bytes.now a.file.now.sections a.u) 0)) in
-    unknown_floating a.file.now.bytes.now a.file.now.sections a.u c.args.file.now.opened p.2 c.domain-domain.result c.domain-domain.ensures a.classes.now p.0 c.is_time-time.result t c.domain_bounds.result c.domain_bounds.ensures
+    let t : c.eq-time.result ≡ is_time (Opens.file_in a.file.now.bytes.now a.file.now.sections).names (word_of (unknown_record a.file.now.bytes.now a.file.now.sections a.u) 0) = c.eq-time.ensures ∙ rw c.unknown.ensures.0 (class_time p.0 (word_of (unknown_record a.file.now.bytes.now a.file.now.sections a.u) 0) n) in
+    unknown_floating a.file.now.bytes.now a.file.now.sections a.u c.args.file.now.opened p.2 c.domain-domain.result c.domain-domain.ensures a.classes.now p.0 _ t c.domain_bounds.result c.domain_bounds.ensures

@@ -7,13 +7,13 @@ use Rattle.builder.proofs.variables.records.write_var.Goals as goal
 pub set_dependents-end-requires : goal.set_dependents-end-requires
 set_dependents-end-requires c = let a = c.args in
     let p = c.requires in
-    let name = c.var_of-name.ensures ∙ p.2.named in
+    let name = c.var-name.ensures ∙ p.2.named in
     (p.1, next_room a.file.now.bytes.now a.file.now.sections a.m a.z a.area.now a.v a.done p.2 _ _ name c.deps_at-from.ensures)
 
 pub lead_of-lead-requires : goal.lead_of-lead-requires
 lead_of-lead-requires c = let a = c.args in
     let p = c.requires in
-    let name = c.var_of-name.ensures ∙ p.2.named in
+    let name = c.var-name.ensures ∙ p.2.named in
     let at = c.deps_at-from.ensures in
     let behind = c.set_dependents-end.ensures in
     lead_asked a.file.now.bytes.now a.file.now.sections a.m a.z a.area.now a.v a.done p.2 _ _ _ _ name at behind
@@ -26,7 +26,7 @@ overflow_add-place c = let p = c.requires in
 pub put_variable-requires : goal.put_variable-requires
 put_variable-requires c = let a = c.args in
     let p = c.requires in
-    let name = c.var_of-name.ensures ∙ p.2.named in
+    let name = c.var-name.ensures ∙ p.2.named in
     let at = c.deps_at-from.ensures in
     let behind = c.set_dependents-end.ensures in
     let lead = c.lead_of-lead.ensures in
@@ -36,7 +36,7 @@ put_variable-requires c = let a = c.args in
 pub returns : goal.returns
 returns c = let a = c.args in
     let p = c.requires in
-    let name = c.var_of-name.ensures ∙ p.2.named in
+    let name = c.var-name.ensures ∙ p.2.named in
     let at = c.deps_at-from.ensures in
     let behind = c.set_dependents-end.ensures in
     (next_end a.file.now.bytes.now a.file.now.sections a.m a.z a.area.now a.v a.done p.2 _ _ _ _ name at behind, next_written a.file.now.bytes.now a.file.now.sections a.m a.z a.area.now a.v a.done p.2 _ _ _ _ name at behind _ _ _ c.vars_at.ensures c.lead_of-lead.ensures c.put_variable.ensures)

@@ -8,6 +8,7 @@ use Rattle.builder.specs.VariableTables.{unknowns_in}
 use Rattle.builder.specs.Allocating.{names_in}
 use Rattle.builder.proofs.laws.Open.{names_long}
 use Rattle.builder.proofs.laws.ScopeTables.{time_below}
+use Rattle.builder.proofs.laws.Ranges.{place_within}
 use Rattle.builder.proofs.laws.OpenUnknowns.{no_unknown, run_within, run_count, run_name}
 use Rattle.builder.proofs.laws.Rosters.{room_first, room_kept, reserved_in, roster_first, roster_next, roster_pass, roster_last}
 use Rattle.builder.proofs.variables.roster.roster_of.Goals as goal
@@ -16,7 +17,7 @@ use Rattle.builder.proofs.variables.roster.roster_of.Goals.{After-unknown-name, 
 pub time_alone-requires : goal.time_alone-requires
 time_alone-requires c = let a = c.args in
     let p = c.requires in
-    (omega (arith, p.0.opened.laid.within.names, time_below (file_in a.file.now.bytes.now a.file.now.sections).names, names_long a.file.now.bytes.now a.file.now.sections, c.time_name.ensures), room_first a.n a.q a.area.now p.1, refl, p.2)
+    (place_within c.time_name.result 256 (omega (arith, p.0.opened.laid.within.names, time_below (file_in a.file.now.bytes.now a.file.now.sections).names, names_long a.file.now.bytes.now a.file.now.sections, c.time_name.ensures)), room_first a.n a.q a.area.now p.1, refl, p.2)
 
 pub loop-i-init : goal.loop-i-init
 loop-i-init c = let a = c.args in
