@@ -2,3 +2,4 @@ pub mod Fields
 pub mod Sections
 pub mod Listing
 pub mod Views
+pub mod Fates

@@ -32,7 +32,8 @@ pub enum ErrorKind {
     AlgebraicInitialCondition = 17,
 }
 
-// An error that a test finds: its kind, its span, and a name plus 1 or 0.
+// An error that a test finds: its kind, its span, and a name plus 1 or 0, as the list has it: the words that names come
+// from, of nodes and of variables, have them so too.
 #[derive(Clone, Copy, Debug, PartialEq, Eq)]
 pub struct Found {
     pub kind: ErrorKind,

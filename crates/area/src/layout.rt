@@ -1,5 +1,7 @@
 // The numbers of an answer area: its mosts, the lengths of its header and records, the word of each field, and the
 // fates. `Numbers` of definitions has them.
+use ast::kinds::NoKind;
+
 pub const MOST_INSTANCES: usize = 1024;
 
 pub const MOST_VARS: usize = 129;
@@ -8,7 +10,7 @@ pub const MOST_LISTED: usize = 256;
 
 pub const MOST_BYTES: usize = 55384;
 
-// The greatest kind of error that exists.
+// The greatest kind of error that exists: a bound of a word that is tested, and no kind.
 pub const MOST_KIND: usize = 17;
 
 // The lengths of the header and of records, in words; a node's is that of the file.
@@ -91,6 +93,26 @@ pub enum Fate {
     LeftOver = 4,
 }
 
+impl TryFrom<u32> for Fate {
+    ghost use Rattle.ast.specs.Kinds.{ReadAs};
+    ghost use Rattle.area.specs.Fates.{fate_number};
+
+    type Error = NoKind;
+
+    ghost try_from_gives = { λ word r. ReadAs fate_number word r };
+
+    #[tactic(auto, unfolding(ast::specs::Kinds::ReadAs))]
+    fn try_from(word: u32) -> Result<Fate, NoKind> {
+        match word {
+            1 => Ok(Fate::Initial),
+            2 => Ok(Fate::Held),
+            3 => Ok(Fate::Replaced),
+            4 => Ok(Fate::LeftOver),
+            _ => Err(NoKind),
+        }
+    }
+}
+
 // Words and their bytes: a bound is a float of two words.
 pub const WORD: usize = 4294967296;
 
@@ -114,7 +136,7 @@ pub const VARIABLE_AT: usize = 28;
 
 pub const BOUNDS_AT: usize = 32;
 
-// The refusal of an area that is shorter than the answer.
+// The refusal of an area that is shorter than the answer. It is the area's only one: an enum of one case is no plainer.
 pub const SHORT_AREA: u32 = 1;
 
 // The weight of the bytes used in what a build tells: they stand in the high 32 bits.

@@ -1,4 +1,5 @@
-// The lent area: an answer's bytes with zeros behind them, or zeros only.
+// The lent area: an answer's bytes with zeros behind them, or zeros only. Where a function is one call of the library, its
+// contract says it in the definitions' words, by which callers go on.
 ghost use Rattle.std.specs.Prelude.{◌≡◌, ◌++◌, ◌+◌, ◌-◌, ◌*◌, ◌^◌, min, ◌≤◌, ◌<◌, length, take, replicate};
 ghost use Rattle.ast.specs.Bytes.{front, put};
 ghost use Rattle.definitions.specs.Numbers.{most_listed, error_length};

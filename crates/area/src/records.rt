@@ -115,7 +115,8 @@ impl Area<'_> {
     }
 }
 
-// Writes word k of variable v.
+// Writes word k of variable v. Who writes has the bytes and the sizes apart: the sizes grow while variables are listed, and
+// a contract equates the bytes before and after, which a struct that holds them lent would hide.
 pub fn put_var(area: &mut [u8], z: Sizes, v: usize, k: usize, word: u32)
     requires { Small z
         × (deps_at z ≤ length area.old)

@@ -9,6 +9,8 @@ ghost use Rattle.area.specs.Sections.{Small, nodes_end, stmts_at, vars_at, deps_
 use super::layout::{HEADER_BYTES, STMT_BYTES, VAR_BYTES};
 use ast::layout::{DEP_BYTES, NODE_BYTES};
 
+// That no count is over its most stays a clause (`Small`) where it is asked for: as a fact of the type it would be asked of
+// those who only read nodes, too.
 #[derive(Clone, Copy)]
 pub struct Sizes {
     pub nodes: usize,
@@ -25,6 +27,8 @@ pub fn nodes_end(n: usize) -> usize
     HEADER_BYTES + NODE_BYTES * n
 }
 
+// Each adds the length of the section before it. One function over a section's number would have each caller say which
+// one it means, and its contract unfolded there.
 pub fn stmts_at(z: Sizes) -> usize
     requires { Small z }
     ensures { result ≡ stmts_at z }

@@ -1,6 +1,5 @@
 -- Records by place: those of a file and those of an answer area alike. A test that names a record's words by number serves records of any width that has them.
 use Rattle.std.specs.Prelude.{List, [], ℕ, ◌+◌, ◌*◌, ◌≤◌, length, get_or}
-use Rattle.ast.specs.FileNumbers.{file_stmt_length}
 use Rattle.ast.specs.Words.{section}
 use Rattle.ast.specs.declared.sections.Records.{Records}
 
@@ -13,8 +12,3 @@ record_in rs f i = get_or (records_in rs f) i []
 -- they lie within the bytes
 abbrev pub RecordsLie : Records → List ℕ → Type 0
 RecordsLie rs f = rs.at + 4 * (rs.count * rs.width) ≤ length f
-
--- records within the bytes that begin with a statement's words
-pub record StmtsLie (rs : Records) (f : List ℕ) : Type 0 where
-  pub lie : RecordsLie rs f
-  pub wide : file_stmt_length ≤ rs.width

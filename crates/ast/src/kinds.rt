@@ -1,7 +1,7 @@
 // The kinds of nodes and of statements, the domains of unknowns and the signs of operators, each with the number that
 // stands for it in a file.
 #![tactic(auto, unfolding(crate::specs::Kinds::ReadAs))]
-// Of a word that stands for none of them.
+// Of a word or a number that stands for none of them.
 #[derive(Clone, Copy, Debug, PartialEq, Eq)]
 pub struct NoKind;
 
@@ -41,6 +41,8 @@ pub enum Sign {
     Divided = 47,
 }
 
+// These conversions are alike but for their cases: an impl that a macro writes is not allowed here, and a table would be
+// searched where a match is one step.
 impl TryFrom<usize> for NodeKind {
     ghost use Rattle.ast.specs.Kinds.{ReadAs, node_number};
 

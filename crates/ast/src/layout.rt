@@ -1,5 +1,6 @@
 // The numbers of a tree file: its form, its mosts, the lengths of its records, and the word of each field.
-// `FileNumbers` has them for the definitions.
+// `FileNumbers` has them for the definitions. A record's words go by number: the format is words, and one is asked for at
+// a time, where a struct would be read whole.
 pub const FORM: usize = 1;
 
 // The mosts; that of the text in bytes.

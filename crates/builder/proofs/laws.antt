@@ -1,3 +1,4 @@
+pub mod Sourced
 pub mod Flattening
 pub mod Classes
 pub mod Open

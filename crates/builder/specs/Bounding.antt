@@ -1,11 +1,11 @@
 -- Bounds in floats, as the code works them out by an unknown's domain, and in bits; and the unknown that declares a name last.
-use Rattle.std.specs.Prelude.{ℕ, ◌^◌, ◌≤◌, ◌<◌, ◌≡◌, Bool, false, cond, List, [], length, get_or, Float, Option, None, Some, IfSome}
+use Rattle.std.specs.Prelude.{ℕ, ◌^◌, ◌<◌, ◌≡◌, Bool, false, cond, List, [], get_or, Float, Option, None, Some, IfSome}
 use Rattle.std.specs.Float.{binary64}
 use Rattle.std.specs.Float.Ieee.{is_nan, to_bits}
 use Rattle.ast.specs.Words.{float_from}
 use Rattle.ast.specs.Records.{name_of_unknown, domain_of}
 use Rattle.ast.specs.Numbers.{number_of}
-use Rattle.ast.specs.Opens.{Open, contents_in, file_in}
+use Rattle.ast.specs.Opens.{contents_in, file_in}
 use Rattle.ast.specs.declared.numbers.Bounds as declared
 use Rattle.ast.specs.declared.numbers.Domain.{Domain}
 use Rattle.ast.specs.declared.numbers.Domain.TheVariants as domain
@@ -14,7 +14,7 @@ use Rattle.definitions.specs.Variables.{Bounds, from_zero, unbounded, domain_bou
 use Rattle.definitions.specs.Flatten.{model_at}
 use Rattle.builder.specs.declared.names.Class.{Class}
 use Rattle.builder.specs.declared.names.Class.TheVariants.{Time}
-use Rattle.builder.specs.Tables.{non_negative_class, Classes}
+use Rattle.builder.specs.Tables.{non_negative_class}
 
 -- from 0 to infinity, or unbounded
 unfoldable pub bounds_from : Bool → Bounds
@@ -79,10 +79,3 @@ NanDeclared (Some u) x = Unit {0}
 -- Of each of two bounds.
 abbrev pub NansDeclared : Option ℕ → declared.Bounds → Type 0
 NansDeclared r x = NanDeclared r x.lower × NanDeclared r x.upper
-
--- Model m of an open file, and the classes of the names: what bounds of its variables are read from.
-pub record Bounded (f : List ℕ) (s : Sections) (classes : List Class) (m : ℕ) : Type 0 where
-  pub opened : Open f s
-  pub classed : Classes (file_in f s).names classes
-  pub long : s.counts.names ≤ length classes
-  pub model : m < s.counts.models

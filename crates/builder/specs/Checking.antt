@@ -104,19 +104,6 @@ pub record Against (f : List ℕ) (s : Sections) (m : ℕ) (cs : List Class) (rs
   pub classes : Classes (scope_in f s m).names cs
   pub rules : Rules (scope_in f s m).names rs
 
--- The classes of the names, and the models that the statements call.
-pub record Called (f : List ℕ) (s : Sections) (cs : List Class) (ts : List ℕ) : Type 0 where
-  pub opened : Open f s
-  pub classes : Classes (file_in f s).names cs
-  pub callees : Callees f s ts
-
--- The tables that the models of a file are checked with: these, and the rules of the names.
-pub record TablesRead (f : List ℕ) (s : Sections) (cs : List Class) (rs : List Rule) (ts : List ℕ) : Type 0 where
-  pub opened : Open f s
-  pub classes : Classes (file_in f s).names cs
-  pub rules : Rules (file_in f s).names rs
-  pub callees : Callees f s ts
-
 -- Statement q, with a depth of k models below it.
 pub record StmtAt (s : Sections) (q k : ℕ) : Type 0 where
   pub within : q < s.counts.stmts

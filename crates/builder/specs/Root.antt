@@ -18,7 +18,7 @@ use Rattle.definitions.specs.Roles.{Role, role_of}
 use Rattle.definitions.specs.Allocate.{Fate, fates_of, left_count, paired_states, count_errors}
 use Rattle.definitions.specs.Answer.{Answer, answer_bytes, flat_records, variable_records}
 use Rattle.definitions.specs.Build.{Result, refusal, accepted, answer_from, too_big, fitted}
-use Rattle.builder.specs.Tables.{Classes, lacking_in}
+use Rattle.builder.specs.Tables.{lacking_in}
 use Rattle.builder.specs.VariableTables.{Listing, roster_in, Numbers}
 use Rattle.builder.specs.Unfated.{unfated}
 use Rattle.builder.specs.VarRecords.{unheld_records}
@@ -26,12 +26,10 @@ use Rattle.area.specs.Sections.{Small, nodes_at, stmts_at, vars_at, deps_at, are
 use Rattle.builder.specs.Fating as fating
 use Rattle.builder.specs.Allocating.{flats_in, Flattened, Numbered, names_in, states_in, indexes_in, rates_in, role_by, role_errors_by}
 use Rattle.builder.specs.Starting.{starting_in, Righted}
-use Rattle.builder.specs.Checking as checking
-use Rattle.builder.specs.Descent.{RowsIn}
+use Rattle.builder.specs.Descent.{RowsAt}
 use Rattle.area.specs.declared.sections.Sizes.{Sizes}
 use Rattle.std.specs.Prelude as std
 use Rattle.std.specs.Prelude.{Ok, Err}
-use Rattle.builder.specs.declared.names.Class.{Class}
 use Rattle.builder.specs.declared.refusal.Refusal.{Refusal}
 use Rattle.builder.specs.Refusals.{number_of}
 use Rattle.builder.specs.declared.extent.measure.Extent.{Extent}
@@ -96,13 +94,10 @@ pub record ExtentOf (f : File) (m i q n : ℕ) : Type 0 where
   pub nodes : n ≡ sum_of flat_size (flats_of f m)
   pub small : too_big f m (flats_of f m) ≡ false
 
--- What the answer of model m is worked out from: the classes of the names, rows for as many models as there are, and an area of the most bytes.
-pub record Sources (f : List ℕ) (s : Sections) (classes : List Class) (rows : List ℕ) (m : ℕ) (area : List ℕ) : Type 0 where
-  pub classed : Classes (file_in f s).names classes
-  pub classes_long : length classes ≡ most_names
+-- What the answer of model m is worked out from: rows for as many models as there are, and an area of the most bytes.
+pub record Sources (f : List ℕ) (s : Sections) (rows : List ℕ) (m : ℕ) (area : List ℕ) : Type 0 where
   pub model : m < s.counts.models
-  pub rows_long : most_names * s.counts.models ≤ length rows
-  pub rows_in : RowsIn f s rows
+  pub readable : RowsAt f s rows s.counts.models
   pub long : length area ≡ most_bytes
 
 -- ---- the root's variables
@@ -146,19 +141,17 @@ pub record SizesOf (f : File) (m : ℕ) (z : Sizes) : Type 0 where
   pub vars : z.vars ≡ length (scope_at f m).vars
   pub deps : z.deps ≡ length (each (λ x. x.deps) (scope_at f m).vars)
 
--- What is known of root model m of an open file: the classes of its names, its variables by name, and the sizes.
-pub record Known (f : List ℕ) (s : Sections) (m : ℕ) (classes : List Class) (numbers : List ℕ) (z : Sizes) : Type 0 where
+-- What is known of root model m of an open file: its variables by name, and the sizes.
+pub record Known (f : List ℕ) (s : Sections) (m : ℕ) (numbers : List ℕ) (z : Sizes) : Type 0 where
   pub is_open : Open f s
   pub model : m < s.counts.models
-  pub classed : Classes (file_in f s).names classes
-  pub classes_long : length classes ≡ most_names
   pub numbered : Numbers (roster_in f s m) numbers
   pub numbers_long : length numbers ≡ most_names
   pub sizes : SizesOf (file_in f s) m z
 
 -- The same with the instances, and time's bounds as floats: what its answer is written from.
-pub record Rooted (f : List ℕ) (s : Sections) (classes : List Class) (numbers : List ℕ) (m i : ℕ) (z : Sizes) (time : floats.Bounds) : Type 0 where
-  pub known : Known f s m classes numbers z
+pub record Rooted (f : List ℕ) (s : Sections) (numbers : List ℕ) (m i : ℕ) (z : Sizes) (time : floats.Bounds) : Type 0 where
+  pub known : Known f s m numbers z
   pub instances : i ≡ definition.instances (file_in f s) (length (file_in f s).models) m
   pub few : i ≤ most_instances
   pub timed : Floating (time_at (file_in f s) m) time
@@ -214,9 +207,8 @@ module _ (b : List ℕ) (z : Sizes) (numbers : List ℕ) (lower : Float) where
   errors_by f m left states =
       errors_of f (length f.models) m ++ each (role_errors_by numbers (indexes_in b z) (rates_in b z) lower) (flats_in b z) ++ count_errors (model_at f m).span left states ++ starting_in (model_at f m).span (area_nodes b z) (area_stmts b z) (names_in b z) z.vars
 
--- What the errors of root model m are found from: the file's tables, the area with fates, and few enough errors to count.
-pub record Erring (f : List ℕ) (s : Sections) (classes : List Class) (callees b numbers : List ℕ) (m : ℕ) (z : Sizes) : Type 0 where
-  pub called : checking.Called f s classes callees
+-- What the errors of root model m are found from: the area with fates, and few enough errors to count.
+pub record Erring (f : List ℕ) (s : Sections) (b numbers : List ℕ) (m : ℕ) (z : Sizes) : Type 0 where
   pub model : m < s.counts.models
   pub righted : Righted b z
   pub flattened : (count : ℕ) × Flattened count b z

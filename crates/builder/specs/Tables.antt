@@ -44,12 +44,6 @@ non_negative_class c = false
 pub record Classes (names : List (List ℕ)) (table : List Class) : Type 0 where
   pub class : (n : ℕ) (d : Class) → n < length names → get_or table n d ≡ class_of (text_of names n)
 
--- Model m of an open file, and the class of each name: what the model's variables are found by.
-pub record ClassedModel (f : List ℕ) (s : Sections) (classes : List Class) (m : ℕ) : Type 0 where
-  pub opened : Open f s
-  pub classed : Classes (file_in f s).names classes
-  pub model : m < s.counts.models
-
 -- A table of n entries that are all 0.
 pub record Blank (n : ℕ) (table : List ℕ) : Type 0 where
   pub long : length table ≡ n

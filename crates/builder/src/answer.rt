@@ -13,11 +13,10 @@ use crate::allocation::statements::{Left, allocate_stmts};
 use crate::errors::all::all_errors;
 use crate::extent::measure::Extent;
 use crate::flattening::laid::lay_flats;
-use crate::models::called::Calls;
 use crate::models::scope::no_marks;
-use crate::names::Class;
 use crate::refusal::Refusal;
 use crate::root::Root;
+use crate::source::Source;
 use crate::variables::bounds::time_bounds;
 use crate::variables::laid::lay_vars;
 use crate::variables::records::write_header;
@@ -26,79 +25,55 @@ use area::layout::VAR_NAME;
 use area::lent::put_errors;
 use area::records::Area;
 use area::sections::errors_at;
-use ast::layout::MOST_NAMES;
 
 // Lists the errors apart, copies them to their section, writes the header, and gives the bytes used. `left` tells the
 // statements left and the states that lack an equation.
-fn finish(
-    calls: &Calls,
-    classes: &[Class; MOST_NAMES],
-    area: &mut [u8],
-    numbers: &[u16],
-    root: Root,
-    left: Left,
-) -> usize
-    requires { Rooted calls.now.file.bytes.now calls.now.file.sections classes.now numbers.now root.model root.instances
+fn finish(source: &Source, area: &mut [u8], numbers: &[u16], root: Root, left: Left) -> usize
+    requires { Rooted source.now.file.bytes.now source.now.file.sections numbers.now root.model root.instances
         root.sizes root.time
-        × Held (file_seen calls.now.file) root.model root.sizes area.old
-        × ((left.stmts ≡ left_count (roles_at (file_seen calls.now.file) root.model))
-        × (left.states ≡ length (lacking (scope_at (file_seen calls.now.file) root.model).vars
-        (roles_at (file_seen calls.now.file) root.model)))) }
-    ensures { (take result area.new ≡ answer_bytes (answer_at (file_seen calls.now.file) root.model))
+        × Held (file_seen source.now.file) root.model root.sizes area.old
+        × ((left.stmts ≡ left_count (roles_at (file_seen source.now.file) root.model))
+        × (left.states ≡ length (lacking (scope_at (file_seen source.now.file) root.model).vars
+        (roles_at (file_seen source.now.file) root.model)))) }
+    ensures { (take result area.new ≡ answer_bytes (answer_at (file_seen source.now.file) root.model))
         × (result ≤ most_bytes) }
 {
     let sizes = root.sizes;
     let mut errors = Errors::new();
     let read = Area { bytes: area, sizes };
-    all_errors(
-        &calls.file,
-        classes,
-        &calls.callees,
-        &read,
-        numbers,
-        root,
-        left,
-        &mut errors,
-    );
+    all_errors(source, &read, numbers, root, left, &mut errors);
     put_errors(area, sizes, &errors);
-    write_header(&calls.file, root, area, errors.count);
+    write_header(&source.file, root, area, errors.count);
     errors_at(sizes) + errors.length()
 }
 
 // Writes fates, what each variable holds, errors and header, and gives the bytes used.
-fn write_answer(
-    calls: &Calls,
-    classes: &[Class; MOST_NAMES],
-    area: &mut [u8],
-    numbers: &[u16],
-    root: Root,
-) -> usize
-    requires { Rooted calls.now.file.bytes.now calls.now.file.sections classes.now numbers.now root.model root.instances
+fn write_answer(source: &Source, area: &mut [u8], numbers: &[u16], root: Root) -> usize
+    requires { Rooted source.now.file.bytes.now source.now.file.sections numbers.now root.model root.instances
         root.sizes root.time
-        × Unfated (file_seen calls.now.file) root.model root.sizes area.old }
-    ensures { (take result area.new ≡ answer_bytes (answer_at (file_seen calls.now.file) root.model))
+        × Unfated (file_seen source.now.file) root.model root.sizes area.old }
+    ensures { (take result area.new ≡ answer_bytes (answer_at (file_seen source.now.file) root.model))
         × (result ≤ most_bytes) }
 {
     let left = allocate_stmts(area, root.sizes, numbers, root.time.lower);
     write_held(area, root.sizes);
-    finish(calls, classes, area, numbers, root, left)
+    finish(source, area, numbers, root, left)
 }
 
 // Refusal 10, or the rest of the answer, and the bytes used.
 fn answer_laid(
-    calls: &Calls,
-    classes: &[Class; MOST_NAMES],
+    source: &Source,
     area: &mut [u8],
     numbers: &[u16],
     root: Root,
 ) -> Result<usize, Refusal>
-    requires { Rooted calls.now.file.bytes.now calls.now.file.sections classes.now numbers.now root.model root.instances
+    requires { Rooted source.now.file.bytes.now source.now.file.sections numbers.now root.model root.instances
         root.sizes root.time
-        × Unfated (file_seen calls.now.file) root.model root.sizes area.old }
+        × Unfated (file_seen source.now.file) root.model root.sizes area.old }
     ensures { (answered_as result area.new ≡ bytes_in
-        (cond (any_short (scope_at (file_seen calls.now.file) root.model)
-        (flats_of (file_seen calls.now.file) root.model)) (refusal short_left_side)
-        (accepted (answer_at (file_seen calls.now.file) root.model))))
+        (cond (any_short (scope_at (file_seen source.now.file) root.model)
+        (flats_of (file_seen source.now.file) root.model)) (refusal short_left_side)
+        (accepted (answer_at (file_seen source.now.file) root.model))))
         × (used_in result ≤ most_bytes) }
 {
     let sizes = root.sizes;
@@ -106,44 +81,35 @@ fn answer_laid(
     if any_short(&read, numbers) {
         return Err(Refusal::ShortLeftSide);
     }
-    Ok(write_answer(calls, classes, area, numbers, root))
+    Ok(write_answer(source, area, numbers, root))
 }
 
 // The answer of model m, of this extent, and the bytes used.
 pub fn fill(
-    calls: &Calls,
-    classes: &[Class; MOST_NAMES],
+    source: &Source,
     rows: &mut [u16],
     m: usize,
     area: &mut [u8],
     extent: Extent,
 ) -> Result<usize, Refusal>
-    requires { Sources calls.now.file.bytes.now calls.now.file.sections classes.now rows.old m area.old
-        × ExtentOf (file_seen calls.now.file) m extent.instances extent.stmts extent.nodes }
+    requires { Sources source.now.file.bytes.now source.now.file.sections rows.old m area.old
+        × ExtentOf (file_seen source.now.file) m extent.instances extent.stmts extent.nodes }
     ensures { (answered_as result area.new ≡ bytes_in
-        (cond (any_short (scope_at (file_seen calls.now.file) m) (flats_of (file_seen calls.now.file) m))
-        (refusal short_left_side) (accepted (answer_at (file_seen calls.now.file) m))))
+        (cond (any_short (scope_at (file_seen source.now.file) m) (flats_of (file_seen source.now.file) m))
+        (refusal short_left_side) (accepted (answer_at (file_seen source.now.file) m))))
         × (used_in result ≤ most_bytes) }
 {
     let mut numbers = no_marks();
-    lay_flats(calls, rows, m, area, extent.nodes);
-    let sizes = lay_vars(
-        &calls.file,
-        classes,
-        m,
-        area,
-        extent.nodes,
-        extent.stmts,
-        &mut numbers,
-    );
+    lay_flats(source, rows, m, area, extent.nodes);
+    let sizes = lay_vars(source, m, area, extent.nodes, extent.stmts, &mut numbers);
     let read = Area { bytes: area, sizes };
     let name = read.var(0, VAR_NAME) as usize;
-    let time = time_bounds(&calls.file, classes, m, name);
+    let time = time_bounds(source, m, name);
     let root = Root {
         model: m,
         instances: extent.instances,
         sizes,
         time,
     };
-    answer_laid(calls, classes, area, &numbers, root)
+    answer_laid(source, area, &numbers, root)
 }

@@ -10,30 +10,28 @@ ghost use Rattle.builder.specs.Root.{Sources, answered_as, used_in, bytes_in, fi
 use crate::answer::fill;
 use crate::extent::measure::measure;
 use crate::flattening::laid::{blank, no_rows};
-use crate::models::called::{Calls, find_calls, find_root};
-use crate::names::{Class, classes};
+use crate::models::called::find_root;
 use crate::numbers::{FEW_MODELS, FEW_ROWS, ROWS};
 use crate::refusal::Refusal;
+use crate::source::Source;
 use area::layout::{HIGH, MOST_BYTES};
 use area::lent::{clear, hand_out, refuse};
-use ast::layout::MOST_NAMES;
 use ast::open::open;
 use ast::view::View;
 
-// The answer of model m, by the submodel calls, the classes of the names and rows for as many models as there are.
+// The answer of model m, by rows for as many models as there are.
 fn answer_with(
-    calls: &Calls,
-    classes: &[Class; MOST_NAMES],
+    source: &Source,
     rows: &mut [u16],
     m: usize,
     area: &mut [u8],
 ) -> Result<usize, Refusal>
-    requires { Sources calls.now.file.bytes.now calls.now.file.sections classes.now rows.old m area.old }
-    ensures { (answered_as result area.new ≡ bytes_in (answer_of_model (file_seen calls.now.file) m))
+    requires { Sources source.now.file.bytes.now source.now.file.sections rows.old m area.old }
+    ensures { (answered_as result area.new ≡ bytes_in (answer_of_model (file_seen source.now.file) m))
         × (used_in result ≤ most_bytes) }
 {
-    let extent = measure(calls, classes, rows, m)?;
-    fill(calls, classes, rows, m, area, extent)
+    let extent = measure(source, rows, m)?;
+    fill(source, rows, m, area, extent)
 }
 
 // The answer of model m, by N entries of rows. Each length of rows is a function of its own for the compiler, so that a
@@ -46,10 +44,9 @@ fn answer<const N: usize>(file: &View, m: usize, area: &mut [u8]) -> Result<usiz
     ensures { (answered_as result area.new ≡ bytes_in (answer_of_model (file_seen file.now) m))
         × (used_in result ≤ most_bytes) }
 {
-    let classed = classes(file);
-    let calls = find_calls(file);
+    let source = Source::new(file);
     let mut rows: [u16; N] = no_rows();
-    answer_with(&calls, &classed, &mut rows, m, area)
+    answer_with(&source, &mut rows, m, area)
 }
 
 // A refusal, or the answer handed out.

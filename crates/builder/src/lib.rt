@@ -1,5 +1,6 @@
 // The continuous builder: from a tree file and a root name to an answer area. A build goes through build, answer,
-// names, models, extent, flattening, variables, allocation, errors; `root` and `numbers` are what they share.
+// names, models, extent, flattening, variables, allocation, errors; `source`, `root` and `numbers` are what they
+// share.
 #![tactic(auto)]
 
 pub mod allocation;
@@ -13,4 +14,5 @@ pub mod names;
 pub mod numbers;
 pub mod refusal;
 pub mod root;
+pub mod source;
 pub mod variables;

@@ -1,14 +1,17 @@
 // What a name's text decides, each text looked at once: a class and an argument rule for every name number.
-ghost use Rattle.std.specs.Prelude.{◌≡◌, ◌<◌};
+ghost use Rattle.std.specs.Prelude.{◌≡◌, ℕ, ◌<◌, length, get_or};
 ghost use Rattle.functions.specs.Lists.{plus_one};
+ghost use Rattle.functions.specs.Tables.{value_among};
 ghost use Rattle.ast.specs.Views.{file_seen};
+ghost use Rattle.definitions.specs.Numbers.{most_names};
 ghost use Rattle.definitions.specs.Names.{text_of, time_name};
-ghost use Rattle.builder.specs.Tables.{class_of, reserved_class, Classes, Rules};
+ghost use Rattle.builder.specs.Tables.{reserved_class, Classes, Rules};
 ghost use Rattle.builder.specs.Starting.{place_as};
 
+use crate::source::Source;
 use ast::layout::{MOST_NAMES, NAME_LENGTH, NAME_START};
 use ast::view::View;
-use functions::{Rule, function_rule, same_bytes};
+use functions::{RULES, Rule, value_of};
 
 // What a name's text makes of it.
 #[derive(Clone, Copy, Debug, PartialEq, Eq)]
@@ -49,18 +52,6 @@ const DECIDING: [(&[u8], Class); 18] = [
     (b"piecewise", Class::BuiltIn),
 ];
 
-// The class of a name's text.
-pub fn class_of(name: &[u8]) -> Class
-    ensures { result ≡ class_of name.now }
-{
-    for (known, class) in &DECIDING {
-        if same_bytes(name, known) {
-            return *class;
-        }
-    }
-    Class::Other
-}
-
 // Whether the names of a class are reserved: t's and the others'.
 #[tactic(auto, unfolding(crate::specs::Tables::reserved_class))]
 pub fn is_reserved(class: Class) -> bool
@@ -79,32 +70,37 @@ pub fn name_text<'a>(file: &View<'a>, n: usize) -> &'a [u8]
     &file.bytes[from..to]
 }
 
-// The class of each name.
-pub fn classes(file: &View) -> [Class; MOST_NAMES]
-    ensures { Classes (file_seen file.now).names result }
+// What stands beside each name in a table of names, or another where the table has not the name.
+fn by_name<T: Copy>(file: &View, table: &[(&[u8], T)], other: T) -> [T; MOST_NAMES]
+    ensures { (length result ≡ most_names)
+        × ((n : ℕ) → n < file.now.sections.counts.names
+        → get_or result n other ≡ value_among other table.now (text_of (file_seen file.now).names n)) }
 {
-    let mut out = [Class::Other; MOST_NAMES];
+    let mut out = [other; MOST_NAMES];
     for n in 0..file.sections.counts.names {
-        out[n] = class_of(name_text(file, n));
+        out[n] = value_of(name_text(file, n), table, other);
     }
     out
 }
 
-// The number of the first name that is t.
-pub fn time_name(file: &View, classes: &[Class; MOST_NAMES]) -> Option<usize>
-    requires { Classes (file_seen file.now).names classes.now }
-    ensures { plus_one (place_as result) ≡ time_name (file_seen file.now).names }
+// The class of each name.
+pub fn classes(file: &View) -> [Class; MOST_NAMES]
+    ensures { Classes (file_seen file.now).names result }
 {
-    (0..file.sections.counts.names).position(|n| classes[n] == Class::Time)
+    by_name(file, &DECIDING, Class::Other)
+}
+
+// The number of the first name that is t.
+pub fn time_name(source: &Source) -> Option<usize>
+    ensures { plus_one (place_as result) ≡ time_name (file_seen source.now.file).names }
+{
+    let classes = &source.classes;
+    (0..source.file.sections.counts.names).position(|n| classes[n] == Class::Time)
 }
 
 // The argument rule of each name.
 pub fn rules(file: &View) -> [Rule; MOST_NAMES]
     ensures { Rules (file_seen file.now).names result }
 {
-    let mut out = [Rule::Any; MOST_NAMES];
-    for n in 0..file.sections.counts.names {
-        out[n] = function_rule(name_text(file, n));
-    }
-    out
+    by_name(file, &RULES, Rule::Any)
 }

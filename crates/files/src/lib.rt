@@ -16,6 +16,7 @@ pub fn read_full<R: Read>(file: &mut R, buffer: &mut [u8]) -> io::Result<usize>
         Consumes (R.remaining file.old) (R.remaining file.new) (take n buffer.new)) }
     ensures end { IfOk result (λ n. n < length buffer.new → IsAtEnd (R.remaining file.new)) }
 {
+    // A read puts as many bytes as it likes: nothing is counted through, so this is no `for`.
     let mut done = 0;
     while done < buffer.len() {
         match file.read(&mut buffer[done..])? {

@@ -48,7 +48,7 @@ pub fn counts_fit(area: &[u8]) -> bool
         & (header_word(area, HEADER_INSTANCES) <= MOST_INSTANCES)
 }
 
-// How many errors are listed.
+// How many errors are listed: the library's `min`, in the definitions' words.
 fn listed(area: &[u8]) -> usize
     requires { 4 * header_length ≤ length area.now }
     ensures { result ≡ listed_in (header_in area.now) }

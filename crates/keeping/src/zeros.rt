@@ -2,7 +2,7 @@
 ghost use Rattle.std.specs.Prelude.{◌≡◌};
 ghost use Rattle.definitions.specs.Layout.{zeros};
 
-// Whether every byte is 0.
+// Whether every byte is 0: the library's `all`, in the definitions' words.
 pub fn all_zeros(bytes: &[u8]) -> bool
     ensures { result ≡ zeros bytes.now }
 {

@@ -1,7 +1,7 @@
 // The end of a text, byte by byte.
 use super::End;
 
-const NEWLINE: u8 = 10;
+const NEWLINE: u8 = b'\n';
 
 impl End {
     ghost use Rattle.std.specs.Prelude.{◌≡◌, [], ◌∷◌, ◌+◌, ◌^◌, ◌<◌, length};

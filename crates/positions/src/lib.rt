@@ -18,7 +18,8 @@ pub struct End {
     ghost column_within: { column ≤ size + 1 },
 }
 
-// A line and a column, or 0 and 0.
+// A line and a column, or 0 and 0: those are what a line of the report shows where there is no place, so an Option would
+// only be turned into them again.
 #[derive(Clone, Copy, Debug, PartialEq, Eq)]
 pub struct Place {
     pub line: u64,

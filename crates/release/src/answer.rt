@@ -12,14 +12,6 @@ fn word(bytes: &[u8], at: usize) -> u32 {
     }
 }
 
-const INITIAL: u32 = Fate::Initial as u32;
-
-const HELD: u32 = Fate::Held as u32;
-
-const REPLACED: u32 = Fate::Replaced as u32;
-
-const LEFT_OVER: u32 = Fate::LeftOver as u32;
-
 // How many statements have each fate.
 #[derive(Clone, Copy, Default)]
 struct Fates {
@@ -43,12 +35,12 @@ impl Fates {
     }
 
     fn count(&mut self, fate: u32) {
-        let stmts = match fate {
-            INITIAL => &mut self.initial,
-            HELD => &mut self.held,
-            REPLACED => &mut self.replaced,
-            LEFT_OVER => &mut self.left,
-            _ => return,
+        let stmts = match Fate::try_from(fate) {
+            Ok(Fate::Initial) => &mut self.initial,
+            Ok(Fate::Held) => &mut self.held,
+            Ok(Fate::Replaced) => &mut self.replaced,
+            Ok(Fate::LeftOver) => &mut self.left,
+            Err(_) => return,
         };
         *stmts = stmts.saturating_add(1);
     }

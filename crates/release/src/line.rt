@@ -6,14 +6,6 @@ use builder::refusal::Refusal;
 use std::fmt;
 use std::fmt::{Display, Formatter};
 
-const NO_FORM: u32 = open::Refusal::NoForm as u32;
-
-const OVER_MOST: u32 = open::Refusal::OverMost as u32;
-
-const BROKEN: u32 = open::Refusal::Broken as u32;
-
-const NO_ROOT: u32 = Refusal::NoRoot as u32;
-
 // A refusal's number, or what was written.
 #[derive(Clone, Copy)]
 pub enum Line {
@@ -24,9 +16,12 @@ pub enum Line {
 // Who can mend what was refused by a number: an area too short or a root that is not there, a file that is none, or the
 // model.
 fn mender(number: u32) -> &'static str {
-    match number {
-        SHORT_AREA | NO_ROOT => "the caller",
-        NO_FORM | OVER_MOST | BROKEN => "the maker of the file",
+    if open::Refusal::try_from(number).is_ok() {
+        return "the maker of the file";
+    }
+    match Refusal::try_from(number) {
+        Err(_) if number == SHORT_AREA => "the caller",
+        Ok(Refusal::NoRoot) => "the caller",
         _ => "the model's author",
     }
 }

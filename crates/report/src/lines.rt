@@ -12,9 +12,9 @@ use ast::places::RecordView;
 use positions::shown::shown;
 use positions::{Entry, Place};
 
-const SPACE: u8 = 32;
+const SPACE: u8 = b' ';
 
-const NEWLINE: u8 = 10;
+const NEWLINE: u8 = b'\n';
 
 // Writes a line, and gives the place behind it.
 fn put_line(out: &mut [u8], at: usize, place: Place, kind: u64) -> usize

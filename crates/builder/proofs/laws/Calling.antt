@@ -1,4 +1,4 @@
--- The models that statements call: each is one of the models, and what the table of submodels says of a statement.
+-- The models that statements call: each is one of the models, and what the code answers by the table of them.
 use mathlib.Core.Path.{◌≡◌, refl, sym, ap, ◌∙◌}
 use mathlib.Core.List.{List, [], ◌∷◌}
 use mathlib.Core.Option.{Option, none, some}
@@ -11,7 +11,7 @@ use Rattle.ast.specs.Tree.{Stmt, own, submodel, File}
 use Rattle.ast.specs.Nodes.{kind_at}
 use Rattle.definitions.specs.Flatten.{model_named, model_at, stmt_models, submodels}
 use Rattle.std.specs.declared.option.Option.TheVariants.{None, Some}
-use Rattle.builder.specs.Tables.{callee_of, called_by, Callees}
+use Rattle.builder.specs.Tables.{callee_of, called_by}
 use Rattle.builder.specs.Starting.{place_as}
 use Rattle.ast.specs.Records.{kind_of_stmt, right_top, stmt_of}
 use Rattle.ast.specs.Opens.{Open, contents_in, file_in}
@@ -19,7 +19,7 @@ use Rattle.ast.specs.declared.sections.Sections.{Sections}
 use Rattle.ast.specs.WellFormed.{Each}
 use Rattle.ast.proofs.FromBytes.{every_each}
 use Rattle.definitions.proofs.Everywhere.{all_every}
-use Rattle.builder.proofs.laws.OpenRecords.{long, stmt_is}
+use Rattle.builder.proofs.laws.OpenRecords.{stmt_is}
 use Rattle.definitions.proofs.ListLaws.{place_small, place_below}
 use Rattle.definitions.proofs.StmtKinds.{stmt_equation, stmt_rate, by_stmt_kind}
 
@@ -105,13 +105,6 @@ module _ (f : List ℕ) (s : Sections) (o : Open f s) (q : ℕ) (h : q < s.count
       let r = get_or (contents_in f s).stmts q [] in
       let k : kind_of_stmt r ≡ 3 = by_stmt_kind (kind_of_stmt r) a.kinds (λ z. absurd (none_some c _ (own_none (file_in f s) _ r z) e)) (λ z. absurd (none_some c _ (rate_none (file_in f s) _ r z) e)) (λ z. z) in
       record { kind = k; below = a.right.0; call = a.call k }
-
--- ---- what the table of submodels says of statement q
-
-module _ (f : List ℕ) (s : Sections) (o : Open f s) (t : List ℕ) (h : Callees f s t) (q : ℕ) (l : q < s.counts.stmts) where
-  -- an entry is at most the count of models
-  pub entry_below : get_or t q 0 ≤ s.counts.models
-  entry_below = omega (arith, h.callee q l, callee_below (file_in f s) (stmt_of (contents_in f s).nodes (get_or (contents_in f s).stmts q [])), (long f s o).file_models)
 
 -- ---- what the code answers
 

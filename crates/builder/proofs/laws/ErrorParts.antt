@@ -16,7 +16,6 @@ use Rattle.area.specs.Sections.{area_nodes, area_stmts}
 use Rattle.area.specs.Listing.{Lists}
 use Rattle.area.specs.declared.sections.Sizes.{Sizes}
 use Rattle.area.proofs.Listings.{lists_then}
-use Rattle.builder.specs.declared.names.Class.{Class}
 use Rattle.builder.specs.Allocating.{flats_in, role_errors_by, names_in, indexes_in, rates_in}
 use Rattle.builder.specs.Starting.{starting_in}
 use Rattle.builder.specs.Root.{errors_by, Erring}
@@ -34,7 +33,7 @@ few_roles numbers indexes rates lower (q ∷ qs) = rw length-append (omega (arit
 -- ---- the parts, one behind the other
 
 -- where the model is built
-module _ {f : List ℕ} {s : Sections} {classes : List Class} {callees b numbers : List ℕ} {m : ℕ} {z : Sizes} (w : Erring f s classes callees b numbers m z) (d d₁ : List ℕ) (n built : ℕ) (none : n ≡ 0)
+module _ {f : List ℕ} {s : Sections} {b numbers : List ℕ} {m : ℕ} {z : Sizes} (w : Erring f s b numbers m z) (d d₁ : List ℕ) (n built : ℕ) (none : n ≡ 0)
     (p : Lists d n (errors_of (file_in f s) (length (file_in f s).models) m) built d₁) (lower : Float) where
   -- the roles have at most as many errors as there are statements
   roles_most : length (each (role_errors_by numbers (indexes_in b z) (rates_in b z) lower) (flats_in b z)) ≤ z.stmts

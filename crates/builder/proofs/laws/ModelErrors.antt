@@ -2,7 +2,7 @@
 use mathlib.Core.Path.{◌≡◌, refl, sym, ap, ◌∙◌}
 use mathlib.Core.Bool.{Bool, true, false, not, ◌||◌, or_comm}
 use mathlib.Core.List.{List, [], ◌∷◌, ◌++◌, append-nil}
-use mathlib.Core.Option.{Option, none, some}
+use mathlib.Core.Option.{none, some}
 use Prim.Native.Nat.{ℕ, zero, suc, ◌+◌, ◌-◌, ◌^◌, ◌≤◌, ◌<◌}
 use native.Mathlib.Omega.{arith}
 use native.Mathlib.Numerals.{add-one, sub-one}
@@ -11,8 +11,7 @@ use lib.Dec.{eqb}
 use lib.Ieee.{Float}
 use lib.ListN.{length, take, drop, get_or, take-append-drop}
 use lib.Seq.{take-suc, take_all}
-use Rattle.functions.specs.declared.Rule.{Rule}
-use Rattle.functions.specs.Lists.{unless, each, plus_one}
+use Rattle.functions.specs.Lists.{unless, each}
 use Rattle.functions.proofs.Lists.{clash, drop_here}
 use Rattle.ast.specs.Tree.{Span, Expr, Args, snoc, Domain, unstated, range, named, submodel, File}
 use Rattle.ast.specs.Words.{word_of}
@@ -34,10 +33,10 @@ use Rattle.definitions.specs.Flatten.{model_named, model_at, scope_of, order_err
 use Rattle.builder.specs.declared.names.Class.{Class}
 use Rattle.builder.specs.declared.names.Class.TheVariants.{Time, Reserved, NonNegative, Real}
 use Rattle.builder.specs.contracts.names.ClassPartialEq.TheImpl.{ghosts}
-use Rattle.builder.specs.Tables.{callee_of, VarsOf}
+use Rattle.builder.specs.Tables.{called_by}
 use Rattle.area.specs.Listing.{Lists}
 use Rattle.builder.specs.declared.errors.check.Run.{Run}
-use Rattle.builder.specs.Checking.{scope_in, args_in, before_last, run_of, unknown_in, stmt_in, missing_at, UnknownIn, ExprIn, CallIn, ArgsIn, Against, TablesRead}
+use Rattle.builder.specs.Checking.{args_in, before_last, run_of, unknown_in, stmt_in, missing_at, UnknownIn, ExprIn, CallIn, ArgsIn}
 use Rattle.builder.proofs.laws.Domains.{domain_formed, coded, says_coded, coded_named}
 use Rattle.builder.proofs.laws.Classes.{class_usable, class_non_negative, class_real}
 use Rattle.builder.proofs.laws.OpenRecords.{long, model_is, unknown_is, stmt_is}
@@ -245,18 +244,7 @@ module _ {f : List ℕ} {s : Sections} (o : Open f s) (q : ℕ) (l : q < s.count
 
 -- ---- a submodel statement, by the model that it calls
 
-module _ (f : File) (sub : ℕ → List Error) (n : ℕ) (a : Args) (p : Span) where
-  none_found : (o : Option ℕ) → plus_one o ≡ 0 → sub_errors f sub n a p o ≡ error 3 p (suc n) ∷ []
-  unfolding sub_errors plus_one
-  none_found none e = refl
-  none_found (some m) e = absurd (omega arith)
-
-  one_found : (o : Option ℕ) (c : ℕ) → c ≡ plus_one o → (c ≡ 0 → ⊥) → sub_errors f sub n a p o ≡ sub (c - 1) ++ order_errors a
-  unfolding sub_errors plus_one
-  one_found none c e h = absurd (h e)
-  one_found (some m) c e h = let z : m ≡ c - 1 = omega arith in ap (λ (j : ℕ). sub j ++ order_errors a) z
-
-module _ {f : List ℕ} {s : Sections} {cs : List Class} {rs : List Rule} {ts : List ℕ} (g : TablesRead f s cs rs ts) (q : ℕ) (l : q < s.counts.stmts) where
+module _ {f : List ℕ} {s : Sections} (o : Open f s) (q : ℕ) (l : q < s.counts.stmts) where
   abbrev record_s : List ℕ
   record_s = get_or (contents_in f s).stmts q []
 
@@ -268,9 +256,10 @@ module _ {f : List ℕ} {s : Sections} {cs : List Class} {rs : List Rule} {ts : 
     submodel_is : stmt_in f s q ≡ submodel (name_at (contents_in f s).nodes (right_top record_s)) (args_of (right_top record_s)) (span_at (contents_in f s).nodes (right_top record_s)) (span_of_stmt record_s)
     submodel_is = stmt_submodel (contents_in f s).nodes record_s (sym ek ∙ h)
 
-    callee_is : get_or ts q 0 ≡ plus_one (model_named (file_in f s) (name_at (contents_in f s).nodes (right_top record_s)))
-    unfolding callee_of
-    callee_is = g.callees.callee q l ∙ ap (callee_of (file_in f s)) submodel_is
+    -- the model that it calls is found by the name of its call
+    named_is : called_by (file_in f s) (stmt_in f s q) ≡ model_named (file_in f s) (name_at (contents_in f s).nodes (right_top record_s))
+    unfolding called_by
+    named_is = ap (called_by (file_in f s)) submodel_is
 
     -- it has the same errors whatever the scope is
     pub any_scope : (sub : ℕ → List Error) (c d : Scope) → stmt_errors (file_in f s) sub c (stmt_in f s q) ≡ stmt_errors (file_in f s) sub d (stmt_in f s q)
@@ -278,18 +267,23 @@ module _ {f : List ℕ} {s : Sections} {cs : List Class} {rs : List Rule} {ts : 
     any_scope sub c d = ap (stmt_errors (file_in f s) sub c) submodel_is ∙ sym (ap (stmt_errors (file_in f s) sub d) submodel_is)
 
     module _ (sub : ℕ → List Error) (c : Scope) where
-      -- its model is missing
-      pub submodel_missing_lem : get_or ts q 0 ≡ 0 → stmt_errors (file_in f s) sub c (stmt_in f s q) ≡ missing_at f s q ∷ []
+      -- its errors are those of the model found by its name, and of its arguments
+      errors_by_name : stmt_errors (file_in f s) sub c (stmt_in f s q)
+          ≡ sub_errors (file_in f s) sub (name_at (contents_in f s).nodes (right_top record_s)) (args_of (right_top record_s)) (span_of_stmt record_s) (called_by (file_in f s) (stmt_in f s q))
       unfolding stmt_errors
-      submodel_missing_lem z =
-          rw add-one (ap (stmt_errors (file_in f s) sub c) submodel_is ∙ none_found (file_in f s) sub _ _ _ (model_named (file_in f s) (name_at (contents_in f s).nodes (right_top record_s))) (sym callee_is ∙ z))
+      errors_by_name = rw named_is (ap (stmt_errors (file_in f s) sub c) submodel_is)
 
-      -- it is found, and the run r are the arguments of its call, which is node x
-      pub submodel_found : (get_or ts q 0 ≡ 0 → ⊥) → (x : ℕ) → x ≡ right_top record_s → (r : Run) → r ≡ run_of (nodes_in (nodes_of s) f) x
-          → Joins (stmt_errors (file_in f s) sub c (stmt_in f s q)) (sub (get_or ts q 0 - 1)) (order_errors (args_in (nodes_in (nodes_of s) f) r))
-      unfolding stmt_errors
-      submodel_found ne x ex r er =
-          record { is = rw (er, ex, nodes_from_lem f s g.opened) (ap (stmt_errors (file_in f s) sub c) submodel_is ∙ one_found (file_in f s) sub _ _ _ (model_named (file_in f s) (name_at (contents_in f s).nodes (right_top record_s))) (get_or ts q 0) callee_is ne) }
+      -- its model is missing
+      pub submodel_missing_lem : none ≡ called_by (file_in f s) (stmt_in f s q) → stmt_errors (file_in f s) sub c (stmt_in f s q) ≡ missing_at f s q ∷ []
+      unfolding sub_errors
+      submodel_missing_lem z = rw add-one (errors_by_name ∙ ap (sub_errors (file_in f s) sub _ _ _) (sym z))
+
+      -- it is model m, and the run r are the arguments of its call, which is node x
+      pub submodel_found : (m : ℕ) → some m ≡ called_by (file_in f s) (stmt_in f s q) → (x : ℕ) → x ≡ right_top record_s → (r : Run) → r ≡ run_of (nodes_in (nodes_of s) f) x
+          → Joins (stmt_errors (file_in f s) sub c (stmt_in f s q)) (sub m) (order_errors (args_in (nodes_in (nodes_of s) f) r))
+      unfolding sub_errors
+      submodel_found m z x ex r er =
+          record { is = rw (er, ex, nodes_from_lem f s o) (errors_by_name ∙ ap (sub_errors (file_in f s) sub _ _ _) (sym z)) }
 
 -- ---- model m, to a depth of k models
 
@@ -304,8 +298,3 @@ module _ (f : File) where
   unfolding errors_of
   errors_more zero m n = absurd (n refl)
   errors_more (suc k) m n = record { is = rw (sub-one (suc k)) refl }
-
--- what its statements are checked against
-pub against : {f : List ℕ} {s : Sections} {cs : List Class} {rs : List Rule} {ts : List ℕ} → TablesRead f s cs rs ts → (m : ℕ) → m < s.counts.models → {vs : List ℕ} → VarsOf (scope_in f s m) vs → Against f s m cs rs vs
-unfolding scope_of
-against g m h v = record { scoped = record { opened = g.opened; model = h; vars = v }; classes = g.classes; rules = g.rules }

@@ -19,10 +19,8 @@ use Rattle.definitions.specs.Build.{answer_from}
 use Rattle.area.specs.Sections.{Small, stmts_at, vars_at, errors_at, area_stmts, area_vars, column}
 use Rattle.area.specs.Listing.{Lists}
 use Rattle.area.specs.declared.sections.Sizes.{Sizes}
-use Rattle.builder.specs.declared.names.Class.{Class}
 use Rattle.builder.specs.Bounding.{floats, Floating}
 use Rattle.builder.specs.Allocating.{names_in, Flattened, Numbered}
-use Rattle.builder.specs.Tables.{Callees}
 use Rattle.builder.specs.VarRecords.{unheld_records, held_from, NothingHeld, Headed, head_words}
 use Rattle.builder.specs.Root.{flats_of, scope_at, time_at, roles_at, fates_at, answer_at, Known, Rooted, Unfated, Fated, Held, Erring, roles_by, lacking_by, fated_by, errors_by}
 use Rattle.builder.proofs.laws.VarAnswers.{head_is}
@@ -39,8 +37,8 @@ lower_float : (b : Bounds) (x : declared.Bounds) → Floating b x → x.lower �
 unfolding floats
 lower_float b x h = ap (λ (y : declared.Bounds). y.lower) h.same
 
-module _ (f : List ℕ) (s : Sections) (classes : List Class) (numbers : List ℕ) (m i : ℕ) (z : Sizes) (time : declared.Bounds) (t : Rooted f s classes numbers m i z time) where
-  k : Known f s m classes numbers z
+module _ {f : List ℕ} {s : Sections} {numbers : List ℕ} {m i : ℕ} {z : Sizes} {time : declared.Bounds} (t : Rooted f s numbers m i z time) where
+  k : Known f s m numbers z
   k = t.known
 
   lower : time.lower ≡ number_of (time_at (file_in f s) m).lower
@@ -56,56 +54,55 @@ module _ (f : List ℕ) (s : Sections) (classes : List Class) (numbers : List �
 
   -- ---- fates
 
-  pub allocate_needs : (b : List ℕ) → Unfated (file_in f s) m z b → ((names : ℕ) × Flattened names b z) × Numbered b z numbers
-  allocate_needs b u = ((s.counts.names, unfated_flattened f s m z _ b k.is_open k.sizes u), numbered f s m classes numbers z k _ _ b u unheld)
+  pub allocate_needs : {b : List ℕ} → Unfated (file_in f s) m z b → ((names : ℕ) × Flattened names b z) × Numbered b z numbers
+  allocate_needs {b} u = ((s.counts.names, unfated_flattened f s m z _ b k.is_open k.sizes u), numbered k u unheld)
 
-  module _ (b b₁ : List ℕ) (u : Unfated (file_in f s) m z b) (left states : ℕ)
+  module _ {b b₁ : List ℕ} (u : Unfated (file_in f s) m z b) {left states : ℕ}
       (e : (left ≡ left_count (roles_by b z numbers time.lower)) × (states ≡ length (lacking_by b z numbers time.lower)) × (b₁ ≡ put b (stmts_at z) (encode (fated_by b z numbers time.lower)))) where
     pub left_is : left ≡ left_count (roles_at (file_in f s) m)
-    left_is = e.0 ∙ left_tie f s m classes numbers z k time.lower lower b u
+    left_is = e.0 ∙ left_tie k lower u
 
     pub states_are : states ≡ length (lacking (scope_at (file_in f s) m).vars (roles_at (file_in f s) m))
-    states_are = e.1 ∙ states_tie f s m classes numbers z k time.lower lower b u
+    states_are = e.1 ∙ states_tie k lower u
 
     pub fates_are : Fated (file_in f s) m z b₁
     fates_are =
         fates_written (file_in f s) m z k.sizes b b₁ u
-        (e.2 ∙ ap (λ (rs : List (List ℕ)). put b (stmts_at z) (encode rs)) (fated_tie f s m classes numbers z k time.lower lower b u))
+        (e.2 ∙ ap (λ (rs : List (List ℕ)). put b (stmts_at z) (encode rs)) (fated_tie k lower u))
 
   -- ---- what the variables hold
 
-  pub held_needs : (b : List ℕ) → Fated (file_in f s) m z b → NothingHeld z b
-  held_needs b u =
+  pub held_needs : {b : List ℕ} → Fated (file_in f s) m z b → NothingHeld z b
+  held_needs {b} u =
       let vs = (scope_at (file_in f s) m).vars in
-      let e = read f s m classes numbers z k _ _ b u unheld in
+      let e = read k u unheld in
       record {
         small = k.sizes.small;
-        long = vars_room f s m classes numbers z k _ _ b u unheld;
+        long = vars_room k u unheld;
         held = λ v l. ap (λ (rs : List (List ℕ)). get_or (column 5 rs) v 0) e ∙ unheld_held vs v;
         initial = λ v l. ap (λ (rs : List (List ℕ)). get_or (column 6 rs) v 0) e ∙ unheld_initial vs v;
       }
 
-  pub held_is : (b b₁ : List ℕ) → Fated (file_in f s) m z b → b₁ ≡ put b (vars_at z) (encode (held_from (area_stmts b z) 0 (area_vars b z))) → Held (file_in f s) m z b₁
-  held_is b b₁ u e =
+  pub held_is : {b b₁ : List ℕ} → Fated (file_in f s) m z b → b₁ ≡ put b (vars_at z) (encode (held_from (area_stmts b z) 0 (area_vars b z))) → Held (file_in f s) m z b₁
+  held_is {b} {b₁} u e =
       held_written (file_in f s) m z k.sizes b b₁ u
-      (e ∙ ap (λ (rs : List (List ℕ)). put b (vars_at z) (encode rs)) (held_tie f s m classes numbers z k b u))
+      (e ∙ ap (λ (rs : List (List ℕ)). put b (vars_at z) (encode rs)) (held_tie k u))
 
   -- ---- errors
 
-  pub errors_needs : (callees : List ℕ) → Callees f s callees → (b : List ℕ) → Held (file_in f s) m z b → Erring f s classes callees b numbers m z
-  errors_needs callees w b u = record {
-    called = record { opened = k.is_open; classes = k.classed; callees = w };
+  pub errors_needs : {b : List ℕ} → Held (file_in f s) m z b → Erring f s b numbers m z
+  errors_needs {b} u = record {
     model = k.model;
-    righted = righted f s m classes numbers z k b u;
+    righted = righted k u;
     flattened = (s.counts.names, fated_flattened f s m z _ b k.is_open k.sizes u);
-    numbered = numbered f s m classes numbers z k _ _ b u held;
+    numbered = numbered k u held;
     few = omega (arith, errors_few f s k.is_open i m t.instances t.few);
   }
 
-  module _ (left states : ℕ) (eq : left ≡ left_count (roles_at (file_in f s) m)) (es : states ≡ length (lacking (scope_at (file_in f s) m).vars (roles_at (file_in f s) m)))
-      (d d' b : List ℕ) (before r : ℕ) (none : before ≡ 0) (u : Held (file_in f s) m z b) (e : Lists d before (errors_by b z numbers time.lower (file_in f s) m left states) r d') where
+  module _ {left states : ℕ} (eq : left ≡ left_count (roles_at (file_in f s) m)) (es : states ≡ length (lacking (scope_at (file_in f s) m).vars (roles_at (file_in f s) m)))
+      (d d' : List ℕ) {b : List ℕ} {before r : ℕ} (none : before ≡ 0) (u : Held (file_in f s) m z b) (e : Lists d before (errors_by b z numbers time.lower (file_in f s) m left states) r d') where
     listed : Lists d 0 (answer_at (file_in f s) m).errors r d'
-    listed = rw (none, errors_tie f s m classes numbers z k b u time.lower lower left states eq es) at e
+    listed = rw (none, errors_tie k u lower eq es) at e
 
     errors_count : length (answer_at (file_in f s) m).errors ≤ 2360000
     unfolding answer_from
@@ -133,15 +130,15 @@ module _ (f : List ℕ) (s : Sections) (classes : List Class) (numbers : List �
     pub copy_needs : Small z × (errors_at z + 4096 ≤ length b)
     copy_needs = (k.sizes.small, omega (arith, u.long, room (file_in f s) m z k.sizes))
 
-    module _ (b₁ : List ℕ) (c : b₁ ≡ put b (errors_at z) (take (16 * min r 256) d')) where
+    module _ {b₁ : List ℕ} (c : b₁ ≡ put b (errors_at z) (take (16 * min r 256) d')) where
       -- names stay where they are
       names_stay_lem : get_or (names_in b₁ z) 0 0 ≡ get_or (names_in b z) 0 0
-      names_stay_lem = ap (λ (rs : List (List ℕ)). get_or (column 0 rs) 0 0) (section_read 12 z.vars (vars_at z) (48 * z.vars) _ b₁ held.wide (omega (arith, held.many, k.sizes.vars)) (vars_copied (file_in f s) m z k.sizes d d' b b₁ r u listed c ∙ u.vars) ∙ sym (read f s m classes numbers z k _ _ b u held))
+      names_stay_lem = ap (λ (rs : List (List ℕ)). get_or (column 0 rs) 0 0) (section_read 12 z.vars (vars_at z) (48 * z.vars) _ b₁ held.wide (omega (arith, held.many, k.sizes.vars)) (vars_copied (file_in f s) m z k.sizes d d' b b₁ r u listed c ∙ u.vars) ∙ sym (read k u held))
 
       -- ---- header
 
       bounds : last_bounds (file_in f s).names (get_or (names_in b₁ z) 0 0) from_zero (model_at (file_in f s) m).unknowns ≡ time_at (file_in f s) m
-      bounds = ap (λ (n : ℕ). last_bounds (file_in f s).names n from_zero (model_at (file_in f s) m).unknowns) names_stay_lem ∙ first_bounds f s m classes numbers z k _ _ b u held
+      bounds = ap (λ (n : ℕ). last_bounds (file_in f s).names n from_zero (model_at (file_in f s) m).unknowns) names_stay_lem ∙ first_bounds k u held
 
       pub header_needs : Headed f s m i r z time b₁
       header_needs =
@@ -150,16 +147,16 @@ module _ (f : List ℕ) (s : Sections) (classes : List Class) (numbers : List �
             opened = k.is_open;
             model = k.model;
             small = k.sizes.small;
-            some = some_var f s m classes numbers z k _ _ b u held;
-            long = omega (arith, l, u.long, vars_room f s m classes numbers z k _ _ b u held);
+            some = some_var k u held;
+            long = omega (arith, l, u.long, vars_room k u held);
             counted = errors_small;
             instances = omega (arith, t.few);
             timed = rw bounds t.timed;
           }
 
-      pub finished : (b₂ : List ℕ) (n : ℕ) → b₂ ≡ put b₁ 0 (bytes_of (head_words z r i (last_bounds (file_in f s).names (get_or (names_in b₁ z) 0 0) from_zero (model_at (file_in f s) m).unknowns))) → n ≡ errors_at z + 16 * min r 256
+      pub finished : {b₂ : List ℕ} {n : ℕ} → b₂ ≡ put b₁ 0 (bytes_of (head_words z r i (last_bounds (file_in f s).names (get_or (names_in b₁ z) 0 0) from_zero (model_at (file_in f s) m).unknowns))) → n ≡ errors_at z + 16 * min r 256
           → (take n b₂ ≡ answer_bytes (answer_at (file_in f s) m)) × (n ≤ 55384)
       unfolding answer_from node_count deps_of
-      finished b₂ n e₂ en =
+      finished {b₂} {n} e₂ en =
           let h = head_is (answer_at (file_in f s) m) z r i (last_bounds (file_in f s).names (get_or (names_in b₁ z) 0 0) from_zero (model_at (file_in f s) m).unknowns) k.sizes.nodes k.sizes.stmts k.sizes.vars k.sizes.deps (omega (arith, listed.0)) t.instances bounds in
           answer_written (file_in f s) m z k.sizes d d' b b₁ r u listed c b₂ (e₂ ∙ ap (λ (ws : List ℕ). put b₁ 0 (bytes_of ws)) h) n en

@@ -11,12 +11,10 @@ use Rattle.ast.specs.Encode.{flat_nodes, encode}
 use Rattle.ast.specs.Opens.{Open, file_in}
 use Rattle.ast.specs.declared.sections.Sections.{Sections}
 use Rattle.definitions.specs.Flatten.{model_at, scope_of}
-use Rattle.builder.specs.declared.names.Class.{Class}
-use Rattle.builder.specs.Tables.{Classes}
 use Rattle.builder.specs.VariableTables.{roster_in, Numbers}
 use Rattle.builder.specs.Unfated.{unfated}
 use Rattle.area.specs.Sections.{stmts_at, vars_at, deps_at, part}
-use Rattle.builder.specs.Bounding.{Bounded, Floating}
+use Rattle.builder.specs.Bounding.{Floating}
 use Rattle.builder.specs.Root.{flats_of, scope_at, time_at, ExtentOf, VarsRoom, VarsLaid, SizesOf, Known, Rooted, Unfated}
 use Rattle.area.specs.declared.sections.Sizes.{Sizes}
 use Rattle.builder.proofs.laws.Putting.{length_flats}
@@ -93,15 +91,14 @@ laid_out F m n q z b₀ b₁ b₂ o l e₁ v =
     }
 
 -- there is room for nodes and statements
-pub flats_needs : (f : List ℕ) (s : Sections) (m i q n : ℕ) → ExtentOf (file_in f s) m i q n → (b : List ℕ) → length b ≡ 55384
-    → (sum_of flat_size (flats_of (file_in f s) m) ≤ 1024) × (length (flats_of (file_in f s) m) ≤ 256) × (n ≡ sum_of flat_size (flats_of (file_in f s) m)) × (length b ≡ 55384)
-flats_needs f s m i q n x b l =
-    let (hi, hn, hq) = few_flats (file_in f s) m (flats_of (file_in f s) m) x.small in
-    (omega arith, hq, x.nodes, l)
+pub flats_needs : {F : File} {m i q n : ℕ} → ExtentOf F m i q n → (sum_of flat_size (flats_of F m) ≤ 1024) × (length (flats_of F m) ≤ 256)
+flats_needs {F} {m} x =
+    let (hi, hn, hq) = few_flats F m (flats_of F m) x.small in
+    (omega arith, hq)
 
 -- ---- what is known of a root model
 
-module _ (f : List ℕ) (s : Sections) (m : ℕ) (o : Open f s) (l : m < s.counts.models) where
+module _ {f : List ℕ} {s : Sections} {m : ℕ} (o : Open f s) (l : m < s.counts.models) where
   -- few enough variables
   vars_few : length (scope_at (file_in f s) m).vars ≤ 129
   unfolding scope_of
@@ -110,8 +107,8 @@ module _ (f : List ℕ) (s : Sections) (m : ℕ) (o : Open f s) (l : m < s.count
       let k = model_is f s o m l in
       omega (arith, length_variables (file_in f s).names us, k.unknowns_long, k.unknowns_within, o.laid.within.unknowns)
 
-  module _ (classes : List Class) (i q n : ℕ) (t : Classes (file_in f s).names classes) (h : length classes ≡ 256) (x : ExtentOf (file_in f s) m i q n)
-      (b₀ b₁ : List ℕ) (l₀ : length b₀ ≡ 55384) (e₁ : b₁ ≡ put (put b₀ 40 (encode (each flat_nodes (flats_of (file_in f s) m)))) (40 + 32 * n) (encode (unfated 0 (flats_of (file_in f s) m))))
+  module _ {i q n : ℕ} (x : ExtentOf (file_in f s) m i q n)
+      (b₀ : List ℕ) {b₁ : List ℕ} (l₀ : length b₀ ≡ 55384) (e₁ : b₁ ≡ put (put b₀ 40 (encode (each flat_nodes (flats_of (file_in f s) m)))) (40 + 32 * n) (encode (unfated 0 (flats_of (file_in f s) m))))
     where
       -- the area has its length
       flats_laid : length b₁ ≡ 55384
@@ -119,24 +116,22 @@ module _ (f : List ℕ) (s : Sections) (m : ℕ) (o : Open f s) (l : m < s.count
           let (hi, hn, hq) = few_flats (file_in f s) m (flats_of (file_in f s) m) x.small in
           flats_length (file_in f s) m n b₀ b₁ x.nodes (omega (arith, x.nodes)) hq l₀ e₁
 
-      pub vars_needs : Bounded f s classes m × VarsRoom n q b₁
+      pub vars_needs : VarsRoom n q b₁
       vars_needs =
-          let (hi, hn, hq) = few_flats (file_in f s) m (flats_of (file_in f s) m) x.small in (
-            record { opened = o; classed = t; long = omega (arith, h, o.laid.within.names); model = l },
-            record { nodes = omega (arith, x.nodes); stmts = omega (arith, x.stmts); long = flats_laid },
-          )
+          let (hi, hn, hq) = few_flats (file_in f s) m (flats_of (file_in f s) m) x.small in
+          record { nodes = omega (arith, x.nodes); stmts = omega (arith, x.stmts); long = flats_laid }
 
-      module _ (numbers b₂ : List ℕ) (z : Sizes) (v : VarsLaid (file_in f s) m n q b₁ z b₂) (w : Numbers (roster_in f s m) numbers) (long : length numbers ≡ 256) where
+      module _ {numbers b₂ : List ℕ} {z : Sizes} (v : VarsLaid (file_in f s) m n q b₁ z b₂) (w : Numbers (roster_in f s m) numbers) (long : length numbers ≡ 256) where
         sizes : SizesOf (file_in f s) m z
         sizes = sizes_known (file_in f s) m i q n b₁ z b₂ x vars_few (deps_few f s o m) v
 
-        pub model_known : Known f s m classes numbers z
-        model_known = record { is_open = o; model = l; classed = t; classes_long = h; numbered = w; numbers_long = long; sizes = sizes }
+        pub model_known : Known f s m numbers z
+        model_known = record { is_open = o; model = l; numbered = w; numbers_long = long; sizes = sizes }
 
         pub all_laid : Unfated (file_in f s) m z b₂
         all_laid = laid_out (file_in f s) m n q z b₀ b₁ b₂ sizes l₀ (rw (sym v.nodes) at e₁) v
 
-        pub model_rooted : (time : floats.Bounds) → Floating (time_at (file_in f s) m) time → Rooted f s classes numbers m i z time
-        model_rooted time g =
+        pub model_rooted : {time : floats.Bounds} → Floating (time_at (file_in f s) m) time → Rooted f s numbers m i z time
+        model_rooted g =
             let (hi, hn, hq) = few_flats (file_in f s) m (flats_of (file_in f s) m) x.small in
             record { known = model_known; instances = x.instances; few = omega (arith, hi, x.instances); timed = g }

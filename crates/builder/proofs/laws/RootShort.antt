@@ -18,7 +18,6 @@ use Rattle.definitions.specs.Check.{lookup}
 use Rattle.definitions.specs.Flatten.{model_at, scope_of}
 use Rattle.definitions.specs.Roles.{takes_rate}
 use Rattle.area.specs.Sections.{stmts_at, vars_at, deps_at, area_vars, column}
-use Rattle.builder.specs.declared.names.Class.{Class}
 use Rattle.builder.specs.VariableTables.{unknowns_in, roster_in}
 use Rattle.builder.specs.Allocating.{names_in, states_in, indexes_in, rates_in, Numbered, Agree}
 use Rattle.builder.specs.Root.{scope_at, time_at, Known, PartsLaid}
@@ -66,49 +65,49 @@ module _ (f : List ℕ) (s : Sections) (m : ℕ) where
       named [] l = absurd (omega arith)
       named (x ∷ vs) l = refl
 
-  module _ (classes : List Class) (numbers : List ℕ) (z : Sizes) (k : Known f s m classes numbers z)
-      (rs ws : List (List ℕ)) (b : List ℕ) (a : PartsLaid (file_in f s) m z rs ws b) (w : Columns (scope_at (file_in f s) m).vars ws) where
-    -- the variables' records
-    pub read : area_vars b z ≡ ws
-    read = vars_read (file_in f s) m z rs ws b k.sizes a (omega (arith, w.many, k.sizes.vars)) w.wide
+module _ {f : List ℕ} {s : Sections} {m : ℕ} {numbers : List ℕ} {z : Sizes} (k : Known f s m numbers z)
+    {rs ws : List (List ℕ)} {b : List ℕ} (a : PartsLaid (file_in f s) m z rs ws b) (w : Columns (scope_at (file_in f s) m).vars ws) where
+  -- the variables' records
+  pub read : area_vars b z ≡ ws
+  read = vars_read (file_in f s) m z rs ws b k.sizes a (omega (arith, w.many, k.sizes.vars)) w.wide
 
-    pub name_at_lem : (v : ℕ) → v < length (scope_at (file_in f s) m).vars → get_or (names_in b z) v 0 ≡ (at (scope_at (file_in f s) m).vars v).name
-    name_at_lem v l = ap (λ (xs : List (List ℕ)). get_or (column 0 xs) v 0) read ∙ w.name v l
+  pub name_at_lem : (v : ℕ) → v < length (scope_at (file_in f s) m).vars → get_or (names_in b z) v 0 ≡ (at (scope_at (file_in f s) m).vars v).name
+  name_at_lem v l = ap (λ (xs : List (List ℕ)). get_or (column 0 xs) v 0) read ∙ w.name v l
 
-    -- which are states
-    pub begins : Beginning (scope_at (file_in f s) m).vars (states_in b z)
-    begins = record { states = λ v l. ap (λ (xs : List (List ℕ)). eqb (get_or (column 1 xs) v 0) 1) read ∙ ap (λ (n : ℕ). eqb n 1) (w.state v l) ∙ flag_one (is_state (at (scope_at (file_in f s) m).vars v)) }
+  -- which are states
+  pub begins : Beginning (scope_at (file_in f s) m).vars (states_in b z)
+  begins = record { states = λ v l. ap (λ (xs : List (List ℕ)). eqb (get_or (column 1 xs) v 0) 1) read ∙ ap (λ (n : ℕ). eqb n 1) (w.state v l) ∙ flag_one (is_state (at (scope_at (file_in f s) m).vars v)) }
 
-    -- The area's tables are those of the scope and of time's bounds.
-    pub agree : (lower : Float) → lower ≡ floating.number_of (time_at (file_in f s) m).lower → Agree (scope_at (file_in f s) m) (time_at (file_in f s) m) numbers (indexes_in b z) (rates_in b z) lower
-    unfolding rates_in takes_rate
-    agree lower e =
-        record {
-          number = λ n h. k.numbered.number n (omega (arith, scope_names, k.is_open.laid.within.names)) ∙ ap plus_one (sym (scope_number n));
-          index = λ v l. ap (λ (xs : List (List ℕ)). get_or (column 2 xs) v 0) read ∙ w.index v l;
-          rate = λ v l. ap (λ (xs : List (List ℕ)). get_or (map (λ r. flag (eqb (word_of r 1) 1 && eqb (word_of r 7) 1)) xs) v 0) read ∙ w.rate v l;
-          low = e;
-        }
+  -- The area's tables are those of the scope and of time's bounds.
+  pub agree : (lower : Float) → lower ≡ floating.number_of (time_at (file_in f s) m).lower → Agree (scope_at (file_in f s) m) (time_at (file_in f s) m) numbers (indexes_in b z) (rates_in b z) lower
+  unfolding rates_in takes_rate
+  agree lower e =
+      record {
+        number = λ n h. k.numbered.number n (omega (arith, scope_names f s m, k.is_open.laid.within.names)) ∙ ap plus_one (sym (scope_number f s m n));
+        index = λ v l. ap (λ (xs : List (List ℕ)). get_or (column 2 xs) v 0) read ∙ w.index v l;
+        rate = λ v l. ap (λ (xs : List (List ℕ)). get_or (map (λ r. flag (eqb (word_of r 1) 1 && eqb (word_of r 7) 1)) xs) v 0) read ∙ w.rate v l;
+        low = e;
+      }
 
-    -- there is room for the variables
-    pub vars_room : deps_at z ≤ length b
-    unfolding deps_at vars_at stmts_at
-    vars_room = omega (arith, a.long, k.sizes.small.nodes, k.sizes.small.stmts, k.sizes.small.vars)
+  -- there is room for the variables
+  pub vars_room : deps_at z ≤ length b
+  unfolding deps_at vars_at stmts_at
+  vars_room = omega (arith, a.long, k.sizes.small.nodes, k.sizes.small.stmts, k.sizes.small.vars)
 
-    -- The table of numbers is long enough, and each number is a variable's.
-    pub numbered : Numbered b z numbers
-    numbered =
-        record {
-          names = omega (arith, k.numbers_long);
-          vars = vars_room;
-          entries = λ n h. omega (arith, k.numbered.number n h, number_most (roster_in f s m) n, k.sizes.vars, vars_count f s m);
-        }
+  -- The table of numbers is long enough, and each number is a variable's.
+  pub numbered : Numbered b z numbers
+  numbered =
+      record {
+        names = omega (arith, k.numbers_long);
+        vars = vars_room;
+        entries = λ n h. omega (arith, k.numbered.number n h, number_most (roster_in f s m) n, k.sizes.vars, vars_count f s m);
+      }
 
-    -- There is t, and the bounds declared last for its name are time's.
-    pub some_var : 0 < z.vars
-    some_var = omega (arith, first_name.0, k.sizes.vars)
+  -- There is t, and the bounds declared last for its name are time's.
+  pub some_var : 0 < z.vars
+  some_var = omega (arith, (first_name f s m).0, k.sizes.vars)
 
-    pub first_bounds : last_bounds (file_in f s).names (get_or (names_in b z) 0 0) from_zero (model_at (file_in f s) m).unknowns ≡ time_at (file_in f s) m
-    first_bounds =
-        ap (λ (n : ℕ). last_bounds (file_in f s).names n from_zero (model_at (file_in f s) m).unknowns) (name_at_lem 0 first_name.0 ∙ first_name.1)
-        ∙ time_last (file_in f s).names (model_at (file_in f s) m).unknowns
+  pub first_bounds : last_bounds (file_in f s).names (get_or (names_in b z) 0 0) from_zero (model_at (file_in f s) m).unknowns ≡ time_at (file_in f s) m
+  first_bounds =
+      ap (λ (n : ℕ). last_bounds (file_in f s).names n from_zero (model_at (file_in f s) m).unknowns) (name_at_lem 0 (first_name f s m).0 ∙ (first_name f s m).1)
+      ∙ time_last (file_in f s).names (model_at (file_in f s) m).unknowns

@@ -17,7 +17,6 @@ use Rattle.definitions.specs.Answer.{flat_words, flat_records, variable_records}
 use Rattle.definitions.specs.Build.{answer_from}
 use Rattle.area.specs.Sections.{area_nodes, area_stmts, area_vars, column}
 use Rattle.area.specs.declared.sections.Sizes.{Sizes}
-use Rattle.builder.specs.declared.names.Class.{Class}
 use Rattle.builder.specs.Tables.{lacking_in}
 use Rattle.builder.specs.Fating.{fate_pair}
 use Rattle.builder.specs.Unfated.{unfated_words, unfated}
@@ -46,17 +45,17 @@ same_six first [] fs h = refl
 same_six first (q ∷ qs) [] h = absurd (omega arith)
 same_six first (q ∷ qs) (x ∷ fs) h = ap₂ ◌∷◌ (six_words first q x) (same_six (first + flat_size q) qs fs (omega arith))
 
-module _ (f : List ℕ) (s : Sections) (m : ℕ) (classes : List Class) (numbers : List ℕ) (z : Sizes) (k : Known f s m classes numbers z) where
+module _ {f : List ℕ} {s : Sections} {m : ℕ} {numbers : List ℕ} {z : Sizes} (k : Known f s m numbers z) where
   -- ---- before the fates are known
 
-  module _ (lower : Float) (el : lower ≡ number_of (time_at (file_in f s) m).lower) (b : List ℕ) (u : Unfated (file_in f s) m z b) where
+  module _ {lower : Float} (el : lower ≡ number_of (time_at (file_in f s) m).lower) {b : List ℕ} (u : Unfated (file_in f s) m z b) where
     formed : Flattened (length (scope_at (file_in f s) m).names) b z
     formed = rw (scope_names f s m) (unfated_flattened f s m z _ b k.is_open k.sizes u)
 
     roles_tie : roles_by b z numbers lower ≡ roles_at (file_in f s) m
     unfolding roles_by
     roles_tie =
-        roles_same (scope_at (file_in f s) m) (time_at (file_in f s) m) numbers (indexes_in b z) (rates_in b z) lower (agree f s m classes numbers z k _ _ b u (unheld_columns (scope_at (file_in f s) m).vars) lower el) b z formed
+        roles_same (scope_at (file_in f s) m) (time_at (file_in f s) m) numbers (indexes_in b z) (rates_in b z) lower (agree k u (unheld_columns (scope_at (file_in f s) m).vars) lower el) b z formed
         ∙ ap (map (role_of (scope_at (file_in f s) m) (time_at (file_in f s) m))) (unfated_flats f s m z _ b k.is_open k.sizes u)
 
     pub left_tie : left_count (roles_by b z numbers lower) ≡ left_count (roles_at (file_in f s) m)
@@ -66,7 +65,7 @@ module _ (f : List ℕ) (s : Sections) (m : ℕ) (classes : List Class) (numbers
     unfolding lacking_by
     lacking_tie =
         ap₂ (λ (l : List Role) (n : ℕ). lacking_in l (states_in b z) n) roles_tie k.sizes.vars
-        ∙ lacking_tabled (scope_at (file_in f s) m).vars (roles_at (file_in f s) m) (states_in b z) (begins f s m classes numbers z k _ _ b u (unheld_columns (scope_at (file_in f s) m).vars))
+        ∙ lacking_tabled (scope_at (file_in f s) m).vars (roles_at (file_in f s) m) (states_in b z) (begins k u (unheld_columns (scope_at (file_in f s) m).vars))
 
     pub states_tie : length (lacking_by b z numbers lower) ≡ length (lacking (scope_at (file_in f s) m).vars (roles_at (file_in f s) m))
     states_tie = ap length lacking_tie
@@ -88,36 +87,36 @@ module _ (f : List ℕ) (s : Sections) (m : ℕ) (classes : List Class) (numbers
   -- ---- with the fates
 
   -- what the variables hold
-  pub held_tie : (b : List ℕ) → Fated (file_in f s) m z b → held_from (area_stmts b z) 0 (area_vars b z) ≡ variable_records (answer_at (file_in f s) m) 0 0 (scope_at (file_in f s) m).vars
+  pub held_tie : {b : List ℕ} → Fated (file_in f s) m z b → held_from (area_stmts b z) 0 (area_vars b z) ≡ variable_records (answer_at (file_in f s) m) 0 0 (scope_at (file_in f s) m).vars
   unfolding answer_from
-  held_tie b u =
+  held_tie {b} u =
       let vs = (scope_at (file_in f s) m).vars in
-      ap (held_from (area_stmts b z) 0) (read f s m classes numbers z k _ _ b u (unheld_columns vs))
+      ap (held_from (area_stmts b z) 0) (read k u (unheld_columns vs))
       ∙ held_are (answer_at (file_in f s) m) (area_stmts b z) vs refl
       (ap (map record_pair) (fated_stmts (file_in f s) m z _ b k.sizes u) ∙ records_pairs 0 (flats_of (file_in f s) m) (fates_at (file_in f s) m) (fates_count (file_in f s) m))
 
   -- ---- with what they hold
 
   -- right sides that are nodes, and records that say it
-  pub righted : (b : List ℕ) → Held (file_in f s) m z b → Righted b z
+  pub righted : {b : List ℕ} → Held (file_in f s) m z b → Righted b z
   unfolding answer_from
-  righted b u =
+  righted {b} u =
       let vs = (scope_at (file_in f s) m).vars in
       let fs = fates_at (file_in f s) m in
       let a = answer_at (file_in f s) m in
       let w = held_columns a vs refl in
-      let e = read f s m classes numbers z k _ _ b u w in
+      let e = read k u w in
       let p : map record_pair (area_stmts b z) ≡ map fate_pair fs =
       ap (map record_pair) (fated_stmts (file_in f s) m z _ b k.sizes u) ∙ records_pairs 0 (flats_of (file_in f s) m) fs (fates_count (file_in f s) m) in
       record {
         small = k.sizes.small;
-        long = vars_room f s m classes numbers z k _ _ b u w;
+        long = vars_room k u w;
         right = right_sides (file_in f s) m z _ b k.sizes u;
         held = λ v l. ap (λ (rs : List (List ℕ)). get_or (column 5 rs) v 0) e ∙ answer_held a vs v (omega (arith, k.sizes.vars)) ∙ sym (held_in_lem (area_stmts b z) fs p v);
         initial = λ v l. ap (λ (rs : List (List ℕ)). get_or (column 6 rs) v 0) e ∙ answer_initial a vs v (omega (arith, k.sizes.vars)) ∙ sym (conditions_in (area_stmts b z) fs p v);
       }
 
-  module _ (b : List ℕ) (u : Held (file_in f s) m z b) (lower : Float) (el : lower ≡ number_of (time_at (file_in f s) m).lower) (left states : ℕ)
+  module _ {b : List ℕ} (u : Held (file_in f s) m z b) {lower : Float} (el : lower ≡ number_of (time_at (file_in f s) m).lower) {left states : ℕ}
       (eq : left ≡ left_count (roles_at (file_in f s) m)) (es : states ≡ length (lacking (scope_at (file_in f s) m).vars (roles_at (file_in f s) m))) where
     formed_too : Flattened (length (scope_at (file_in f s) m).names) b z
     formed_too = rw (scope_names f s m) (fated_flattened f s m z _ b k.is_open k.sizes u)
@@ -125,7 +124,7 @@ module _ (f : List ℕ) (s : Sections) (m : ℕ) (classes : List Class) (numbers
     role_errors_tie : each (role_errors_by numbers (indexes_in b z) (rates_in b z) lower) (flats_in b z) ≡ each (role_errors (scope_at (file_in f s) m) (time_at (file_in f s) m)) (flats_of (file_in f s) m)
     unfolding answer_from
     role_errors_tie =
-        all_errors_same (scope_at (file_in f s) m) (time_at (file_in f s) m) numbers (indexes_in b z) (rates_in b z) lower (agree f s m classes numbers z k _ _ b u (held_columns (answer_at (file_in f s) m) (scope_at (file_in f s) m).vars refl) lower el) b z formed_too
+        all_errors_same (scope_at (file_in f s) m) (time_at (file_in f s) m) numbers (indexes_in b z) (rates_in b z) lower (agree k u (held_columns (answer_at (file_in f s) m) (scope_at (file_in f s) m).vars refl) lower el) b z formed_too
         ∙ ap (each (role_errors (scope_at (file_in f s) m) (time_at (file_in f s) m))) (fated-read f s m z _ b k.is_open k.sizes u)
 
     start_errors_tie : starting_in (model_at (file_in f s) m).span (area_nodes b z) (area_stmts b z) (names_in b z) z.vars ≡ starting_errors (model_at (file_in f s) m).span (scope_at (file_in f s) m).vars (flats_of (file_in f s) m) (fates_at (file_in f s) m)
@@ -134,7 +133,7 @@ module _ (f : List ℕ) (s : Sections) (m : ℕ) (classes : List Class) (numbers
         let rs = flat_records 0 (flats_of (file_in f s) m) (fates_at (file_in f s) m) in
         ap (λ (n : ℕ). starting_in (model_at (file_in f s) m).span (area_nodes b z) (area_stmts b z) (names_in b z) n) k.sizes.vars
         ∙ rw (nodes_read (file_in f s) m z rs _ b k.sizes u, fated_stmts (file_in f s) m z _ b k.sizes u)
-        (starting_tie (model_at (file_in f s) m).span (scope_at (file_in f s) m).vars (flats_of (file_in f s) m) (fates_at (file_in f s) m) (fates_count (file_in f s) m) (names_in b z) (name_at_lem f s m classes numbers z k _ _ b u (held_columns (answer_at (file_in f s) m) (scope_at (file_in f s) m).vars refl)))
+        (starting_tie (model_at (file_in f s) m).span (scope_at (file_in f s) m).vars (flats_of (file_in f s) m) (fates_at (file_in f s) m) (fates_count (file_in f s) m) (names_in b z) (name_at_lem k u (held_columns (answer_at (file_in f s) m) (scope_at (file_in f s) m).vars refl)))
 
     -- all errors
     pub errors_tie : errors_by b z numbers lower (file_in f s) m left states ≡ (answer_at (file_in f s) m).errors

@@ -17,7 +17,6 @@ use Rattle.definitions.specs.Answer.{Answer, answer_bytes}
 use Rattle.definitions.specs.Roles.{too_short}
 use Rattle.definitions.specs.Build.{Result, refusal, accepted, any_short}
 use Rattle.area.specs.Sections.{Small, deps_at}
-use Rattle.builder.specs.declared.names.Class.{Class}
 use Rattle.builder.specs.Bounding.{Floating}
 use Rattle.builder.specs.VarRecords.{unheld_records}
 use Rattle.builder.specs.Allocating.{names_in, indexes_in, rates_in, flats_in, Flattened, short_by}
@@ -44,17 +43,17 @@ given_used : (short : Bool) (a : Answer) (d : List ℕ) (u : ℕ) → short ≡ 
 unfolding answered_as used_in bytes_in
 given_used short a d u e g h = (rw (e, g) refl, h)
 
-module _ (f : List ℕ) (s : Sections) (m : ℕ) (classes : List Class) (numbers : List ℕ) (z : Sizes) (k : Known f s m classes numbers z) (b : List ℕ) (a : Unfated (file_in f s) m z b) where
+module _ {f : List ℕ} {s : Sections} {m : ℕ} {numbers : List ℕ} {z : Sizes} (k : Known f s m numbers z) {b : List ℕ} (a : Unfated (file_in f s) m z b) where
   unheld : Columns (scope_at (file_in f s) m).vars (unheld_records (scope_at (file_in f s) m).vars)
   unheld = unheld_columns (scope_at (file_in f s) m).vars
 
   -- there is t,
   pub some_variable : Small z × (deps_at z ≤ length b) × (0 < z.vars)
-  some_variable = (k.sizes.small, vars_room f s m classes numbers z k _ _ b a unheld, some_var f s m classes numbers z k _ _ b a unheld)
+  some_variable = (k.sizes.small, vars_room k a unheld, some_var k a unheld)
 
   -- and time's bounds in floats are those declared last for its name
-  pub timed : (n : ℕ) (x : declared.Bounds) → n ≡ get_or (names_in b z) 0 0 → Floating (last_bounds (file_in f s).names n from_zero (model_at (file_in f s) m).unknowns) x → Floating (time_at (file_in f s) m) x
-  timed n x e h = rw (e, first_bounds f s m classes numbers z k _ _ b a unheld) at h
+  pub timed : {n : ℕ} {x : declared.Bounds} → n ≡ get_or (names_in b z) 0 0 → Floating (last_bounds (file_in f s).names n from_zero (model_at (file_in f s) m).unknowns) x → Floating (time_at (file_in f s) m) x
+  timed e h = rw (e, first_bounds k a unheld) at h
 
   -- whether a left side is too short
   laid_short : any (short_by numbers (indexes_in b z)) (flats_in b z) ≡ any_short (scope_at (file_in f s) m) (flats_of (file_in f s) m)
@@ -63,10 +62,10 @@ module _ (f : List ℕ) (s : Sections) (m : ℕ) (classes : List Class) (numbers
       let c = scope_at (file_in f s) m in
       let t = time_at (file_in f s) m in
       let fl : Flattened (length c.names) b z = rw (scope_names f s m) (unfated_flattened f s m z _ b k.is_open k.sizes a) in
-      shorts_same c t numbers (indexes_in b z) (rates_in b z) (number_of t.lower) (agree f s m classes numbers z k _ _ b a unheld (number_of t.lower) refl) b z fl
+      shorts_same c t numbers (indexes_in b z) (rates_in b z) (number_of t.lower) (agree k a unheld (number_of t.lower) refl) b z fl
       ∙ ap (any (too_short c)) (unfated_flats f s m z _ b k.is_open k.sizes a)
 
-  module _ (r : Bool) (g : r ≡ any (short_by numbers (indexes_in b z)) (flats_in b z)) where
+  module _ {r : Bool} (g : r ≡ any (short_by numbers (indexes_in b z)) (flats_in b z)) where
     is_short_lem : any_short (scope_at (file_in f s) m) (flats_of (file_in f s) m) ≡ r
     is_short_lem = sym laid_short ∙ sym g
 
@@ -75,6 +74,6 @@ module _ (f : List ℕ) (s : Sections) (m : ℕ) (classes : List Class) (numbers
         → (answered_as (Err ShortLeftSide) d ≡ bytes_in (cond (any_short (scope_at (file_in f s) m) (flats_of (file_in f s) m)) (refusal short_left_side) (accepted (answer_at (file_in f s) m)))) × (used_in (Err ShortLeftSide) ≤ 55384)
     short_given h d = given_short (any_short (scope_at (file_in f s) m) (flats_of (file_in f s) m)) (answer_at (file_in f s) m) d (is_short_lem ∙ h)
 
-    pub used_given : r ≡ false → (d : List ℕ) (u : ℕ) → (take u d ≡ answer_bytes (answer_at (file_in f s) m)) × (u ≤ 55384)
+    pub used_given : r ≡ false → (d : List ℕ) {u : ℕ} → (take u d ≡ answer_bytes (answer_at (file_in f s) m)) × (u ≤ 55384)
         → (answered_as (Ok u) d ≡ bytes_in (cond (any_short (scope_at (file_in f s) m) (flats_of (file_in f s) m)) (refusal short_left_side) (accepted (answer_at (file_in f s) m)))) × (used_in (Ok u) ≤ 55384)
-    used_given h d u p = given_used (any_short (scope_at (file_in f s) m) (flats_of (file_in f s) m)) (answer_at (file_in f s) m) d u (is_short_lem ∙ h) p.0 p.1
+    used_given h d {u} p = given_used (any_short (scope_at (file_in f s) m) (flats_of (file_in f s) m)) (answer_at (file_in f s) m) d u (is_short_lem ∙ h) p.0 p.1

@@ -4,7 +4,6 @@ ghost use Rattle.std.specs.Prelude.{◌<◌, length, ◌≡◌};
 ghost use Rattle.ast.specs.Views.{file_seen};
 ghost use Rattle.definitions.specs.Flatten.{errors_of};
 ghost use Rattle.area.specs.Listing.{Listed, RoomFor};
-ghost use Rattle.builder.specs.Checking as checking;
 ghost use Rattle.builder.specs.Root.{Erring, errors_by};
 
 use crate::allocation::roles::roles_errors;
@@ -12,57 +11,45 @@ use crate::allocation::statements::Left;
 use crate::errors::builder::builder;
 use crate::errors::checked::Tables;
 use crate::errors::conditions::{count_error, starting_errors};
-use crate::names::{Class, rules};
+use crate::names::rules;
 use crate::root::Root;
+use crate::source::Source;
 use area::errors::Errors;
 use area::records::Area;
-use ast::layout::{MOST_NAMES, MOST_STMTS};
-use ast::view::View;
 
 // Those of building model m.
-fn models_errors(
-    file: &View,
-    classes: &[Class; MOST_NAMES],
-    callees: &[u8; MOST_STMTS],
-    m: usize,
-    errors: &mut Errors,
-)
-    requires { checking.Called file.now.bytes.now file.now.sections classes.now callees.now
-        × (m < file.now.sections.counts.models)
-        × RoomFor errors.old (errors_of (file_seen file.now) (length (file_seen file.now).models) m) }
-    ensures { Listed errors.old (errors_of (file_seen file.now)
-        (length (file_seen file.now).models) m) errors.new }
+fn models_errors(source: &Source, m: usize, errors: &mut Errors)
+    requires { (m < source.now.file.sections.counts.models)
+        × RoomFor errors.old (errors_of (file_seen source.now.file) (length (file_seen source.now.file).models) m) }
+    ensures { Listed errors.old (errors_of (file_seen source.now.file)
+        (length (file_seen source.now.file).models) m) errors.new }
 {
-    let counts = rules(file);
+    let table = rules(&source.file);
     let tables = Tables {
-        file: *file,
-        classes,
-        rules: &counts,
-        callees,
+        source,
+        rules: &table,
     };
-    builder(&tables, file.sections.counts.models, m, errors);
+    builder(&tables, source.file.sections.counts.models, m, errors);
 }
 
 // All of them, of the root.
 pub fn all_errors(
-    file: &View,
-    classes: &[Class; MOST_NAMES],
-    callees: &[u8; MOST_STMTS],
+    source: &Source,
     area: &Area,
     numbers: &[u16],
     root: Root,
     left: Left,
     errors: &mut Errors,
 )
-    requires { Erring file.now.bytes.now file.now.sections classes.now callees.now area.now.bytes.now numbers.now
-        root.model area.now.sizes
+    requires { Erring source.now.file.bytes.now source.now.file.sections area.now.bytes.now numbers.now root.model
+        area.now.sizes
         × (errors.old.count ≡ 0) }
     ensures { Listed errors.old (errors_by area.now.bytes.now area.now.sizes numbers.now
-        root.time.lower (file_seen file.now) root.model left.stmts left.states) errors.new }
+        root.time.lower (file_seen source.now.file) root.model left.stmts left.states) errors.new }
 {
     let m = root.model;
-    models_errors(file, classes, callees, m, errors);
+    models_errors(source, m, errors);
     roles_errors(area, numbers, root.time.lower, errors);
-    errors.list(count_error(file, m, left));
-    starting_errors(file, m, area, errors);
+    errors.list(count_error(&source.file, m, left));
+    starting_errors(&source.file, m, area, errors);
 }

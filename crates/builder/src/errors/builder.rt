@@ -7,16 +7,16 @@ ghost use Rattle.definitions.specs.Numbers.{most_models, submodel_kind};
 ghost use Rattle.definitions.specs.Variables.{error, domain_errors, unknown_errors};
 ghost use Rattle.definitions.specs.Check.{Scope};
 ghost use Rattle.definitions.specs.Flatten.{model_at, order_errors, errors_of};
-ghost use Rattle.builder.specs.Tables.{Classes};
 ghost use Rattle.area.specs.Listing.{kind_number, Listed, RoomFor, found_as};
 ghost use Rattle.builder.specs.Checking.{args_in, unknown_in, own_errors, missing_at};
-ghost use Rattle.builder.specs.Checking.{UnknownIn, ArgsIn, StmtAt, Scoped};
+ghost use Rattle.builder.specs.Checking.{ArgsIn, StmtAt, Scoped};
 ghost use Rattle.builder.specs.Seen.{scope_seen, errors_seen};
 
 use crate::errors::check::{Run, before_last, check_expr, found_at, has_keyword, run_of};
 use crate::errors::checked::{Checked, Tables};
 use crate::models::scope::{model_vars, no_marks};
 use crate::names::Class;
+use crate::source::Source;
 use area::errors::{ErrorKind, Errors, Found};
 use ast::kinds::StmtKind;
 use ast::layout::{
@@ -57,51 +57,51 @@ fn unknown_error(file: &View, u: usize, passed: bool, kind: ErrorKind, name: usi
 }
 
 // Error 1: an unknown domain.
-fn domain_error(file: &View, classes: &[Class; MOST_NAMES], u: usize) -> Option<Found>
-    requires { UnknownIn file.now.bytes.now file.now.sections classes.now u }
+fn domain_error(source: &Source, u: usize) -> Option<Found>
+    requires { u < source.now.file.sections.counts.unknowns }
     ensures { found_as result
-        ≡ domain_errors (file_seen file.now).names (unknown_in file.now.bytes.now file.now.sections u).span
-        (unknown_in file.now.bytes.now file.now.sections u).domain }
+        ≡ domain_errors (file_seen source.now.file).names (unknown_in source.now.file.bytes.now source.now.file.sections u).span
+        (unknown_in source.now.file.bytes.now source.now.file.sections u).domain }
 {
-    match file.domain(u) {
+    match source.file.domain(u) {
         Domain::None => None,
         Domain::Span(_, _) => None,
         Domain::Named(n) => {
             let name = n as usize;
-            let class = classes[name];
+            let class = source.classes[name];
             let known = (class == Class::NonNegative) | (class == Class::Real);
-            unknown_error(file, u, known, ErrorKind::UnknownDomain, name + 1)
+            unknown_error(&source.file, u, known, ErrorKind::UnknownDomain, name + 1)
         }
     }
 }
 
 // Errors 1 and 2 of unknown u.
-fn unknown_errors(file: &View, classes: &[Class; MOST_NAMES], u: usize, errors: &mut Errors)
-    requires { UnknownIn file.now.bytes.now file.now.sections classes.now u
+fn unknown_errors(source: &Source, u: usize, errors: &mut Errors)
+    requires { (u < source.now.file.sections.counts.unknowns)
         × RoomFor errors.old
-        (unknown_errors (file_seen file.now).names (unknown_in file.now.bytes.now file.now.sections u)) }
+        (unknown_errors (file_seen source.now.file).names (unknown_in source.now.file.bytes.now source.now.file.sections u)) }
     ensures { Listed errors.old
-        (unknown_errors (file_seen file.now).names (unknown_in file.now.bytes.now file.now.sections u)) errors.new }
+        (unknown_errors (file_seen source.now.file).names (unknown_in source.now.file.bytes.now source.now.file.sections u)) errors.new }
 {
-    errors.list(domain_error(file, classes, u));
-    let name = file.unknown(u, UNKNOWN_NAME);
-    let usable = classes[name] != Class::Reserved;
-    errors.list(unknown_error(file, u, usable, ErrorKind::ReservedName, name + 1));
+    errors.list(domain_error(source, u));
+    let name = source.file.unknown(u, UNKNOWN_NAME);
+    let class = source.classes[name];
+    let usable = class != Class::Reserved;
+    errors.list(unknown_error(&source.file, u, usable, ErrorKind::ReservedName, name + 1));
 }
 
 // The same of the unknowns of model m.
-fn unknowns_errors(file: &View, classes: &[Class; MOST_NAMES], m: usize, errors: &mut Errors)
-    requires { Classes (file_seen file.now).names classes.now
-        × (m < file.now.sections.counts.models)
+fn unknowns_errors(source: &Source, m: usize, errors: &mut Errors)
+    requires { (m < source.now.file.sections.counts.models)
         × RoomFor errors.old
-        (each (unknown_errors (file_seen file.now).names) (model_at (file_seen file.now) m).unknowns) }
+        (each (unknown_errors (file_seen source.now.file).names) (model_at (file_seen source.now.file) m).unknowns) }
     ensures { Listed errors.old
-        (each (unknown_errors (file_seen file.now).names) (model_at (file_seen file.now) m).unknowns) errors.new }
+        (each (unknown_errors (file_seen source.now.file).names) (model_at (file_seen source.now.file) m).unknowns) errors.new }
 {
-    let first = file.model(m, MODEL_FIRST_UNKNOWN);
-    let unknowns = file.model(m, MODEL_UNKNOWNS);
+    let first = source.file.model(m, MODEL_FIRST_UNKNOWN);
+    let unknowns = source.file.model(m, MODEL_UNKNOWNS);
     for i in 0..unknowns {
-        unknown_errors(file, classes, first + i, errors);
+        unknown_errors(source, first + i, errors);
     }
 }
 
@@ -144,26 +144,25 @@ fn missing_error(file: &View, q: usize) -> Option<Found>
 
 // The errors of an equation or a rate equation, statement q of model m.
 fn own_errors(tables: &Tables, vars: &[u16; MOST_NAMES], m: usize, q: usize, errors: &mut Errors)
-    requires { Scoped tables.now.file.bytes.now tables.now.file.sections m vars.now
-        × (q < tables.now.file.sections.counts.stmts)
-        × (kind_of_stmt (get_or (contents_seen tables.now.file).stmts q []) < submodel_kind)
-        × RoomFor errors.old (own_errors tables.now.file.bytes.now tables.now.file.sections m q) }
-    ensures { Listed errors.old (own_errors tables.now.file.bytes.now tables.now.file.sections m q) errors.new }
+    requires { Scoped tables.now.source.now.file.bytes.now tables.now.source.now.file.sections m vars.now
+        × (q < tables.now.source.now.file.sections.counts.stmts)
+        × (kind_of_stmt (get_or (contents_seen tables.now.source.now.file).stmts q []) < submodel_kind)
+        × RoomFor errors.old (own_errors tables.now.source.now.file.bytes.now tables.now.source.now.file.sections m q) }
+    ensures { Listed errors.old (own_errors tables.now.source.now.file.bytes.now tables.now.source.now.file.sections m q) errors.new }
 {
+    let file = &tables.source.file;
     let at = Checked {
-        nodes: tables.file.nodes(),
-        file: &tables.file,
+        nodes: file.nodes(),
+        tables,
         model: m,
-        classes: tables.classes,
-        rules: tables.rules,
         vars,
     };
-    let right = tables.file.stmt(q, STMT_RIGHT);
+    let right = file.stmt(q, STMT_RIGHT);
     check_expr(&at, right, errors);
-    if tables.file.is_stmt(q, StmtKind::Rate) {
+    if file.is_stmt(q, StmtKind::Rate) {
         return;
     }
-    let left = tables.file.stmt(q, STMT_LEFT);
+    let left = file.stmt(q, STMT_LEFT);
     check_expr(&at, left, errors);
 }
 
@@ -171,33 +170,33 @@ fn own_errors(tables: &Tables, vars: &[u16; MOST_NAMES], m: usize, q: usize, err
 // then those of its own arguments. No scope plays a part in them.
 #[cycle(add_submodel_builder_stmt_errors)]
 fn add_submodel(tables: &Tables, k: usize, q: usize, errors: &mut Errors)
-    requires { StmtAt tables.now.file.sections q k
-        × (kind_of_stmt (get_or (contents_seen tables.now.file).stmts q []) ≡ submodel_kind)
-        × ((c : Scope) → RoomFor errors.old (errors_seen tables.now.file k c q)) }
-    ensures { (c : Scope) → Listed errors.old (errors_seen tables.now.file k c q) errors.new }
+    requires { StmtAt tables.now.source.now.file.sections q k
+        × (kind_of_stmt (get_or (contents_seen tables.now.source.now.file).stmts q []) ≡ submodel_kind)
+        × ((c : Scope) → RoomFor errors.old (errors_seen tables.now.source.now.file k c q)) }
+    ensures { (c : Scope) → Listed errors.old (errors_seen tables.now.source.now.file k c q) errors.new }
 {
-    let c = tables.callees[q] as usize;
-    if c == 0 {
-        return errors.list(missing_error(&tables.file, q));
-    }
-    builder(tables, k, c - 1, errors);
-    let nodes = tables.file.nodes();
-    let run = run_of(&nodes, tables.file.stmt(q, STMT_RIGHT));
+    let file = &tables.source.file;
+    let Some(c) = tables.source.callee(q) else {
+        return errors.list(missing_error(file, q));
+    };
+    builder(tables, k, c, errors);
+    let nodes = file.nodes();
+    let run = run_of(&nodes, file.stmt(q, STMT_RIGHT));
     order_errors(&nodes, run, errors);
 }
 
 // The errors of the statement at a place.
 #[cycle(add_submodel_builder_stmt_errors)]
 fn stmt_errors(tables: &Tables, vars: &[u16; MOST_NAMES], place: Place, errors: &mut Errors)
-    requires { Scoped tables.now.file.bytes.now tables.now.file.sections place.model vars.now
-        × StmtAt tables.now.file.sections place.stmt place.depth
+    requires { Scoped tables.now.source.now.file.bytes.now tables.now.source.now.file.sections place.model vars.now
+        × StmtAt tables.now.source.now.file.sections place.stmt place.depth
         × RoomFor errors.old
-        (errors_seen tables.now.file place.depth (scope_seen tables.now.file place.model) place.stmt) }
+        (errors_seen tables.now.source.now.file place.depth (scope_seen tables.now.source.now.file place.model) place.stmt) }
     ensures { Listed errors.old
-        (errors_seen tables.now.file place.depth (scope_seen tables.now.file place.model) place.stmt) errors.new }
+        (errors_seen tables.now.source.now.file place.depth (scope_seen tables.now.source.now.file place.model) place.stmt) errors.new }
 {
     let q = place.stmt;
-    if !tables.file.is_stmt(q, StmtKind::Submodel) {
+    if !tables.source.file.is_stmt(q, StmtKind::Submodel) {
         return own_errors(tables, vars, place.model, q, errors);
     }
     add_submodel(tables, place.depth, q, errors);
@@ -206,19 +205,20 @@ fn stmt_errors(tables: &Tables, vars: &[u16; MOST_NAMES], place: Place, errors: 
 // The errors of model m, to a depth of k models.
 #[cycle(add_submodel_builder_stmt_errors)]
 pub fn builder(tables: &Tables, k: usize, m: usize, errors: &mut Errors)
-    requires { (m < tables.now.file.sections.counts.models)
+    requires { (m < tables.now.source.now.file.sections.counts.models)
         × (k ≤ most_models)
-        × RoomFor errors.old (errors_of (file_seen tables.now.file) k m) }
-    ensures { Listed errors.old (errors_of (file_seen tables.now.file) k m) errors.new }
+        × RoomFor errors.old (errors_of (file_seen tables.now.source.now.file) k m) }
+    ensures { Listed errors.old (errors_of (file_seen tables.now.source.now.file) k m) errors.new }
 {
     if k == 0 {
         return;
     }
+    let source = tables.source;
     let mut vars = no_marks();
-    model_vars(&tables.file, tables.classes, m, &mut vars);
-    let first = tables.file.model(m, MODEL_FIRST_STMT);
-    let stmts = tables.file.model(m, MODEL_STMTS);
-    unknowns_errors(&tables.file, tables.classes, m, errors);
+    model_vars(source, m, &mut vars);
+    let first = source.file.model(m, MODEL_FIRST_STMT);
+    let stmts = source.file.model(m, MODEL_STMTS);
+    unknowns_errors(source, m, errors);
     for i in 0..stmts {
         let place = Place {
             model: m,

@@ -97,7 +97,8 @@ pub fn has_keyword(ns: &NodeView, run: Run) -> bool
     has_keyword(ns, before_last(ns, run))
 }
 
-// Error 7 for each keyword of a built-in's arguments, in order.
+// Error 7 for each keyword of a built-in's arguments, in order. It and its like go along a run in the same way: one descent
+// that is handed what to do at an argument would carry its contract and the list's through both, and be longer than they.
 fn keyword_errors(ns: &NodeView, run: Run, errors: &mut Errors)
     requires { ((names : ℕ) × ArgsIn names ns.now.bytes.now ns.now.nodes run)
         × RoomFor errors.old (keyword_errors (args_in (nodes_seen ns.now) run)) }
@@ -134,7 +135,13 @@ fn arg_errors(at: &Checked, variable: usize, run: Run, errors: &mut Errors)
         let found = found_at(&at.nodes, last, !named, ErrorKind::PositionalAfterNamed, 0);
         return errors.list(found);
     }
-    let kept = is_dep_of(at.file, at.vars, at.model, variable, keyword - 1);
+    let kept = is_dep_of(
+        &at.tables.source.file,
+        at.vars,
+        at.model,
+        variable,
+        keyword - 1,
+    );
     let found = found_at(&at.nodes, last, kept, ErrorKind::NoSuchDependent, keyword);
     errors.list(found);
 }
@@ -182,7 +189,7 @@ fn call_errors(at: &Checked, i: usize, errors: &mut Errors)
 {
     let name = at.nodes.word(i, NODE_NAME);
     let run = run_of(&at.nodes, i);
-    let allowed = rule_allows(at.rules[name], run.args);
+    let allowed = rule_allows(at.tables.rules[name], run.args);
     let found = found_at(
         &at.nodes,
         i,
@@ -191,7 +198,7 @@ fn call_errors(at: &Checked, i: usize, errors: &mut Errors)
         name + 1,
     );
     errors.list(found);
-    if at.classes[name] == Class::BuiltIn {
+    if at.tables.source.classes[name] == Class::BuiltIn {
         return keyword_errors(&at.nodes, run, errors);
     }
     variable_errors(at, i, errors);

@@ -1,5 +1,5 @@
 // The errors 14 to 17 of an answer: on the counts of statements and states, and on the states' initial conditions.
-ghost use Rattle.std.specs.Prelude.{[], ◌∷◌, ◌+◌, ◌≤◌, ◌<◌, get_or, ◌≡◌};
+ghost use Rattle.std.specs.Prelude.{[], ◌∷◌, ◌<◌, get_or, ◌≡◌};
 ghost use Rattle.functions.specs.Lists.{place};
 ghost use Rattle.ast.specs.Views.{file_seen};
 ghost use Rattle.definitions.specs.Numbers.{algebraic_initial_condition, initial_fate};

@@ -12,7 +12,7 @@ ghost use Rattle.builder.specs.Root.{flats_of};
 ghost use Rattle.builder.specs.Laying.{Laying};
 
 use crate::flattening::statements::{Written, write_flats};
-use crate::models::called::Calls;
+use crate::source::Source;
 use area::layout::{HEADER_BYTES, MOST_BYTES};
 use ast::layout::NODE_BYTES;
 
@@ -32,13 +32,13 @@ pub fn blank() -> [u8; MOST_BYTES]
 }
 
 // Writes the nodes, n of them, and the statements' records.
-pub fn lay_flats(calls: &Calls, rows: &mut [u16], m: usize, area: &mut [u8], n: usize)
-    requires { Laying calls.now.file.bytes.now calls.now.file.sections rows.old m
-        × (n ≡ sum_of flat_size (flats_of (file_seen calls.now.file) m))
+pub fn lay_flats(source: &Source, rows: &mut [u16], m: usize, area: &mut [u8], n: usize)
+    requires { Laying source.now.file.bytes.now source.now.file.sections rows.old m
+        × (n ≡ sum_of flat_size (flats_of (file_seen source.now.file) m))
         × (length area.old ≡ most_bytes) }
     ensures { area.new ≡ put (put area.old nodes_at
-        (encode (each flat_nodes (flats_of (file_seen calls.now.file) m)))) (nodes_end n)
-        (encode (unfated 0 (flats_of (file_seen calls.now.file) m))) }
+        (encode (each flat_nodes (flats_of (file_seen source.now.file) m)))) (nodes_end n)
+        (encode (unfated 0 (flats_of (file_seen source.now.file) m))) }
 {
     // no record yet: the first comes behind all nodes
     let none = Written {
@@ -46,9 +46,9 @@ pub fn lay_flats(calls: &Calls, rows: &mut [u16], m: usize, area: &mut [u8], n: 
         end: NODE_BYTES * n,
     };
     write_flats(
-        calls,
+        source,
         rows,
-        calls.file.sections.counts.models,
+        source.file.sections.counts.models,
         m,
         0,
         &mut area[HEADER_BYTES..],

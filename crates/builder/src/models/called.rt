@@ -42,42 +42,13 @@ fn callee(file: &View, q: usize) -> u8
     find_model(file, file.node(call, NODE_NAME)).map_or(0, |m| m as u8 + 1)
 }
 
-// An open file, and the model that each of its submodel statements calls: of each statement its number, plus 1, or 0.
-#[derive(Drop)]
-pub struct Calls<'a> {
-    pub file: View<'a>,
-    pub callees: [u8; MOST_STMTS],
-    pub ghost called: { Callees file.bytes.now file.sections callees },
-}
-
-impl Calls<'_> {
-    ghost use Rattle.builder.specs.Starting.{place_as};
-    ghost use Rattle.builder.specs.Tables.{called_by};
-
-    // The model that statement q calls, if it calls one.
-    pub fn callee(&self, q: usize) -> Option<usize>
-        requires { q < self.now.file.sections.counts.stmts }
-        ensures { place_as result ≡ called_by (file_seen self.now.file)
-            (stmt_in self.now.file.bytes.now self.now.file.sections q) }
-    {
-        let c = usize::from(self.callees[q]);
-        if c == 0 {
-            return None;
-        }
-        Some(c - 1)
-    }
-}
-
-// The file with the models that its statements call.
-pub fn find_calls<'a>(file: &View<'a>) -> Calls<'a>
-    ensures { result.file ≡ file.now }
+// The same of each statement.
+pub fn callees(file: &View) -> [u8; MOST_STMTS]
+    ensures { Callees file.now.bytes.now file.now.sections result }
 {
-    let mut callees = [0u8; MOST_STMTS];
+    let mut out = [0u8; MOST_STMTS];
     for q in 0..file.sections.counts.stmts {
-        callees[q] = callee(file, q);
+        out[q] = callee(file, q);
     }
-    Calls {
-        file: *file,
-        callees,
-    }
+    out
 }

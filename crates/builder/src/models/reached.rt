@@ -5,17 +5,17 @@ ghost use Rattle.ast.specs.Nodes.{kind_at, op_at, size_at, args_before};
 ghost use Rattle.ast.specs.Views.{contents_seen, file_seen};
 ghost use Rattle.definitions.specs.Numbers.{call_kind};
 ghost use Rattle.definitions.specs.Flatten as flatten;
-ghost use Rattle.builder.specs.Tables.{Classes, ClassedModel, ReachedIn};
+ghost use Rattle.builder.specs.Tables.{ReachedIn};
 ghost use Rattle.builder.specs.Checking.{unknown_in, stmt_in};
 ghost use Rattle.builder.specs.Rounds.{model_pairs, onward, Added, Stepped, RowsOf};
 
-use crate::models::called::Calls;
 use crate::models::scope::names_dep;
 use crate::names::Class;
 use crate::numbers::MODEL_PAIRS;
+use crate::source::Source;
 use ast::layout::{
-    MODEL_FIRST_STMT, MODEL_FIRST_UNKNOWN, MODEL_STMTS, MODEL_UNKNOWNS, MOST_MODELS, MOST_NAMES,
-    NODE_NAME, NODE_OP, NODE_SIZE, STMT_RIGHT, UNKNOWN_NAME,
+    MODEL_FIRST_STMT, MODEL_FIRST_UNKNOWN, MODEL_STMTS, MODEL_UNKNOWNS, MOST_MODELS, NODE_NAME,
+    NODE_OP, NODE_SIZE, STMT_RIGHT, UNKNOWN_NAME,
 };
 use ast::view::View;
 
@@ -39,55 +39,55 @@ fn add_reached(old: &[u8], models: usize, c: usize, new: &mut [u8], a: usize)
 }
 
 // The same for the model that statement q calls, if it calls one.
-fn add_called(calls: &Calls, old: &[u8], q: usize, new: &mut [u8], a: usize)
+fn add_called(source: &Source, old: &[u8], q: usize, new: &mut [u8], a: usize)
     requires { (length old.now ≡ model_pairs)
         × (length new.old ≡ model_pairs)
-        × (q < calls.now.file.sections.counts.stmts)
-        × (a < calls.now.file.sections.counts.models) }
-    ensures { Added calls.now.file.sections.counts.models a (λ y. any (onward old.now y)
-        (flatten.stmt_models (file_seen calls.now.file)
-        (stmt_in calls.now.file.bytes.now calls.now.file.sections q))) new.old new.new }
+        × (q < source.now.file.sections.counts.stmts)
+        × (a < source.now.file.sections.counts.models) }
+    ensures { Added source.now.file.sections.counts.models a (λ y. any (onward old.now y)
+        (flatten.stmt_models (file_seen source.now.file)
+        (stmt_in source.now.file.bytes.now source.now.file.sections q))) new.old new.new }
 {
-    if let Some(c) = calls.callee(q) {
-        add_reached(old, calls.file.sections.counts.models, c, new, a);
+    if let Some(c) = source.callee(q) {
+        add_reached(old, source.file.sections.counts.models, c, new, a);
     }
 }
 
 // Row a of the next table: what model a's statements add.
-fn reach_row(calls: &Calls, old: &[u8], a: usize, new: &mut [u8])
+fn reach_row(source: &Source, old: &[u8], a: usize, new: &mut [u8])
     requires { (length old.now ≡ model_pairs)
-        × (a < calls.now.file.sections.counts.models)
-        × Stepped (file_seen calls.now.file) calls.now.file.sections.counts.models old.now a new.old }
-    ensures { Stepped (file_seen calls.now.file) calls.now.file.sections.counts.models old.now (a + 1)
+        × (a < source.now.file.sections.counts.models)
+        × Stepped (file_seen source.now.file) source.now.file.sections.counts.models old.now a new.old }
+    ensures { Stepped (file_seen source.now.file) source.now.file.sections.counts.models old.now (a + 1)
         new.new }
 {
-    let first = calls.file.model(a, MODEL_FIRST_STMT);
-    let count = calls.file.model(a, MODEL_STMTS);
+    let first = source.file.model(a, MODEL_FIRST_STMT);
+    let count = source.file.model(a, MODEL_STMTS);
     for i in 0..count {
-        add_called(calls, old, first + i, new, a);
+        add_called(source, old, first + i, new, a);
     }
 }
 
 // The next table: one step more.
-fn reach_round(calls: &Calls, old: &[u8]) -> [u8; MODEL_PAIRS]
+fn reach_round(source: &Source, old: &[u8]) -> [u8; MODEL_PAIRS]
     requires { length old.now ≡ model_pairs }
-    ensures { Stepped (file_seen calls.now.file) calls.now.file.sections.counts.models old.now
-        calls.now.file.sections.counts.models result }
+    ensures { Stepped (file_seen source.now.file) source.now.file.sections.counts.models old.now
+        source.now.file.sections.counts.models result }
 {
     let mut new = [0u8; MODEL_PAIRS];
-    for a in 0..calls.file.sections.counts.models {
-        reach_row(calls, old, a, &mut new);
+    for a in 0..source.file.sections.counts.models {
+        reach_row(source, old, a, &mut new);
     }
     new
 }
 
 // Whether model b is reached from model a, at 32 a + b.
-pub fn reach(calls: &Calls) -> [u8; MODEL_PAIRS]
-    ensures { ReachedIn calls.now.file.bytes.now calls.now.file.sections result }
+pub fn reach(source: &Source) -> [u8; MODEL_PAIRS]
+    ensures { ReachedIn source.now.file.bytes.now source.now.file.sections result }
 {
     let mut table = [0u8; MODEL_PAIRS];
-    for _ in 0..calls.file.sections.counts.models {
-        table = reach_round(calls, &table);
+    for _ in 0..source.file.sections.counts.models {
+        table = reach_round(source, &table);
     }
     table
 }
@@ -103,13 +103,14 @@ fn is_reached(file: &View, table: &[u8; MODEL_PAIRS], root: usize, m: usize) -> 
 }
 
 // Whether unknown u, t or unreserved, lists itself.
-fn lists_itself(file: &View, classes: &[Class; MOST_NAMES], u: usize) -> bool
-    requires { Classes (file_seen file.now).names classes.now
-        × (u < file.now.sections.counts.unknowns) }
-    ensures { result ≡ flatten.lists_itself (file_seen file.now) (unknown_in file.now.bytes.now file.now.sections u) }
+fn lists_itself(source: &Source, u: usize) -> bool
+    requires { u < source.now.file.sections.counts.unknowns }
+    ensures { result ≡ flatten.lists_itself (file_seen source.now.file)
+        (unknown_in source.now.file.bytes.now source.now.file.sections u) }
 {
-    let name = file.unknown(u, UNKNOWN_NAME);
-    classes[name] != Class::Reserved && names_dep(file, u, name)
+    let name = source.file.unknown(u, UNKNOWN_NAME);
+    let class = source.classes[name];
+    class != Class::Reserved && names_dep(&source.file, u, name)
 }
 
 // Whether a positional argument of a call has a number that is not below n.
@@ -132,16 +133,16 @@ fn beyond(file: &View, call: usize, n: usize) -> bool
 }
 
 // Whether statement q calls a model with a positional argument whose number is not below the model's count of unknowns.
-fn too_many(calls: &Calls, q: usize) -> bool
-    requires { q < calls.now.file.sections.counts.stmts }
-    ensures { result ≡ flatten.stmt_beyond (file_seen calls.now.file)
-        (stmt_in calls.now.file.bytes.now calls.now.file.sections q) }
+fn too_many(source: &Source, q: usize) -> bool
+    requires { q < source.now.file.sections.counts.stmts }
+    ensures { result ≡ flatten.stmt_beyond (file_seen source.now.file)
+        (stmt_in source.now.file.bytes.now source.now.file.sections q) }
 {
-    let Some(c) = calls.callee(q) else {
+    let Some(c) = source.callee(q) else {
         return false;
     };
-    let call = calls.file.stmt(q, STMT_RIGHT);
-    beyond(&calls.file, call, calls.file.model(c, MODEL_UNKNOWNS))
+    let call = source.file.stmt(q, STMT_RIGHT);
+    beyond(&source.file, call, source.file.model(c, MODEL_UNKNOWNS))
 }
 
 // Whether a model, the root or reached from it, is reached from itself.
@@ -156,50 +157,45 @@ pub fn cyclic(file: &View, table: &[u8; MODEL_PAIRS], root: usize) -> bool
 }
 
 // Whether an unknown of model m lists itself.
-fn has_self_listed(file: &View, classes: &[Class; MOST_NAMES], m: usize) -> bool
-    requires { ClassedModel file.now.bytes.now file.now.sections classes.now m }
-    ensures { result ≡ any (flatten.lists_itself (file_seen file.now))
-        (flatten.model_at (file_seen file.now) m).unknowns }
+fn has_self_listed(source: &Source, m: usize) -> bool
+    requires { m < source.now.file.sections.counts.models }
+    ensures { result ≡ any (flatten.lists_itself (file_seen source.now.file))
+        (flatten.model_at (file_seen source.now.file) m).unknowns }
 {
-    let first = file.model(m, MODEL_FIRST_UNKNOWN);
-    let count = file.model(m, MODEL_UNKNOWNS);
-    (first..first + count).any(|u| lists_itself(file, classes, u))
+    let first = source.file.model(m, MODEL_FIRST_UNKNOWN);
+    let count = source.file.model(m, MODEL_UNKNOWNS);
+    (first..first + count).any(|u| lists_itself(source, u))
 }
 
 // Whether a model, the root or reached from it, has an unknown that lists itself.
-pub fn self_listed(
-    file: &View,
-    classes: &[Class; MOST_NAMES],
-    table: &[u8; MODEL_PAIRS],
-    root: usize,
-) -> bool
-    requires { ClassedModel file.now.bytes.now file.now.sections classes.now root
-        × ReachedIn file.now.bytes.now file.now.sections table.now }
-    ensures { result ≡ flatten.self_listed (file_seen file.now) root }
+pub fn self_listed(source: &Source, table: &[u8; MODEL_PAIRS], root: usize) -> bool
+    requires { (root < source.now.file.sections.counts.models)
+        × ReachedIn source.now.file.bytes.now source.now.file.sections table.now }
+    ensures { result ≡ flatten.self_listed (file_seen source.now.file) root }
 {
-    (0..file.sections.counts.models)
-        .filter(|m| is_reached(file, table, root, *m))
-        .any(|m| has_self_listed(file, classes, m))
+    (0..source.file.sections.counts.models)
+        .filter(|m| is_reached(&source.file, table, root, *m))
+        .any(|m| has_self_listed(source, m))
 }
 
 // Whether a statement of model m calls a model with an argument beyond that model's unknowns.
-fn has_too_many(calls: &Calls, m: usize) -> bool
-    requires { m < calls.now.file.sections.counts.models }
-    ensures { result ≡ any (flatten.stmt_beyond (file_seen calls.now.file))
-        (flatten.model_at (file_seen calls.now.file) m).stmts }
+fn has_too_many(source: &Source, m: usize) -> bool
+    requires { m < source.now.file.sections.counts.models }
+    ensures { result ≡ any (flatten.stmt_beyond (file_seen source.now.file))
+        (flatten.model_at (file_seen source.now.file) m).stmts }
 {
-    let first = calls.file.model(m, MODEL_FIRST_STMT);
-    let count = calls.file.model(m, MODEL_STMTS);
-    (first..first + count).any(|q| too_many(calls, q))
+    let first = source.file.model(m, MODEL_FIRST_STMT);
+    let count = source.file.model(m, MODEL_STMTS);
+    (first..first + count).any(|q| too_many(source, q))
 }
 
 // Whether a model, the root or reached from it, has such a statement.
-pub fn overfull(calls: &Calls, table: &[u8; MODEL_PAIRS], root: usize) -> bool
-    requires { ReachedIn calls.now.file.bytes.now calls.now.file.sections table.now
-        × (root < calls.now.file.sections.counts.models) }
-    ensures { result ≡ flatten.overfull (file_seen calls.now.file) root }
+pub fn overfull(source: &Source, table: &[u8; MODEL_PAIRS], root: usize) -> bool
+    requires { ReachedIn source.now.file.bytes.now source.now.file.sections table.now
+        × (root < source.now.file.sections.counts.models) }
+    ensures { result ≡ flatten.overfull (file_seen source.now.file) root }
 {
-    (0..calls.file.sections.counts.models)
-        .filter(|m| is_reached(&calls.file, table, root, *m))
-        .any(|m| has_too_many(calls, m))
+    (0..source.file.sections.counts.models)
+        .filter(|m| is_reached(&source.file, table, root, *m))
+        .any(|m| has_too_many(source, m))
 }

@@ -8,10 +8,11 @@ ghost use Rattle.definitions.specs.Names.{time_name};
 ghost use Rattle.definitions.specs.Variables.{variable_names};
 ghost use Rattle.definitions.specs.Check.{lookup};
 ghost use Rattle.definitions.specs.Flatten.{model_at};
-ghost use Rattle.builder.specs.Tables.{Classes, ClassedModel, Blank, VarsOf, Marks, kept_in};
+ghost use Rattle.builder.specs.Tables.{Blank, VarsOf, Marks, kept_in};
 ghost use Rattle.builder.specs.Checking.{scope_in, kept_names, unknown_in, Scoped};
 
-use crate::names::{Class, is_reserved, time_name};
+use crate::names::{is_reserved, time_name};
+use crate::source::Source;
 use ast::layout::{
     MODEL_FIRST_UNKNOWN, MODEL_UNKNOWNS, MOST_NAMES, UNKNOWN_DEPS, UNKNOWN_FIRST_DEP, UNKNOWN_NAME,
 };
@@ -52,7 +53,7 @@ pub fn is_dep_of(
 }
 
 // A table by name without marks. An entry has 16 bits: 1 plus a count of kept dependents is at most 1,025, 1 plus a
-// number of the root's variables at most 129.
+// number of the root's variables at most 129; 0 stands for none, since an Option would take two of them.
 pub fn no_marks() -> [u16; MOST_NAMES]
     ensures { Blank most_names result }
 {
@@ -60,29 +61,28 @@ pub fn no_marks() -> [u16; MOST_NAMES]
 }
 
 // Marks t's name, in a table without marks.
-fn time_declared(file: &View, classes: &[Class; MOST_NAMES], out: &mut [u16])
-    requires { Classes (file_seen file.now).names classes.now
-        × Blank most_names out.old }
-    ensures { Marks file.now.sections.counts.names (time_name (file_seen file.now).names ∷ []) out.new }
+fn time_declared(source: &Source, out: &mut [u16])
+    requires { Blank most_names out.old }
+    ensures { Marks source.now.file.sections.counts.names (time_name (file_seen source.now.file).names ∷ []) out.new }
 {
-    if let Some(time) = time_name(file, classes) {
+    if let Some(time) = time_name(source) {
         out[time] = 1;
     }
 }
 
 // Marks the variables of model m, in a table without marks: t, and each unreserved unknown's name.
-fn declared(file: &View, classes: &[Class; MOST_NAMES], m: usize, out: &mut [u16])
-    requires { ClassedModel file.now.bytes.now file.now.sections classes.now m
+fn declared(source: &Source, m: usize, out: &mut [u16])
+    requires { (m < source.now.file.sections.counts.models)
         × Blank most_names out.old }
-    ensures { Marks file.now.sections.counts.names (variable_names (file_seen file.now).names
-        (model_at (file_seen file.now) m).unknowns) out.new }
+    ensures { Marks source.now.file.sections.counts.names (variable_names (file_seen source.now.file).names
+        (model_at (file_seen source.now.file) m).unknowns) out.new }
 {
-    time_declared(file, classes, out);
-    let first = file.model(m, MODEL_FIRST_UNKNOWN);
-    let count = file.model(m, MODEL_UNKNOWNS);
+    time_declared(source, out);
+    let first = source.file.model(m, MODEL_FIRST_UNKNOWN);
+    let count = source.file.model(m, MODEL_UNKNOWNS);
     for i in 0..count {
-        let name = file.unknown(first + i, UNKNOWN_NAME);
-        if !is_reserved(classes[name]) {
+        let name = source.file.unknown(first + i, UNKNOWN_NAME);
+        if !is_reserved(source.classes[name]) {
             out[name] = 1;
         }
     }
@@ -104,19 +104,19 @@ fn kept_count(file: &View, vars: &[u16], u: usize) -> u16
 
 // Notes the variables of model m by name, in a table without marks: 0 where a name is none, else 1 plus the count of
 // its kept dependents.
-pub fn model_vars(file: &View, classes: &[Class; MOST_NAMES], m: usize, out: &mut [u16])
-    requires { ClassedModel file.now.bytes.now file.now.sections classes.now m
+pub fn model_vars(source: &Source, m: usize, out: &mut [u16])
+    requires { (m < source.now.file.sections.counts.models)
         × Blank most_names out.old }
-    ensures { VarsOf (scope_in file.now.bytes.now file.now.sections m) out.new
+    ensures { VarsOf (scope_in source.now.file.bytes.now source.now.file.sections m) out.new
         × (length out.new ≡ most_names) }
 {
-    declared(file, classes, m, out);
-    let first = file.model(m, MODEL_FIRST_UNKNOWN);
-    let count = file.model(m, MODEL_UNKNOWNS);
+    declared(source, m, out);
+    let first = source.file.model(m, MODEL_FIRST_UNKNOWN);
+    let count = source.file.model(m, MODEL_UNKNOWNS);
     for i in 0..count {
-        let name = file.unknown(first + i, UNKNOWN_NAME);
+        let name = source.file.unknown(first + i, UNKNOWN_NAME);
         if out[name] != 0 {
-            out[name] += kept_count(file, out, first + i);
+            out[name] += kept_count(&source.file, out, first + i);
         }
     }
 }

@@ -1,4 +1,5 @@
-// The bounds of variables and of time, by the domains that the root's unknowns declare.
+// The bounds of variables and of time, by the domains that the root's unknowns declare. A name comes plus 1, or 0, as a
+// variable's record and the definitions have it.
 ghost use Rattle.std.specs.Prelude.{◌≡◌, [], ◌∷◌, ◌+◌, ◌*◌, ◌≤◌, ◌<◌, length, IfSome};
 ghost use Rattle.ast.specs.Words.{low, high, bytes_of};
 ghost use Rattle.ast.specs.Bytes.{put};
@@ -7,11 +8,11 @@ ghost use Rattle.definitions.specs.Numbers.{unknown_length};
 ghost use Rattle.definitions.specs.Flatten.{model_at};
 ghost use Rattle.definitions.specs.Answer.{bounds_words};
 ghost use Rattle.area.specs.Fields.{bounds_length, bits_length};
-ghost use Rattle.builder.specs.Tables.{Classes};
-ghost use Rattle.builder.specs.Bounding.{bounds_from, floats, Floating, case_bounds, NamedBelow, unknown_bounds, declared_bounds, LastDeclared, time_in, bound_bits, bounds_bits, NanDeclared, NansDeclared, Bounded};
+ghost use Rattle.builder.specs.Bounding.{bounds_from, floats, Floating, case_bounds, NamedBelow, unknown_bounds, declared_bounds, LastDeclared, time_in, bound_bits, bounds_bits, NanDeclared, NansDeclared};
 ghost use Rattle.builder.specs.VarRecords.{var_bounds};
 
 use crate::names::Class;
+use crate::source::Source;
 use area::layout::FLOAT_BYTES;
 use ast::layout::{
     MODEL_FIRST_UNKNOWN, MODEL_UNKNOWNS, UNKNOWN_LOWER, UNKNOWN_NAME, UNKNOWN_UPPER,
@@ -56,36 +57,34 @@ fn domain_bounds(domain: Domain, time: bool, classes: &[Class]) -> Bounds
 }
 
 // The bounds of unknown u.
-fn unknown_bounds(file: &View, classes: &[Class], u: usize) -> Bounds
-    requires { Classes (file_seen file.now).names classes.now
-        × (file.now.sections.counts.names ≤ length classes.now)
-        × (u < file.now.sections.counts.unknowns) }
-    ensures { Floating (unknown_bounds file.now.bytes.now file.now.sections u) result }
+fn unknown_bounds(source: &Source, u: usize) -> Bounds
+    requires { u < source.now.file.sections.counts.unknowns }
+    ensures { Floating (unknown_bounds source.now.file.bytes.now source.now.file.sections u) result }
 {
-    let time = classes[file.unknown(u, UNKNOWN_NAME)] == Class::Time;
-    let domain = file.domain(u);
-    domain_bounds(domain, time, classes)
+    let name = source.file.unknown(u, UNKNOWN_NAME);
+    let class = source.classes[name];
+    let domain = source.file.domain(u);
+    domain_bounds(domain, class == Class::Time, &source.classes)
 }
 
 // The bounds of unknown u; where there is none, those from 0 or the unbounded ones.
-fn declared_bounds(file: &View, classes: &[Class], u: Option<usize>, floor: bool) -> Bounds
-    requires { Classes (file_seen file.now).names classes.now
-        × (file.now.sections.counts.names ≤ length classes.now)
-        × IfSome u (λ i. i < file.now.sections.counts.unknowns) }
-    ensures { Floating (declared_bounds file.now.bytes.now file.now.sections u (bounds_from floor)) result }
+fn declared_bounds(source: &Source, u: Option<usize>, floor: bool) -> Bounds
+    requires { IfSome u (λ i. i < source.now.file.sections.counts.unknowns) }
+    ensures { Floating (declared_bounds source.now.file.bytes.now source.now.file.sections u
+        (bounds_from floor)) result }
 {
     match u {
-        Some(i) => unknown_bounds(file, classes, i),
+        Some(i) => unknown_bounds(source, i),
         None => bounds_from(floor),
     }
 }
 
 // Time's bounds: those that model m declares last for the name (plus 1) of t, and from 0 where it declares none.
-pub fn time_bounds(file: &View, classes: &[Class], m: usize, name: usize) -> Bounds
-    requires { Bounded file.now.bytes.now file.now.sections classes.now m }
-    ensures { Floating (time_in file.now.bytes.now file.now.sections m name) result }
+pub fn time_bounds(source: &Source, m: usize, name: usize) -> Bounds
+    requires { m < source.now.file.sections.counts.models }
+    ensures { Floating (time_in source.now.file.bytes.now source.now.file.sections m name) result }
 {
-    declared_bounds(file, classes, last_declared(file, m, name), true)
+    declared_bounds(source, last_declared(&source.file, m, name), true)
 }
 
 // The bits of a bound that unknown u declares, or that none does. A NaN has none of its own: they are the file's, from
@@ -128,28 +127,27 @@ pub fn put_bounds(b: Bounds, file: &View, u: Option<usize>, out: &mut [u8], plac
 
 // Writes the bounds of variable v, of a name (plus 1) of model m.
 pub fn put_var_bounds(
-    file: &View,
-    classes: &[Class],
+    source: &Source,
     m: usize,
     v: usize,
     name: usize,
     out: &mut [u8],
     place: usize,
 )
-    requires { Bounded file.now.bytes.now file.now.sections classes.now m
+    requires { (m < source.now.file.sections.counts.models)
         × (place + 4 * bounds_length ≤ length out.old) }
     ensures { out.new ≡ put out.old place
-        (bytes_of (bounds_words (var_bounds (file_seen file.now).names
-        (model_at (file_seen file.now) m).unknowns v name))) }
+        (bytes_of (bounds_words (var_bounds (file_seen source.now.file).names
+        (model_at (file_seen source.now.file) m).unknowns v name))) }
 {
     if v == 0 {
-        put_bounds(bounds_from(true), file, None, out, place);
+        put_bounds(bounds_from(true), &source.file, None, out, place);
         return;
     }
-    let u = last_declared(file, m, name);
+    let u = last_declared(&source.file, m, name);
     put_bounds(
-        declared_bounds(file, classes, u, false),
-        file,
+        declared_bounds(source, u, false),
+        &source.file,
         u,
         out,
         place,

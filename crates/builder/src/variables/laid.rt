@@ -1,40 +1,36 @@
 // The root's variables laid into the area: their records, which hold nothing yet, and behind them their dependents.
-ghost use Rattle.std.specs.Prelude.{◌≡◌, length};
+ghost use Rattle.std.specs.Prelude.{◌≡◌, ◌<◌, length};
 ghost use Rattle.ast.specs.Views.{file_seen};
 ghost use Rattle.definitions.specs.Numbers.{most_names};
 ghost use Rattle.builder.specs.Tables.{Blank};
 ghost use Rattle.builder.specs.VariableTables.{roster_in, Numbers};
-ghost use Rattle.builder.specs.Bounding.{Bounded};
 ghost use Rattle.builder.specs.Root.{VarsRoom, VarsLaid};
 
-use crate::names::Class;
+use crate::source::Source;
 use crate::variables::reaching::reach_time;
 use crate::variables::records::write_vars;
 use crate::variables::roster::roster_of;
 use area::sections::Sizes;
-use ast::layout::MOST_NAMES;
-use ast::view::View;
 
 // Lays the variables of model m into an area of n nodes and q statements, notes their numbers by name in a table
 // without entries, and gives the sizes.
 pub fn lay_vars(
-    file: &View,
-    classes: &[Class; MOST_NAMES],
+    source: &Source,
     m: usize,
     area: &mut [u8],
     n: usize,
     q: usize,
     numbers: &mut [u16],
 ) -> Sizes
-    requires { Bounded file.now.bytes.now file.now.sections classes.now m
+    requires { (m < source.now.file.sections.counts.models)
         × VarsRoom n q area.old
         × Blank most_names numbers.old }
-    ensures { VarsLaid (file_seen file.now) m n q area.old result area.new
-        × (Numbers (roster_in file.now.bytes.now file.now.sections m) numbers.new
+    ensures { VarsLaid (file_seen source.now.file) m n q area.old result area.new
+        × (Numbers (roster_in source.now.file.bytes.now source.now.file.sections m) numbers.new
         × (length numbers.new ≡ most_names)) }
 {
-    let named = roster_of(file, classes, m, area, n, q, numbers);
-    let deps = write_vars(file, classes, m, area, named, numbers);
+    let named = roster_of(source, m, area, n, q, numbers);
+    let deps = write_vars(source, m, area, named, numbers);
     let z = Sizes {
         nodes: n,
         stmts: q,

@@ -1,4 +1,4 @@
-// The records of the root's variables and the header.
+// The records of the root's variables and the header. What a record's word has plus 1, or 0, goes so from hand to hand.
 ghost use Rattle.std.specs.Prelude.{◌≡◌, ◌++◌, ◌+◌, ◌*◌, ◌≤◌, ◌<◌, length, drop, get_or};
 ghost use Rattle.functions.specs.Lists.{each};
 ghost use Rattle.ast.specs.Words.{bytes_of};
@@ -12,20 +12,18 @@ ghost use Rattle.definitions.specs.Answer.{bounds_words};
 ghost use Rattle.area.specs.Fields.{lead_length};
 ghost use Rattle.area.specs.Sections.{Small, vars_at, deps_at};
 ghost use Rattle.builder.specs.VariableTables.{words_from, Numbered};
-ghost use Rattle.builder.specs.Bounding.{Bounded};
 ghost use Rattle.builder.specs.Allocating.{names_in};
 ghost use Rattle.builder.specs.VarRecords.{is_time, LeadOf, lead_words, var_bounds, unheld_words, untimed_records, Headed, head_words};
 ghost use Rattle.builder.specs.Root.{scope_at, VarsNamed, VarNext};
 
-use crate::names::Class;
 use crate::root::Root;
+use crate::source::Source;
 use crate::variables::bounds::{put_time_bounds, put_var_bounds};
 use crate::variables::roster::{set_dependents, time_index};
 use area::header::put_counts;
 use area::layout::{BOUNDS_AT, TIME_AT, VAR_BYTES, VAR_NAME};
 use area::records::Area;
 use area::sections::{Sizes, deps_at, vars_at};
-use ast::layout::MOST_NAMES;
 use ast::view::View;
 use ast::words::put_record;
 
@@ -55,33 +53,17 @@ fn put_lead(area: &mut [u8], at: usize, lead: Lead)
 }
 
 // Writes the record of variable v at a place.
-fn put_variable(
-    file: &View,
-    classes: &[Class],
-    m: usize,
-    area: &mut [u8],
-    at: usize,
-    v: usize,
-    lead: Lead,
-)
-    requires { Bounded file.now.bytes.now file.now.sections classes.now m
+fn put_variable(source: &Source, m: usize, area: &mut [u8], at: usize, v: usize, lead: Lead)
+    requires { (m < source.now.file.sections.counts.models)
         × (at + 4 * variable_length ≤ length area.old)
         × (lead.first ≤ lead.end) }
     ensures { area.new ≡ put area.old at
         (bytes_of (lead_words lead.name lead.first lead.end lead.index lead.time ++ bounds_words
-        (var_bounds (file_seen file.now).names (model_at (file_seen file.now) m).unknowns v
+        (var_bounds (file_seen source.now.file).names (model_at (file_seen source.now.file) m).unknowns v
         lead.name))) }
 {
     put_lead(area, at, lead);
-    put_var_bounds(
-        file,
-        classes,
-        m,
-        v,
-        lead.name as usize,
-        area,
-        at + BOUNDS_AT,
-    );
+    put_var_bounds(source, m, v, lead.name as usize, area, at + BOUNDS_AT);
 }
 
 // What the record of variable v says, whose name (plus 1) is given, and whose dependents stand in the area from `first`
@@ -107,8 +89,7 @@ fn lead_of(area: &Area, v: usize, name: u32, first: usize, end: usize) -> Lead
 // Writes the dependents of variable v, behind `done` ones, and its record, which has its name before and holds nothing
 // yet, and gives the new count of dependents.
 fn write_var(
-    file: &View,
-    classes: &[Class; MOST_NAMES],
+    source: &Source,
     m: usize,
     area: &mut [u8],
     z: Sizes,
@@ -116,13 +97,13 @@ fn write_var(
     v: usize,
     done: usize,
 ) -> usize
-    requires { Bounded file.now.bytes.now file.now.sections classes.now m
-        × Numbered file.now.bytes.now file.now.sections m numbers.now
-        × VarNext (file_seen file.now) m z area.old v done }
-    ensures { (result ≡ done + length (at (scope_at (file_seen file.now) m).vars v).deps)
+    requires { (m < source.now.file.sections.counts.models)
+        × Numbered source.now.file.bytes.now source.now.file.sections m numbers.now
+        × VarNext (file_seen source.now.file) m z area.old v done }
+    ensures { (result ≡ done + length (at (scope_at (file_seen source.now.file) m).vars v).deps)
         × (area.new ≡ put (put area.old (deps_at z + 4 * done)
-        (bytes_of (at (scope_at (file_seen file.now) m).vars v).deps)) (vars_at z + 4 * variable_length * v)
-        (bytes_of (unheld_words is_time v done (at (scope_at (file_seen file.now) m).vars v)))) }
+        (bytes_of (at (scope_at (file_seen source.now.file) m).vars v).deps)) (vars_at z + 4 * variable_length * v)
+        (bytes_of (unheld_words is_time v done (at (scope_at (file_seen source.now.file) m).vars v)))) }
 {
     let named = Area {
         bytes: area,
@@ -130,44 +111,45 @@ fn write_var(
     };
     let name = named.var(v, VAR_NAME);
     let from = deps_at(z);
-    let end = set_dependents(file, numbers, m, name as usize, &mut area[from..], done);
+    let end = set_dependents(
+        &source.file,
+        numbers,
+        m,
+        name as usize,
+        &mut area[from..],
+        done,
+    );
     let written = Area {
         bytes: area,
         sizes: z,
     };
     let lead = lead_of(&written, v, name, done, end);
     let place = vars_at(z) + VAR_BYTES * v;
-    put_variable(file, classes, m, area, place, v, lead);
+    put_variable(source, m, area, place, v, lead);
     end
 }
 
 // The same of all variables, whose records have their names before; gives the count of dependents.
-pub fn write_vars(
-    file: &View,
-    classes: &[Class; MOST_NAMES],
-    m: usize,
-    area: &mut [u8],
-    z: Sizes,
-    numbers: &[u16],
-) -> usize
-    requires { Bounded file.now.bytes.now file.now.sections classes.now m
-        × Numbered file.now.bytes.now file.now.sections m numbers.now
-        × VarsNamed (file_seen file.now) m z area.old }
-    ensures { (result ≡ length (each (λ x. x.deps) (scope_at (file_seen file.now) m).vars))
+pub fn write_vars(source: &Source, m: usize, area: &mut [u8], z: Sizes, numbers: &[u16]) -> usize
+    requires { (m < source.now.file.sections.counts.models)
+        × Numbered source.now.file.bytes.now source.now.file.sections m numbers.now
+        × VarsNamed (file_seen source.now.file) m z area.old }
+    ensures { (result ≡ length (each (λ x. x.deps) (scope_at (file_seen source.now.file) m).vars))
         × (area.new ≡ put (put area.old (deps_at z)
-        (bytes_of (each (λ x. x.deps) (scope_at (file_seen file.now) m).vars))) (vars_at z)
-        (encode (untimed_records (scope_at (file_seen file.now) m).vars))) }
+        (bytes_of (each (λ x. x.deps) (scope_at (file_seen source.now.file) m).vars))) (vars_at z)
+        (encode (untimed_records (scope_at (file_seen source.now.file) m).vars))) }
 {
     let mut done = 0;
     for v in 0..z.vars {
-        done = write_var(file, classes, m, area, z, numbers, v, done);
+        done = write_var(source, m, area, z, numbers, v, done);
     }
     done
 }
 
 // Writes the header of an answer of a root: the counts, the instances, and time's bounds, those declared last for t.
 pub fn write_header(file: &View, root: Root, area: &mut [u8], errors: usize)
-    requires { Headed file.now.bytes.now file.now.sections root.model root.instances errors root.sizes root.time area.old }
+    requires { Headed file.now.bytes.now file.now.sections root.model root.instances errors root.sizes root.time
+        area.old }
     ensures { area.new ≡ put area.old 0
         (bytes_of (head_words root.sizes errors root.instances
         (last_bounds (file_seen file.now).names (get_or (names_in area.old root.sizes) 0 0) from_zero

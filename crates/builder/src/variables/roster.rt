@@ -1,23 +1,25 @@
-// The root's variables: t first, then each unreserved unknown's name in order of first declaration.
+// The root's variables: t first, then each unreserved unknown's name in order of first declaration. A variable's record
+// has its name plus 1, or 0, and so do the definitions; `numbers` has 0 for a name that is no variable's, since an Option
+// in each entry would make it twice as long.
 ghost use Rattle.std.specs.Prelude.{◌≡◌, [], ◌∷◌, ◌+◌, ◌*◌, ◌≤◌, ◌<◌, length, IfSome};
 ghost use Rattle.std.proofs.Math.Option.{none};
 ghost use Rattle.functions.specs.Lists.{plus_one};
 ghost use Rattle.definitions.specs.Numbers.{most_names, most_variables};
 ghost use Rattle.definitions.specs.Variables.{kept_deps, last_time};
-ghost use Rattle.builder.specs.Tables.{ClassedModel, Blank};
+ghost use Rattle.builder.specs.Tables.{Blank};
 ghost use Rattle.area.specs.Sections.{Grown, area_vars, VarsAre};
 ghost use Rattle.builder.specs.VariableTables.{words_from, declare_one, Listing, unknowns_in, roster_in, unknown_in, one_below, kept_by, kept_named, RoomBehind, PutBehind, Numbered, RosterRoom};
 ghost use Rattle.builder.specs.Allocating.{names_in};
 ghost use Rattle.builder.specs.Root.{VarsRoom, VarsListed};
 ghost use Rattle.builder.specs.Starting.{place_as};
 
-use crate::names::{Class, is_reserved, time_name};
+use crate::names::{is_reserved, time_name};
+use crate::source::Source;
 use area::layout::VAR_NAME;
 use area::records::put_var;
 use area::sections::Sizes;
 use ast::layout::{
-    DEP_BYTES, MODEL_FIRST_UNKNOWN, MODEL_UNKNOWNS, MOST_NAMES, UNKNOWN_DEPS, UNKNOWN_FIRST_DEP,
-    UNKNOWN_NAME,
+    DEP_BYTES, MODEL_FIRST_UNKNOWN, MODEL_UNKNOWNS, UNKNOWN_DEPS, UNKNOWN_FIRST_DEP, UNKNOWN_NAME,
 };
 use ast::view::View;
 use ast::words::{put_word, read_word};
@@ -65,32 +67,31 @@ fn declare(area: &mut [u8], z: Sizes, numbers: &mut [u16], name: usize) -> Sizes
 // Lists the variables of model m behind n nodes and q statements, by name in a table without entries, and gives the
 // sizes with them.
 pub fn roster_of(
-    file: &View,
-    classes: &[Class; MOST_NAMES],
+    source: &Source,
     m: usize,
     area: &mut [u8],
     n: usize,
     q: usize,
     numbers: &mut [u16],
 ) -> Sizes
-    requires { ClassedModel file.now.bytes.now file.now.sections classes.now m
+    requires { (m < source.now.file.sections.counts.models)
         × VarsRoom n q area.old
         × Blank most_names numbers.old }
-    ensures { VarsListed file.now.bytes.now file.now.sections m n q area.old result area.new
+    ensures { VarsListed source.now.file.bytes.now source.now.file.sections m n q area.old result area.new
         numbers.new }
 {
-    let first = file.model(m, MODEL_FIRST_UNKNOWN);
-    let count = file.model(m, MODEL_UNKNOWNS);
+    let first = source.file.model(m, MODEL_FIRST_UNKNOWN);
+    let count = source.file.model(m, MODEL_UNKNOWNS);
     let mut z = Sizes {
         nodes: n,
         stmts: q,
         vars: 1,
         deps: 0,
     };
-    time_alone(time_name(file, classes), area, z, numbers);
+    time_alone(time_name(source), area, z, numbers);
     for i in 0..count {
-        let name = file.unknown(first + i, UNKNOWN_NAME);
-        if !is_reserved(classes[name]) {
+        let name = source.file.unknown(first + i, UNKNOWN_NAME);
+        if !is_reserved(source.classes[name]) {
             z = declare(area, z, numbers, name);
         }
     }
@@ -157,9 +158,10 @@ pub fn set_dependents(
     done: usize,
 ) -> usize
     requires { Numbered file.now.bytes.now file.now.sections m numbers.now
-        × RoomBehind (kept_deps (roster_in file.now.bytes.now file.now.sections m) (unknowns_in file.now.bytes.now file.now.sections m) name) done out.old }
-    ensures { PutBehind (kept_deps (roster_in file.now.bytes.now file.now.sections m) (unknowns_in file.now.bytes.now file.now.sections m) name) done
-        out.old result out.new }
+        × RoomBehind (kept_deps (roster_in file.now.bytes.now file.now.sections m)
+        (unknowns_in file.now.bytes.now file.now.sections m) name) done out.old }
+    ensures { PutBehind (kept_deps (roster_in file.now.bytes.now file.now.sections m)
+        (unknowns_in file.now.bytes.now file.now.sections m) name) done out.old result out.new }
 {
     let first = file.model(m, MODEL_FIRST_UNKNOWN);
     let count = file.model(m, MODEL_UNKNOWNS);

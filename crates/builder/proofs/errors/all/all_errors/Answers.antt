@@ -12,7 +12,7 @@ list-requires c = let p = c.requires in
 pub starting_errors-requires : goal.starting_errors-requires
 starting_errors-requires c = let p = c.requires in
     let few = starting_room p.0 _ _ _ _ p.1 c.models_errors.ensures _ _ _ c.roles_errors.ensures _ _ _ _ _ c.count_error.ensures c.list.ensures in
-    record { opened = p.0.called.opened; model = p.0.model; righted = p.0.righted; few = few }
+    record { opened = c.args.source.now.file.opened; model = p.0.model; righted = p.0.righted; few = few }
 
 pub returns : goal.returns
 returns c = let p = c.requires in

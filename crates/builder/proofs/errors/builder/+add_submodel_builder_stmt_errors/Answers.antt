@@ -7,102 +7,120 @@ use Rattle.ast.specs.Views.{file_seen}
 use Rattle.definitions.specs.Flatten.{model_at, stmt_errors, errors_of}
 use Rattle.builder.specs.Checking.{stmt_in}
 use Rattle.builder.specs.Seen.{scope_seen}
+use Rattle.builder.specs.Starting.{place_as}
 use Rattle.area.proofs.Listings.{lists_none, lists_then, room_first, room_then}
+use Rattle.builder.proofs.laws.Open.{models_long}
 use Rattle.builder.proofs.laws.Runs.{stmts_below}
-use Rattle.builder.proofs.laws.Calling.{entry_below}
+use Rattle.builder.proofs.laws.Calling.{called_below}
 use Rattle.builder.proofs.laws.Calls.{call_args}
 use Rattle.builder.proofs.laws.ModelErrors.{run_begins, run_room, run_goes, run_ends, stmt_here, stmt_there, stmts_past, errors_none, errors_more, not_three, own_same, call_in, any_scope, submodel_missing_lem, submodel_found}
 use Rattle.builder.proofs.errors.builder.+add_submodel_builder_stmt_errors.Goals as goal
 
 pub add_submodel-list-requires : goal.add_submodel-list-requires
 add_submodel-list-requires t c = let a = c.args in
-    let r = c.requires.2 (scope_seen a.tables.now.file 0) in
+    let f = a.tables.now.source.now.file in
+    let r = c.requires.2 (scope_seen f 0) in
     omega (arith, r)
 
-pub add_submodel-returns-then-c-eq0 : goal.add_submodel-returns-then-c-eq0
-add_submodel-returns-then-c-eq0 t c = let a = c.args in
-    let if1 = c.if-c-eq0 in
+pub add_submodel-returns-in_default : goal.add_submodel-returns-in_default
+unfolding place_as
+add_submodel-returns-in_default t c = let a = c.args in
+    let f = a.tables.now.source.now.file in
     let l = rw c.missing_error.ensures at c.list.ensures in
-    λ o. rw (submodel_missing_lem c.args.tables.now.read a.q c.requires.0.within 3 (sym c.requires.1) refl (λ j. errors_of (file_seen a.tables.now.file) a.k j) o if1.true) l
+    λ o. rw (submodel_missing_lem f.opened a.q c.requires.0.within 3 (sym c.requires.1) refl (λ j. errors_of (file_seen f) a.k j) o c.in_default.ensures) l
 
 pub add_submodel-builder-requires : goal.add_submodel-builder-requires
+unfolding place_as
 add_submodel-builder-requires t c = let a = c.args in
-    let if1 = c.if-c-eq0 in
-    let e = submodel_found c.args.tables.now.read a.q c.requires.0.within 3 (sym c.requires.1) refl (λ j. errors_of (file_seen a.tables.now.file) a.k j) (scope_seen a.tables.now.file 0) if1.false _ refl _ refl in
-    (omega (arith, c.decreases), (omega (arith, entry_below a.tables.now.file.bytes.now a.tables.now.file.sections c.args.tables.now.read.opened a.tables.now.callees.now c.args.tables.now.read.callees a.q c.requires.0.within, if1.false), c.requires.0.deep, room_first e _ (c.requires.2 (scope_seen a.tables.now.file 0))))
+    let f = a.tables.now.source.now.file in
+    let o = scope_seen f 0 in
+    let e = submodel_found f.opened a.q c.requires.0.within 3 (sym c.requires.1) refl (λ j. errors_of (file_seen f) a.k j) o c.in-Some.c c.in-Some.ensures _ refl _ refl in
+    (omega (arith, c.decreases), (omega (arith, called_below (file_seen f) _ _ (sym c.in-Some.ensures), models_long f.bytes.now f.sections), c.requires.0.deep, room_first e _ (c.requires.2 o)))
 
 pub add_submodel-run_of-run-requires : goal.add_submodel-run_of-run-requires
 add_submodel-run_of-run-requires t c = let stmt = c.stmt in
-    rw (c.nodes-nodes.ensures.0, c.nodes-nodes.ensures.1) (_, call_in c.args.tables.now.read.opened c.args.q c.requires.0.within 3 (sym c.requires.1) refl stmt.result stmt.ensures.0)
+    rw (c.nodes-nodes.ensures.0, c.nodes-nodes.ensures.1) (_, call_in c.args.tables.now.source.now.file.opened c.args.q c.requires.0.within 3 (sym c.requires.1) refl stmt.result stmt.ensures.0)
 
 pub add_submodel-order_errors-requires : goal.add_submodel-order_errors-requires
+unfolding place_as
 add_submodel-order_errors-requires t c = let a = c.args in
-    let builder = c.builder in
+    let f = a.tables.now.source.now.file in
+    let o = scope_seen f 0 in
     let stmt = c.stmt in
     let run_of = c.run_of-run in
     let run = rw (c.nodes-nodes.ensures.0, c.nodes-nodes.ensures.1) at run_of.ensures in
-    let e = submodel_found c.args.tables.now.read a.q c.requires.0.within 3 (sym c.requires.1) refl (λ j. errors_of (file_seen a.tables.now.file) a.k j) (scope_seen a.tables.now.file 0) c.if-c-eq0.false stmt.result stmt.ensures.0 run_of.result run.0 in
-    rw (c.nodes-nodes.ensures.0, c.nodes-nodes.ensures.1) ((_, call_args (call_in c.args.tables.now.read.opened a.q c.requires.0.within 3 (sym c.requires.1) refl stmt.result stmt.ensures.0) run_of.result run.0), room_then e _ _ _ _ (c.requires.2 (scope_seen a.tables.now.file 0)) builder.ensures)
+    let e = submodel_found f.opened a.q c.requires.0.within 3 (sym c.requires.1) refl (λ j. errors_of (file_seen f) a.k j) o c.in-Some.c c.in-Some.ensures stmt.result stmt.ensures.0 run_of.result run.0 in
+    rw (c.nodes-nodes.ensures.0, c.nodes-nodes.ensures.1) ((_, call_args (call_in f.opened a.q c.requires.0.within 3 (sym c.requires.1) refl stmt.result stmt.ensures.0) run_of.result run.0), room_then e _ _ _ _ (c.requires.2 o) c.builder.ensures)
 
 pub add_submodel-returns : goal.add_submodel-returns
+unfolding place_as
 add_submodel-returns t c = let a = c.args in
+    let f = a.tables.now.source.now.file in
     let stmt = c.stmt in
     let run_of = c.run_of-run in
     let run = rw (c.nodes-nodes.ensures.0, c.nodes-nodes.ensures.1) at run_of.ensures in
-    λ o. lists_then (submodel_found c.args.tables.now.read a.q c.requires.0.within 3 (sym c.requires.1) refl (λ j. errors_of (file_seen a.tables.now.file) a.k j) o c.if-c-eq0.false stmt.result stmt.ensures.0 run_of.result run.0) _ _ _ _ _ _ c.builder.ensures (rw (c.nodes-nodes.ensures.0, c.nodes-nodes.ensures.1) at c.order_errors.ensures)
+    λ o. lists_then (submodel_found f.opened a.q c.requires.0.within 3 (sym c.requires.1) refl (λ j. errors_of (file_seen f) a.k j) o c.in-Some.c c.in-Some.ensures stmt.result stmt.ensures.0 run_of.result run.0) _ _ _ _ _ _ c.builder.ensures (rw (c.nodes-nodes.ensures.0, c.nodes-nodes.ensures.1) at c.order_errors.ensures)
 
 pub builder-returns-then-k-eq0 : goal.builder-returns-then-k-eq0
 builder-returns-then-k-eq0 t c = let a = c.args in
-    rw (errors_none (file_seen a.tables.now.file) a.k a.m c.if-k-eq0.true) (lists_none _ _)
+    let f = a.tables.now.source.now.file in
+    rw (errors_none (file_seen f) a.k a.m c.if-k-eq0.true) (lists_none _ _)
 
 pub builder-unknowns_errors-requires : goal.builder-unknowns_errors-requires
 builder-unknowns_errors-requires t c = let a = c.args in
-    (c.args.tables.now.read.classes, c.requires.0, room_first (errors_more (file_seen a.tables.now.file) a.k a.m c.if-k-eq0.false) _ c.requires.2)
+    let f = a.tables.now.source.now.file in
+    (c.requires.0, room_first (errors_more (file_seen f) a.k a.m c.if-k-eq0.false) _ c.requires.2)
 
 pub builder-loop-i-init : goal.builder-loop-i-init
 builder-loop-i-init t c = let a = c.args in
-    run_begins (stmt_errors (file_seen a.tables.now.file) (λ j. errors_of (file_seen a.tables.now.file) (a.k - 1) j) (scope_seen a.tables.now.file a.m)) (model_at (file_seen a.tables.now.file) a.m).stmts _ _
+    let f = a.tables.now.source.now.file in
+    run_begins (stmt_errors (file_seen f) (λ j. errors_of (file_seen f) (a.k - 1) j) (scope_seen f a.m)) (model_at (file_seen f) a.m).stmts _ _
 
 pub builder-stmt_errors-requires : goal.builder-stmt_errors-requires
 builder-stmt_errors-requires t c = let a = c.args in
+    let f = a.tables.now.source.now.file in
     let if1 = c.if-k-eq0 in
-    let model-vars = c.model_vars in
     let model = c.model-first in
     let model2 = c.model-stmts in
     let loop = c.loop-i in
     let loop-test = c.loop-i-test in
-    let there = stmt_there a.tables.now.file.bytes.now a.tables.now.file.sections c.args.tables.now.read.opened a.m c.requires.0 model.result model2.result loop.i model.ensures.0 model2.ensures.0 loop-test.true in
-    let here = stmt_here a.tables.now.file.bytes.now a.tables.now.file.sections c.args.tables.now.read.opened a.m c.requires.0 model.result model2.result loop.i model.ensures.0 model2.ensures.0 loop-test.true in
-    let room = room_then (errors_more (file_seen a.tables.now.file) a.k a.m if1.false) _ _ _ _ c.requires.2 c.unknowns_errors.ensures in
-    (omega (arith, c.decreases, if1.false), (record { opened = c.args.tables.now.read.opened; model = c.requires.0; vars = model-vars.ensures.0 }, record { within = stmts_below a.tables.now.file.bytes.now a.tables.now.file.sections c.args.tables.now.read.opened a.m c.requires.0 model.result model2.result loop.i model.ensures.0 model2.ensures.0 loop-test.true; deep = omega (arith, c.requires.1) }, run_room (stmt_errors (file_seen a.tables.now.file) (λ j. errors_of (file_seen a.tables.now.file) (a.k - 1) j) (scope_seen a.tables.now.file a.m)) (model_at (file_seen a.tables.now.file) a.m).stmts (stmt_in a.tables.now.file.bytes.now a.tables.now.file.sections (model.result + loop.i)) loop.i there here _ _ _ _ room loop.invariant))
+    let there = stmt_there f.bytes.now f.sections f.opened a.m c.requires.0 model.result model2.result loop.i model.ensures.0 model2.ensures.0 loop-test.true in
+    let here = stmt_here f.bytes.now f.sections f.opened a.m c.requires.0 model.result model2.result loop.i model.ensures.0 model2.ensures.0 loop-test.true in
+    let room = room_then (errors_more (file_seen f) a.k a.m if1.false) _ _ _ _ c.requires.2 c.unknowns_errors.ensures in
+    (omega (arith, c.decreases, if1.false), (record { opened = f.opened; model = c.requires.0; vars = c.model_vars.ensures.0 }, record { within = stmts_below f.bytes.now f.sections f.opened a.m c.requires.0 model.result model2.result loop.i model.ensures.0 model2.ensures.0 loop-test.true; deep = omega (arith, c.requires.1) }, run_room (stmt_errors (file_seen f) (λ j. errors_of (file_seen f) (a.k - 1) j) (scope_seen f a.m)) (model_at (file_seen f) a.m).stmts (stmt_in f.bytes.now f.sections (model.result + loop.i)) loop.i there here _ _ _ _ room loop.invariant))
 
 pub builder-loop-i-preserved : goal.builder-loop-i-preserved
 builder-loop-i-preserved t c = let a = c.args in
+    let f = a.tables.now.source.now.file in
     let model = c.model-first in
     let model2 = c.model-stmts in
     let loop = c.loop-i in
     let loop-test = c.loop-i-test in
-    let there = stmt_there a.tables.now.file.bytes.now a.tables.now.file.sections c.args.tables.now.read.opened a.m c.requires.0 model.result model2.result loop.i model.ensures.0 model2.ensures.0 loop-test.true in
-    let here = stmt_here a.tables.now.file.bytes.now a.tables.now.file.sections c.args.tables.now.read.opened a.m c.requires.0 model.result model2.result loop.i model.ensures.0 model2.ensures.0 loop-test.true in
-    run_goes (stmt_errors (file_seen a.tables.now.file) (λ j. errors_of (file_seen a.tables.now.file) (a.k - 1) j) (scope_seen a.tables.now.file a.m)) (model_at (file_seen a.tables.now.file) a.m).stmts (stmt_in a.tables.now.file.bytes.now a.tables.now.file.sections (model.result + loop.i)) loop.i there here _ _ _ _ _ _ loop.invariant c.stmt_errors.ensures
+    let there = stmt_there f.bytes.now f.sections f.opened a.m c.requires.0 model.result model2.result loop.i model.ensures.0 model2.ensures.0 loop-test.true in
+    let here = stmt_here f.bytes.now f.sections f.opened a.m c.requires.0 model.result model2.result loop.i model.ensures.0 model2.ensures.0 loop-test.true in
+    run_goes (stmt_errors (file_seen f) (λ j. errors_of (file_seen f) (a.k - 1) j) (scope_seen f a.m)) (model_at (file_seen f) a.m).stmts (stmt_in f.bytes.now f.sections (model.result + loop.i)) loop.i there here _ _ _ _ _ _ loop.invariant c.stmt_errors.ensures
 
 pub builder-returns : goal.builder-returns
 builder-returns t c = let a = c.args in
+    let f = a.tables.now.source.now.file in
     let model = c.model-first in
     let model2 = c.model-stmts in
     let loop = c.loop-i in
-    let ends = run_ends (stmt_errors (file_seen a.tables.now.file) (λ j. errors_of (file_seen a.tables.now.file) (a.k - 1) j) (scope_seen a.tables.now.file a.m)) (model_at (file_seen a.tables.now.file) a.m).stmts loop.i (stmts_past a.tables.now.file.bytes.now a.tables.now.file.sections c.args.tables.now.read.opened a.m c.requires.0 model.result model2.result loop.i model.ensures.0 model2.ensures.0 c.loop-i-test.false) _ _ _ _ loop.invariant in
-    lists_then (errors_more (file_seen a.tables.now.file) a.k a.m c.if-k-eq0.false) _ _ _ _ _ _ c.unknowns_errors.ensures ends
+    let ends = run_ends (stmt_errors (file_seen f) (λ j. errors_of (file_seen f) (a.k - 1) j) (scope_seen f a.m)) (model_at (file_seen f) a.m).stmts loop.i (stmts_past f.bytes.now f.sections f.opened a.m c.requires.0 model.result model2.result loop.i model.ensures.0 model2.ensures.0 c.loop-i-test.false) _ _ _ _ loop.invariant in
+    lists_then (errors_more (file_seen f) a.k a.m c.if-k-eq0.false) _ _ _ _ _ _ c.unknowns_errors.ensures ends
 
 pub stmt_errors-own_errors-requires : goal.stmt_errors-own_errors-requires
 stmt_errors-own_errors-requires t c = let a = c.args in
-    let n = not_three c.args.tables.now.read.opened a.place.stmt c.requires.1.within _ refl (eqb-false _ _ (sym c.is_stmt.ensures ∙ c.if-not-is_stmt.true)) in
-    (c.requires.0, c.requires.1.within, n, rw (own_same c.args.tables.now.read.opened a.place.stmt c.requires.1.within _ refl n (λ j. errors_of (file_seen a.tables.now.file) a.place.depth j) (λ j. []) (scope_seen a.tables.now.file a.place.model)) at c.requires.2)
+    let f = a.tables.now.source.now.file in
+    let n = not_three f.opened a.place.stmt c.requires.1.within _ refl (eqb-false _ _ (sym c.is_stmt.ensures ∙ c.if-not-is_stmt.true)) in
+    (c.requires.0, c.requires.1.within, n, rw (own_same f.opened a.place.stmt c.requires.1.within _ refl n (λ j. errors_of (file_seen f) a.place.depth j) (λ j. []) (scope_seen f a.place.model)) at c.requires.2)
 
 pub stmt_errors-returns-then-not-is_stmt : goal.stmt_errors-returns-then-not-is_stmt
 stmt_errors-returns-then-not-is_stmt t c = let a = c.args in
-    rw (own_same c.args.tables.now.read.opened a.place.stmt c.requires.1.within _ refl (not_three c.args.tables.now.read.opened a.place.stmt c.requires.1.within _ refl (eqb-false _ _ (sym c.is_stmt.ensures ∙ c.if-not-is_stmt.true))) (λ j. errors_of (file_seen a.tables.now.file) a.place.depth j) (λ j. []) (scope_seen a.tables.now.file a.place.model)) c.own_errors.ensures
+    let f = a.tables.now.source.now.file in
+    rw (own_same f.opened a.place.stmt c.requires.1.within _ refl (not_three f.opened a.place.stmt c.requires.1.within _ refl (eqb-false _ _ (sym c.is_stmt.ensures ∙ c.if-not-is_stmt.true))) (λ j. errors_of (file_seen f) a.place.depth j) (λ j. []) (scope_seen f a.place.model)) c.own_errors.ensures
 
 pub stmt_errors-add_submodel-requires : goal.stmt_errors-add_submodel-requires
 stmt_errors-add_submodel-requires t c = let a = c.args in
-    (omega (arith, c.decreases), (c.requires.1, eqb-true _ _ (sym c.is_stmt.ensures ∙ c.if-not-is_stmt.false), λ o. rw (any_scope c.args.tables.now.read a.place.stmt c.requires.1.within _ refl (eqb-true _ _ (sym c.is_stmt.ensures ∙ c.if-not-is_stmt.false)) (λ j. errors_of (file_seen a.tables.now.file) a.place.depth j) o (scope_seen a.tables.now.file a.place.model)) c.requires.2))
+    let f = a.tables.now.source.now.file in
+    (omega (arith, c.decreases), (c.requires.1, eqb-true _ _ (sym c.is_stmt.ensures ∙ c.if-not-is_stmt.false), λ o. rw (any_scope f.opened a.place.stmt c.requires.1.within _ refl (eqb-true _ _ (sym c.is_stmt.ensures ∙ c.if-not-is_stmt.false)) (λ j. errors_of (file_seen f) a.place.depth j) o (scope_seen f a.place.model)) c.requires.2))

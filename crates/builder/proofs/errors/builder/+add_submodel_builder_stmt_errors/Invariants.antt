@@ -18,4 +18,4 @@ abbrev pub decreases-stmt_errors : goal.decreases-stmt_errors
 decreases-stmt_errors l = 3 * l.place.depth + 2
 
 abbrev pub invariant-builder-loop-i : goal.invariant-builder-loop-i
-invariant-builder-loop-i l = Listed l.initial.errors (each (stmt_errors (file_seen l.tables.file) (λ j. errors_of (file_seen l.tables.file) (l.k - 1) j) (scope_seen l.tables.file l.m)) (take l.i (model_at (file_seen l.tables.file) l.m).stmts)) l.errors
+invariant-builder-loop-i l = Listed l.initial.errors (each (stmt_errors (file_seen l.tables.source.now.file) (λ j. errors_of (file_seen l.tables.source.now.file) (l.k - 1) j) (scope_seen l.tables.source.now.file l.m)) (take l.i (model_at (file_seen l.tables.source.now.file) l.m).stmts)) l.errors

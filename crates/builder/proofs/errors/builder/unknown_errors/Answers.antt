@@ -1,30 +1,31 @@
 -- `builder::builder::unknown_errors` meets its contract: the domain's error, then the name's.
 use native.Mathlib.Omega.{arith}
+use Rattle.builder.proofs.laws.Sourced.{unknown}
 use Rattle.area.proofs.Listings.{lists_then, room_then}
 use Rattle.builder.proofs.laws.ModelErrors.{unknown_small, unknown_more}
 use Rattle.builder.proofs.errors.builder.unknown_errors.Goals as goal
 
-pub bounds-classes-name : goal.bounds-classes-name
-bounds-classes-name c = let unknown = c.unknown-name in
-    omega (arith, unknown_small c.requires.0 unknown.result unknown.ensures.0)
+pub bounds-source-name : goal.bounds-source-name
+bounds-source-name c = let name = c.unknown-name in
+    omega (arith, unknown_small (unknown c.args.source.now c.args.u c.requires.0) name.result name.ensures.0)
 
 pub unknown_error-requires : goal.unknown_error-requires
 unknown_error-requires c = let p = c.requires in
-    let unknown = c.unknown-name in
-    (p.0.within, omega (arith, unknown_small p.0 unknown.result unknown.ensures.0))
+    let name = c.unknown-name in
+    (p.0, omega (arith, unknown_small (unknown c.args.source.now c.args.u c.requires.0) name.result name.ensures.0))
 
 pub list-requires-2 : goal.list-requires-2
 list-requires-2 c = let p = c.requires in
-    let unknown = c.unknown-name in
-    let e = unknown_more p.0 unknown.result unknown.ensures.0 _ c.ne-usable.ensures in
+    let name = c.unknown-name in
+    let e = unknown_more (unknown c.args.source.now c.args.u c.requires.0) name.result name.ensures.0 _ c.ne-usable.ensures in
     let l = rw c.domain_error.ensures at c.list.ensures in
     let r = room_then e _ _ _ _ p.1 l in
     omega (arith, r)
 
 pub returns : goal.returns
 returns c = let list = c.list in
-    let unknown = c.unknown-name in
-    let e = unknown_more c.requires.0 unknown.result unknown.ensures.0 _ c.ne-usable.ensures in
+    let name = c.unknown-name in
+    let e = unknown_more (unknown c.args.source.now c.args.u c.requires.0) name.result name.ensures.0 _ c.ne-usable.ensures in
     let l = rw c.domain_error.ensures at list.ensures in
     let n = rw c.unknown_error.ensures at c.list-2.ensures in
     lists_then e _ _ _ _ _ _ l n

@@ -8,4 +8,4 @@ use Rattle.area.specs.Listing.{Listed}
 use Rattle.builder.proofs.errors.builder.unknowns_errors.Given as goal
 
 abbrev pub invariant-loop-i : goal.invariant-loop-i
-invariant-loop-i l = Listed l.initial.errors (each (unknown_errors (file_in l.file.bytes.now l.file.sections).names) (take l.i (model_at (file_in l.file.bytes.now l.file.sections) l.m).unknowns)) l.errors
+invariant-loop-i l = Listed l.initial.errors (each (unknown_errors (file_in l.source.file.bytes.now l.source.file.sections).names) (take l.i (model_at (file_in l.source.file.bytes.now l.source.file.sections) l.m).unknowns)) l.errors

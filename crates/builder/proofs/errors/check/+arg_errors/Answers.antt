@@ -50,7 +50,7 @@ returns-then-keyword-eq0 t c = let before_last = c.before_last-rest in
     lists_then e _ _ _ _ _ _ c.arg_errors.ensures l
 
 pub is_dep_of-kept-requires : goal.is_dep_of-kept-requires
-is_dep_of-kept-requires t c = (c.args.at.now.against.scoped, c.requires.0, omega (arith, c.if-keyword-eq0.false, c.word-keyword.ensures.0, arg_keyword c.requires.1 c.if-run-eq0.false))
+is_dep_of-kept-requires t c = (c.args.at.now.scoped, c.requires.0, omega (arith, c.if-keyword-eq0.false, c.word-keyword.ensures.0, arg_keyword c.requires.1 c.if-run-eq0.false))
 
 pub found_at-found-requires-2 : goal.found_at-found-requires-2
 found_at-found-requires-2 t c = (arg_within c.requires.1 c.if-run-eq0.false, omega (arith, c.word-keyword.ensures.1))

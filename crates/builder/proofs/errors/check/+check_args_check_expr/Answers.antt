@@ -51,7 +51,7 @@ check_expr-name_error-requires t c = let q = c.requires.0 in
 
 pub check_expr-returns-in-Ok-Name : goal.check_expr-returns-in-Ok-Name
 check_expr-returns-in-Ok-Name t c = let l = rw c.name_error.ensures at c.list.ensures in
-    rw (name_error c.args.at.now.against.scoped c.requires.0 (node_read c.in-Ok-Name.ensures c.in-Ok-Name.field-0-is)) l
+    rw (name_error c.args.at.now.scoped c.requires.0 (node_read c.in-Ok-Name.ensures c.in-Ok-Name.field-0-is)) l
 
 pub check_expr-returns-in-Ok-Number : goal.check_expr-returns-in-Ok-Number
 check_expr-returns-in-Ok-Number t c = rw (number_errors c.requires.0 (node_read c.in-Ok-Number.ensures c.in-Ok-Number.field-0-is) _) (lists_none _ _)

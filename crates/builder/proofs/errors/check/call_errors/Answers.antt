@@ -1,6 +1,7 @@
 -- `builder::check::call_errors` meets its contract: the count against the table, then by the class of the call's name.
 use native.Mathlib.Omega.{arith}
 use Rattle.builder.proofs.laws.Calls.{call_small, call_args, call_built_in, call_other}
+use Rattle.builder.proofs.laws.Sourced.{against}
 use Rattle.area.proofs.Listings.{lists_then, room_then}
 use Rattle.builder.proofs.errors.check.call_errors.Goals as goal
 
@@ -17,7 +18,7 @@ bounds-at-name-2 c = omega (arith, c.word-name.ensures.0, call_small c.requires.
 
 pub keyword_errors-requires : goal.keyword_errors-requires
 keyword_errors-requires c = let p = c.requires in
-    let g = c.args.at.now.against in
+    let g = against c.args.at.now in
     let node_word = c.word-name in
     let run_of = c.run_of-run in
     let rule-allows = c.rule_allows-allowed in
@@ -28,7 +29,7 @@ keyword_errors-requires c = let p = c.requires in
 
 pub returns-then-eq : goal.returns-then-eq
 returns-then-eq c = let p = c.requires in
-    let g = c.args.at.now.against in
+    let g = against c.args.at.now in
     let node_word = c.word-name in
     let run_of = c.run_of-run in
     let rule-allows = c.rule_allows-allowed in
@@ -40,7 +41,7 @@ returns-then-eq c = let p = c.requires in
 
 pub variable_errors-requires : goal.variable_errors-requires
 variable_errors-requires c = let p = c.requires in
-    let g = c.args.at.now.against in
+    let g = against c.args.at.now in
     let node_word = c.word-name in
     let run_of = c.run_of-run in
     let rule-allows = c.rule_allows-allowed in
@@ -51,7 +52,7 @@ variable_errors-requires c = let p = c.requires in
 
 pub returns : goal.returns
 returns c = let p = c.requires in
-    let g = c.args.at.now.against in
+    let g = against c.args.at.now in
     let node_word = c.word-name in
     let run_of = c.run_of-run in
     let rule-allows = c.rule_allows-allowed in

@@ -18,7 +18,7 @@ found_at-found-requires-2 c = let p = c.requires in
 
 pub returns-then-entry-eq0 : goal.returns-then-entry-eq0
 returns-then-entry-eq0 c = let p = c.requires in
-    let g = c.args.at.now.against.scoped in
+    let g = c.args.at.now.scoped in
     let node_word = c.word-name in
     let if1 = c.if-entry-eq0 in
     let l = rw c.found_at-found.ensures at c.list.ensures in
@@ -26,7 +26,7 @@ returns-then-entry-eq0 c = let p = c.requires in
 
 pub arg_errors-requires : goal.arg_errors-requires
 arg_errors-requires c = let p = c.requires in
-    let g = c.args.at.now.against.scoped in
+    let g = c.args.at.now.scoped in
     let node_word = c.word-name in
     let run_of = c.run_of-run in
     let if1 = c.if-entry-eq0 in
@@ -38,7 +38,7 @@ arg_errors-requires c = let p = c.requires in
 
 pub returns : goal.returns
 returns c = let p = c.requires in
-    let g = c.args.at.now.against.scoped in
+    let g = c.args.at.now.scoped in
     let node_word = c.word-name in
     let run_of = c.run_of-run in
     let is-count = c.is_count-counted in

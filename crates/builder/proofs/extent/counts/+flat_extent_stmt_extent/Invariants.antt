@@ -10,4 +10,4 @@ abbrev pub decreases-stmt_extent : goal.decreases-stmt_extent
 decreases-stmt_extent l = 2 * l.k + 1
 
 abbrev pub invariant-flat_extent-loop-i : goal.invariant-flat_extent-loop-i
-invariant-flat_extent-loop-i l = Counting l.calls.file.bytes.now l.calls.file.sections l.k l.m l.initial.rows l.level l.initial.total l.rows l.total l.i
+invariant-flat_extent-loop-i l = Counting l.source.file.bytes.now l.source.file.sections l.k l.m l.initial.rows l.level l.initial.total l.rows l.total l.i

@@ -6,16 +6,16 @@ use Rattle.builder.proofs.extent.measure.forbidden.Goals as goal
 
 pub returns-then-cyclic : goal.returns-then-cyclic
 unfolding forbidden_as
-returns-then-cyclic c = forbids_cycle (file_in c.args.calls.now.file.bytes.now c.args.calls.now.file.sections) c.args.m (sym c.cyclic.ensures ∙ c.if-cyclic.true)
+returns-then-cyclic c = forbids_cycle (file_in c.args.source.now.file.bytes.now c.args.source.now.file.sections) c.args.m (sym c.cyclic.ensures ∙ c.if-cyclic.true)
 
 pub returns-then-self_listed : goal.returns-then-self_listed
 unfolding forbidden_as
-returns-then-self_listed c = forbids_self_listed (file_in c.args.calls.now.file.bytes.now c.args.calls.now.file.sections) c.args.m (sym c.cyclic.ensures ∙ c.if-cyclic.false) (sym c.self_listed.ensures ∙ c.if-self_listed.true)
+returns-then-self_listed c = forbids_self_listed (file_in c.args.source.now.file.bytes.now c.args.source.now.file.sections) c.args.m (sym c.cyclic.ensures ∙ c.if-cyclic.false) (sym c.self_listed.ensures ∙ c.if-self_listed.true)
 
 pub returns-then-overfull : goal.returns-then-overfull
 unfolding forbidden_as
-returns-then-overfull c = forbids_beyond (file_in c.args.calls.now.file.bytes.now c.args.calls.now.file.sections) c.args.m (sym c.cyclic.ensures ∙ c.if-cyclic.false) (sym c.self_listed.ensures ∙ c.if-self_listed.false) (sym c.overfull.ensures ∙ c.if-overfull.true)
+returns-then-overfull c = forbids_beyond (file_in c.args.source.now.file.bytes.now c.args.source.now.file.sections) c.args.m (sym c.cyclic.ensures ∙ c.if-cyclic.false) (sym c.self_listed.ensures ∙ c.if-self_listed.false) (sym c.overfull.ensures ∙ c.if-overfull.true)
 
 pub returns : goal.returns
 unfolding forbidden_as
-returns c = forbids_none (file_in c.args.calls.now.file.bytes.now c.args.calls.now.file.sections) c.args.m (sym c.cyclic.ensures ∙ c.if-cyclic.false) (sym c.self_listed.ensures ∙ c.if-self_listed.false) (sym c.overfull.ensures ∙ c.if-overfull.false)
+returns c = forbids_none (file_in c.args.source.now.file.bytes.now c.args.source.now.file.sections) c.args.m (sym c.cyclic.ensures ∙ c.if-cyclic.false) (sym c.self_listed.ensures ∙ c.if-self_listed.false) (sym c.overfull.ensures ∙ c.if-overfull.false)

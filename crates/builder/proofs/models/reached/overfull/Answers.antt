@@ -16,7 +16,7 @@ use Rattle.builder.proofs.models.reached.overfull.Goals as goal
 pub returns : goal.returns
 unfolding overfull
 returns c = let a = c.args in
-    let file = file_in a.calls.now.file.bytes.now a.calls.now.file.sections in
+    let file = file_in a.source.now.file.bytes.now a.source.now.file.sections in
     let test = λ (m : ℕ). any (stmt_beyond file) (model_at file m).stmts in
-    any_filtered 0 _ a.calls.now.file.sections.counts.models (omega arith) test (λ m. eqb m a.root || reached file a.root m) c.filter.ensures.source c.filter.ensures.closure c.any.ensures.ran (λ m b q k. search (rules, tests)) (λ m b q k. search (rules, tests))
-    ∙ reached_along file a.root test test _ (long a.calls.now.file.bytes.now a.calls.now.file.sections c.args.calls.now.file.opened).file_models (λ m l. refl)
+    any_filtered 0 _ a.source.now.file.sections.counts.models (omega arith) test (λ m. eqb m a.root || reached file a.root m) c.filter.ensures.source c.filter.ensures.closure c.any.ensures.ran (λ m b q k. search (rules, tests)) (λ m b q k. search (rules, tests))
+    ∙ reached_along file a.root test test _ (long a.source.now.file.bytes.now a.source.now.file.sections c.args.source.now.file.opened).file_models (λ m l. refl)

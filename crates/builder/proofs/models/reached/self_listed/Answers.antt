@@ -16,7 +16,7 @@ use Rattle.builder.proofs.models.reached.self_listed.Goals as goal
 pub returns : goal.returns
 unfolding self_listed
 returns c = let a = c.args in
-    let file = file_in a.file.now.bytes.now a.file.now.sections in
+    let file = file_in a.source.now.file.bytes.now a.source.now.file.sections in
     let test = λ (m : ℕ). any (lists_itself file) (model_at file m).unknowns in
-    any_filtered 0 _ a.file.now.sections.counts.models (omega arith) test (λ m. eqb m a.root || reached file a.root m) c.filter.ensures.source c.filter.ensures.closure c.any.ensures.ran (λ m b q k. search (rules, tests)) (λ m b q k. search (rules, tests))
-    ∙ reached_along file a.root test test _ (long a.file.now.bytes.now a.file.now.sections c.requires.0.opened).file_models (λ m l. refl)
+    any_filtered 0 _ a.source.now.file.sections.counts.models (omega arith) test (λ m. eqb m a.root || reached file a.root m) c.filter.ensures.source c.filter.ensures.closure c.any.ensures.ran (λ m b q k. search (rules, tests)) (λ m b q k. search (rules, tests))
+    ∙ reached_along file a.root test test _ (long a.source.now.file.bytes.now a.source.now.file.sections a.source.now.file.opened).file_models (λ m l. refl)

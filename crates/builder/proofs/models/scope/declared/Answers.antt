@@ -14,23 +14,23 @@ use Rattle.builder.proofs.models.scope.declared.Goals as goal
 
 pub loop-i-init : goal.loop-i-init
 loop-i-init c = let a = c.args in
-    marks_begin (file_in a.file.now.bytes.now a.file.now.sections).names (model_at (file_in a.file.now.bytes.now a.file.now.sections) a.m).unknowns _ _ c.time_declared.ensures
+    marks_begin (file_in a.source.now.file.bytes.now a.source.now.file.sections).names (model_at (file_in a.source.now.file.bytes.now a.source.now.file.sections) a.m).unknowns _ _ c.time_declared.ensures
 
 pub unknown-name-requires : goal.unknown-name-requires
 unknown-name-requires c = let p = c.requires.0 in
-    let u = unknown_of_run _ _ p.opened _ p.model _ _ c.loop-i.i c.model-first.ensures.0 c.model-count.ensures.0 c.loop-i-test.true in
+    let u = unknown_of_run _ _ c.args.source.now.file.opened _ p _ _ c.loop-i.i c.model-first.ensures.0 c.model-count.ensures.0 c.loop-i-test.true in
     (u.below, omega arith)
 
-pub bounds-classes-name : goal.bounds-classes-name
+pub bounds-source-name : goal.bounds-source-name
 unfolding unknown_of
-bounds-classes-name c = let p = c.requires.0 in
-    let u = unknown_of_run _ _ p.opened _ p.model _ _ c.loop-i.i c.model-first.ensures.0 c.model-count.ensures.0 c.loop-i-test.true in
+bounds-source-name c = let p = c.requires.0 in
+    let u = unknown_of_run _ _ c.args.source.now.file.opened _ p _ _ c.loop-i.i c.model-first.ensures.0 c.model-count.ensures.0 c.loop-i-test.true in
     omega arith
 
 pub bounds-out-name : goal.bounds-out-name
 unfolding unknown_of
 bounds-out-name c = let p = c.requires.0 in
-    let u = unknown_of_run _ _ p.opened _ p.model _ _ c.loop-i.i c.model-first.ensures.0 c.model-count.ensures.0 c.loop-i-test.true in
+    let u = unknown_of_run _ _ c.args.source.now.file.opened _ p _ _ c.loop-i.i c.model-first.ensures.0 c.model-count.ensures.0 c.loop-i-test.true in
     omega arith
 
 pub loop-i-preserved : goal.loop-i-preserved
@@ -38,14 +38,14 @@ unfolding unknown_of
 loop-i-preserved c = let a = c.args in
     let p = c.requires.0 in
     let loop = c.loop-i in
-    let u = unknown_of_run _ _ p.opened _ p.model _ _ loop.i c.model-first.ensures.0 c.model-count.ensures.0 c.loop-i-test.true in
+    let u = unknown_of_run _ _ c.args.source.now.file.opened _ p _ _ loop.i c.model-first.ensures.0 c.model-count.ensures.0 c.loop-i-test.true in
     let n = c.unknown-name in
-    let long = names_long a.file.now.bytes.now a.file.now.sections in
+    let long = names_long a.source.now.file.bytes.now a.source.now.file.sections in
     elim c.if-not-is_reserved.branch [
-      | then-not-is_reserved w ↦ rw w.out-is (marks_next (file_in a.file.now.bytes.now a.file.now.sections).names a.classes.now p.classed _ (time_name (file_in a.file.now.bytes.now a.file.now.sections).names ∷ []) _ loop.i u.there u.here _ n.result c.is_reserved.result loop.out long n.ensures.0 (omega arith) c.is_reserved.ensures loop.invariant (omega arith) (search (rules, tests)))
-      | else-not-is_reserved w ↦ rw w.out-is (marks_kept (file_in a.file.now.bytes.now a.file.now.sections).names a.classes.now p.classed _ (time_name (file_in a.file.now.bytes.now a.file.now.sections).names ∷ []) _ loop.i u.there u.here _ n.result c.is_reserved.result loop.out long n.ensures.0 (omega arith) c.is_reserved.ensures loop.invariant (search (rules, tests)))
+      | then-not-is_reserved w ↦ rw w.out-is (marks_next (file_in a.source.now.file.bytes.now a.source.now.file.sections).names a.source.now.classes c.args.source.now.classed _ (time_name (file_in a.source.now.file.bytes.now a.source.now.file.sections).names ∷ []) _ loop.i u.there u.here _ n.result c.is_reserved.result loop.out long n.ensures.0 (omega arith) c.is_reserved.ensures loop.invariant (omega arith) (search (rules, tests)))
+      | else-not-is_reserved w ↦ rw w.out-is (marks_kept (file_in a.source.now.file.bytes.now a.source.now.file.sections).names a.source.now.classes c.args.source.now.classed _ (time_name (file_in a.source.now.file.bytes.now a.source.now.file.sections).names ∷ []) _ loop.i u.there u.here _ n.result c.is_reserved.result loop.out long n.ensures.0 (omega arith) c.is_reserved.ensures loop.invariant (search (rules, tests)))
     ]
 
 pub returns : goal.returns
 returns c = let p = c.requires.0 in
-    marks_all _ _ _ c.loop-i.i _ (run_all _ _ p.opened _ p.model _ _ c.loop-i.i c.model-first.ensures.0 c.model-count.ensures.0 c.loop-i-test.false) c.loop-i.invariant
+    marks_all _ _ _ c.loop-i.i _ (run_all _ _ c.args.source.now.file.opened _ p _ _ c.loop-i.i c.model-first.ensures.0 c.model-count.ensures.0 c.loop-i-test.false) c.loop-i.invariant

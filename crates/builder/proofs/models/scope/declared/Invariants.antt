@@ -8,4 +8,4 @@ use Rattle.builder.specs.Tables.{Marks}
 use Rattle.builder.proofs.models.scope.declared.Given as goal
 
 abbrev pub invariant-loop-i : goal.invariant-loop-i
-invariant-loop-i l = Marks l.file.sections.counts.names (declare (file_in l.file.bytes.now l.file.sections).names (time_name (file_in l.file.bytes.now l.file.sections).names ∷ []) (take l.i (model_at (file_in l.file.bytes.now l.file.sections) l.m).unknowns)) l.out
+invariant-loop-i l = Marks l.source.file.sections.counts.names (declare (file_in l.source.file.bytes.now l.source.file.sections).names (time_name (file_in l.source.file.bytes.now l.source.file.sections).names ∷ []) (take l.i (model_at (file_in l.source.file.bytes.now l.source.file.sections) l.m).unknowns)) l.out

@@ -6,4 +6,4 @@ use Rattle.builder.proofs.laws.ScopeTables.{Counted}
 use Rattle.builder.proofs.models.scope.model_vars.Given as goal
 
 abbrev pub invariant-loop-i : goal.invariant-loop-i
-invariant-loop-i l = Counted l.file.sections.counts.names (variable_names (file_in l.file.bytes.now l.file.sections).names (model_at (file_in l.file.bytes.now l.file.sections) l.m).unknowns) (take l.i (model_at (file_in l.file.bytes.now l.file.sections) l.m).unknowns) l.out
+invariant-loop-i l = Counted l.source.file.sections.counts.names (variable_names (file_in l.source.file.bytes.now l.source.file.sections).names (model_at (file_in l.source.file.bytes.now l.source.file.sections) l.m).unknowns) (take l.i (model_at (file_in l.source.file.bytes.now l.source.file.sections) l.m).unknowns) l.out

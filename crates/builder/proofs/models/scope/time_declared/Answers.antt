@@ -14,21 +14,21 @@ use Rattle.builder.proofs.models.scope.time_declared.Goals as goal
 time_small : (c : In-Some) → c.in-Some.time < 256
 unfolding plus_one place_as
 time_small c = let a = c.args in
-    let e : suc c.in-Some.time ≡ time_name (file_in a.file.now.bytes.now a.file.now.sections).names = c.in-Some.ensures in
-    omega (arith, e, time_below (file_in a.file.now.bytes.now a.file.now.sections).names, names_long a.file.now.bytes.now a.file.now.sections, a.file.now.opened.laid.within.names)
+    let e : suc c.in-Some.time ≡ time_name (file_in a.source.now.file.bytes.now a.source.now.file.sections).names = c.in-Some.ensures in
+    omega (arith, e, time_below (file_in a.source.now.file.bytes.now a.source.now.file.sections).names, names_long a.source.now.file.bytes.now a.source.now.file.sections, a.source.now.file.opened.laid.within.names)
 
 pub offset_bounds-out-time : goal.offset_bounds-out-time
 offset_bounds-out-time c = omega (arith, time_small (goal.at.offset_bounds-out-time c).In-Some)
 
 pub bounds-out-time : goal.bounds-out-time
-bounds-out-time c = omega (arith, c.requires.1.long, time_small (goal.at.bounds-out-time c).In-Some)
+bounds-out-time c = omega (arith, c.requires.long, time_small (goal.at.bounds-out-time c).In-Some)
 
 pub returns-in-Some : goal.returns-in-Some
 unfolding plus_one place_as
-returns-in-Some c = let p = c.requires.1 in
+returns-in-Some c = let p = c.requires in
     marks_time _ _ c.args.out.now p.long p.zeros c.in-Some.time c.in-Some.ensures (time_small (goal.at.returns-in-Some c).In-Some)
 
 pub returns-in_default : goal.returns-in_default
 unfolding plus_one place_as
-returns-in_default c = let p = c.requires.1 in
+returns-in_default c = let p = c.requires in
     marks_none _ _ c.args.out.now p.long p.zeros c.in_default.ensures

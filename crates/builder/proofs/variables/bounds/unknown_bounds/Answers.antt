@@ -11,19 +11,22 @@ use Rattle.builder.proofs.laws.BoundLaws.{domain_below, unknown_floating}
 use Rattle.builder.proofs.laws.OpenRecords.{unknown_is}
 use Rattle.builder.proofs.variables.bounds.unknown_bounds.Goals as goal
 
-pub bounds-classes-unknown : goal.bounds-classes-unknown
-bounds-classes-unknown c = let a = c.args in
-    let p = c.requires in
-    omega (arith, c.unknown.ensures.0, (unknown_is a.file.now.bytes.now a.file.now.sections c.args.file.now.opened a.u p.2).name_below, p.1)
+pub bounds-source-name : goal.bounds-source-name
+bounds-source-name c = let a = c.args in
+    let f = a.source.now.file in
+    omega (arith, c.unknown-name.ensures.0, (unknown_is f.bytes.now f.sections f.opened a.u c.requires).name_below, f.opened.laid.within.names, a.source.now.long)
 
 pub domain_bounds-requires : goal.domain_bounds-requires
 domain_bounds-requires c = let a = c.args in
-    let p = c.requires in
-    domain_below a.file.now.bytes.now a.file.now.sections a.u c.args.file.now.opened p.2 c.domain-domain.result c.domain-domain.ensures (length a.classes.now) p.1
+    let f = a.source.now.file in
+    domain_below f.bytes.now f.sections a.u f.opened c.requires c.domain-domain.result c.domain-domain.ensures (length a.source.now.classes) (omega (arith, f.opened.laid.within.names, a.source.now.long))
 
 pub returns : goal.returns
 returns c = let a = c.args in
     let p = c.requires in
-    let n : word_of (unknown_record a.file.now.bytes.now a.file.now.sections a.u) 0 < length (Opens.file_in a.file.now.bytes.now a.file.now.sections).names = omega (arith, (unknown_is a.file.now.bytes.now a.file.now.sections c.args.file.now.opened a.u p.2).name_below, names_long a.file.now.bytes.now a.file.now.sections) in
-    let t : c.eq-time.result ≡ is_time (Opens.file_in a.file.now.bytes.now a.file.now.sections).names (word_of (unknown_record a.file.now.bytes.now a.file.now.sections a.u) 0) = c.eq-time.ensures ∙ rw c.unknown.ensures.0 (class_time p.0 (word_of (unknown_record a.file.now.bytes.now a.file.now.sections a.u) 0) n) in
-    unknown_floating a.file.now.bytes.now a.file.now.sections a.u c.args.file.now.opened p.2 c.domain-domain.result c.domain-domain.ensures a.classes.now p.0 _ t c.domain_bounds.result c.domain_bounds.ensures
+    let src = a.source.now in
+    let f = src.file in
+    let name = word_of (unknown_record f.bytes.now f.sections a.u) 0 in
+    let n : name < length (Opens.file_in f.bytes.now f.sections).names = omega (arith, (unknown_is f.bytes.now f.sections f.opened a.u p).name_below, names_long f.bytes.now f.sections) in
+    let t : c.eq.result ≡ is_time (Opens.file_in f.bytes.now f.sections).names name = c.eq.ensures ∙ rw c.unknown-name.ensures.0 (class_time src.classed name n) in
+    unknown_floating f.bytes.now f.sections a.u f.opened p c.domain-domain.result c.domain-domain.ensures src.classes src.classed _ t c.domain_bounds.result c.domain_bounds.ensures

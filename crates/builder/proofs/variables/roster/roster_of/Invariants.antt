@@ -10,5 +10,5 @@ use Rattle.builder.proofs.variables.roster.roster_of.Given as goal
 
 abbrev pub invariant-loop-i : goal.invariant-loop-i
 invariant-loop-i l = (l.z.vars ≤ l.i + 1) × Grown (record { nodes = l.n; stmts = l.q; vars = 1; deps = 0 }) l.z
-    × (Listing (names_in l.area l.z) (names_in l.area l.z) l.numbers × (roster_in l.file.bytes.now l.file.sections l.m ≡ declare (file_in l.file.bytes.now l.file.sections).names (names_in l.area l.z) (drop l.i (unknowns_in l.file.bytes.now l.file.sections l.m))))
+    × (Listing (names_in l.area l.z) (names_in l.area l.z) l.numbers × (roster_in l.source.file.bytes.now l.source.file.sections l.m ≡ declare (file_in l.source.file.bytes.now l.source.file.sections).names (names_in l.area l.z) (drop l.i (unknowns_in l.source.file.bytes.now l.source.file.sections l.m))))
     × VarsAre l.z l.initial.area (area_vars l.area l.z) l.area

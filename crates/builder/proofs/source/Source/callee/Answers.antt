@@ -2,7 +2,7 @@ use mathlib.Core.Path.{◌∙◌}
 use Rattle.ast.specs.Opens.{file_in}
 use Rattle.builder.specs.Checking.{stmt_in}
 use Rattle.builder.proofs.laws.Calling.{callee_called, entry_none, entry_some}
-use Rattle.builder.proofs.models.called.Calls.callee.Goals as goal
+use Rattle.builder.proofs.source.Source.callee.Goals as goal
 
 pub returns-then-c-eq0 : goal.returns-then-c-eq0
 returns-then-c-eq0 c = let s = c.args.self.now in
