@@ -3,4 +3,3 @@ pub mod SectionsKept
 pub mod Parts
 pub mod VarsWritten
 pub mod Listings
-pub mod HandedOut

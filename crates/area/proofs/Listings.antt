@@ -22,7 +22,7 @@ use Rattle.area.specs.declared.errors.ErrorKind.{ErrorKind}
 use Rattle.area.specs.declared.errors.ErrorKind.TheVariants.{UnknownDomain, ReservedName, SubmodelMissing, PositionalAfterKeyword, NameNotFound, CountAgainstTable, KeywordInBuiltIn, CountAgainstVariable, NoSuchDependent, PositionalAfterNamed, CallNotFound, WrongStart, RateInvalid, Underdetermined, Overdetermined, NoInitialCondition, AlgebraicInitialCondition}
 use Rattle.area.specs.declared.errors.Found.{Found}
 use Rattle.area.specs.contracts.errors.ErrorKind.{the_type}
-use Rattle.area.specs.Listing.{spanned, put_error, listed, Lists, kind_number, found_as}
+use Rattle.area.specs.Listing.{spanned, put_error, listed, Lists, kind_number, error_as, found_as}
 
 -- ---- one behind the other
 
@@ -111,9 +111,14 @@ pub found_as-None : found_as None ≡ []
 unfolding found_as
 found_as-None = refl
 
-pub found_as-Some : (e : Found) → found_as (Some e) ≡ error (kind_number e.kind) (spanned e.from e.to) e.name ∷ []
+pub found_as-Some : (e : Found) → found_as (Some e) ≡ error_as e ∷ []
 unfolding found_as
 found_as-Some e = refl
+
+-- one, and it is this error
+pub found_one : (x : Found) (e : Error) → error_as x ≡ e → found_as (Some x) ≡ e ∷ []
+unfolding found_as
+found_one x e h = rw h refl
 
 -- ---- what a function that lists meets
 

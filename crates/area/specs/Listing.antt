@@ -61,7 +61,11 @@ kind_number Overdetermined = overdetermined
 kind_number NoInitialCondition = no_initial_condition
 kind_number AlgebraicInitialCondition = algebraic_initial_condition
 
+-- an error that a test finds
+abbrev pub error_as : Found → definitions.Error
+error_as e = error (kind_number e.kind) (spanned e.from e.to) e.name
+
 -- what a test finds: no error, or one
 unfoldable pub found_as : Option Found → List definitions.Error
 found_as None = []
-found_as (Some e) = error (kind_number e.kind) (spanned e.from e.to) e.name ∷ []
+found_as (Some e) = error_as e ∷ []

@@ -32,8 +32,9 @@ pub enum ErrorKind {
     AlgebraicInitialCondition = 17,
 }
 
-// An error that a test finds: its kind, its span, and a name plus 1 or 0, as the list has it: the words that names come
-// from, of nodes and of variables, have them so too.
+// An error that a test finds: its kind, its span, and a name plus 1, or 0 for none, as the list has it and as a
+// keyword's word in a node and a variable's name have it. A span goes as its two words, as records have it: a type
+// for it would want a reader with a contract for each kind of records, which is longer than what it saves.
 #[derive(Clone, Copy, Debug, PartialEq, Eq)]
 pub struct Found {
     pub kind: ErrorKind,
@@ -44,6 +45,7 @@ pub struct Found {
 
 // The list of errors, apart from the area until it is whole: all are counted, the first 256 are listed, four words
 // each: kind, span, name plus 1 or 0.
+// As bytes, since they go into the area by one copy; the count goes on beyond those that are listed.
 #[derive(Drop)]
 pub struct Errors {
     pub bytes: [u8; ERRORS_BYTES],
@@ -53,8 +55,7 @@ pub struct Errors {
 impl Errors {
     ghost use Rattle.std.specs.Prelude.{◌≡◌, [], ◌∷◌, ◌*◌, ◌^◌, min, ◌≤◌, ◌<◌, length};
     ghost use Rattle.definitions.specs.Numbers.{most_listed, error_length};
-    ghost use Rattle.definitions.specs.Variables.{error};
-    ghost use Rattle.area.specs.Listing.{spanned, list_length, Listed, kind_number, found_as};
+    ghost use Rattle.area.specs.Listing.{list_length, Listed, error_as, found_as};
 
     // None.
     pub fn new() -> Errors
@@ -70,8 +71,7 @@ impl Errors {
     // Lists an error behind the others.
     pub fn put(&mut self, e: Found)
         requires { self.old.count < 2 ^ 40 }
-        ensures { Listed self.old (error (kind_number e.kind) (spanned e.from e.to) e.name ∷ [])
-            self.new }
+        ensures { Listed self.old (error_as e ∷ []) self.new }
     {
         let before = self.count;
         self.count += 1;
@@ -83,7 +83,7 @@ impl Errors {
         put_record(&mut bytes[at..], &[e.kind as u32, e.from, e.to, e.name]);
     }
 
-    // Lists what is found behind the others.
+    // Lists what is found behind the others. Both arms stand here, as the definition has them (`found_as`).
     pub fn list(&mut self, found: Option<Found>)
         requires { self.old.count < 2 ^ 40 }
         ensures { Listed self.old (found_as found) self.new }
@@ -94,7 +94,8 @@ impl Errors {
         }
     }
 
-    // The bytes of those that are listed.
+    // How many bytes those take that are listed.
+    // A length and no slice: the answer's end is reckoned by it too.
     pub fn length(&self) -> usize
         ensures { (result ≡ 4 * error_length * min self.now.count most_listed)
             × (result ≤ list_length) }

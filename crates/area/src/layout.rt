@@ -8,6 +8,7 @@ pub const MOST_VARS: usize = 129;
 
 pub const MOST_LISTED: usize = 256;
 
+// The header and each section at its most, as the number that users lend.
 pub const MOST_BYTES: usize = 55384;
 
 // The greatest kind of error that exists: a bound of a word that is tested, and no kind.
@@ -25,16 +26,16 @@ pub const DEP_WORDS: usize = 1;
 pub const ERROR_WORDS: usize = 4;
 
 // The same in bytes.
-pub const HEADER_BYTES: usize = 40;
+pub const HEADER_BYTES: usize = 4 * HEADER_WORDS;
 
-pub const STMT_BYTES: usize = 32;
+pub const STMT_BYTES: usize = 4 * STMT_WORDS;
 
-pub const VAR_BYTES: usize = 48;
+pub const VAR_BYTES: usize = 4 * VAR_WORDS;
 
-pub const ERROR_BYTES: usize = 16;
+pub const ERROR_BYTES: usize = 4 * ERROR_WORDS;
 
 // All errors that are listed.
-pub const ERRORS_BYTES: usize = 4096;
+pub const ERRORS_BYTES: usize = ERROR_BYTES * MOST_LISTED;
 
 // The words of the header that count records.
 pub const HEADER_NODES: usize = 0;
@@ -55,6 +56,7 @@ pub const STMT_FATE: usize = 6;
 pub const STMT_VARIABLE: usize = 7;
 
 // The words of a variable's record in front of its bounds.
+// A name, a time index and a held statement are plus 1, or 0 for none, as C reads the record.
 pub const VAR_NAME: usize = 0;
 
 pub const VAR_STATE: usize = 1;
@@ -114,30 +116,22 @@ impl TryFrom<u32> for Fate {
 }
 
 // Words and their bytes: a bound is a float of two words.
-pub const WORD: usize = 4294967296;
-
 pub const WORD_BYTES: usize = 4;
 
 pub const FLOAT_BYTES: usize = 8;
 
 // Bytes within the header: the counts of nodes, statements and errors, and time's bounds.
-pub const NODES_AT: usize = 0;
+pub const NODES_AT: usize = 4 * HEADER_NODES;
 
-pub const STMTS_AT: usize = 4;
+pub const STMTS_AT: usize = 4 * HEADER_STMTS;
 
-pub const ERRORS_AT: usize = 16;
+pub const ERRORS_AT: usize = 4 * HEADER_ERRORS;
 
 pub const TIME_AT: usize = 24;
 
 // Bytes within a record: the fate and its variable in a statement's, the bounds in a variable's.
-pub const FATE_AT: usize = 24;
+pub const FATE_AT: usize = 4 * STMT_FATE;
 
-pub const VARIABLE_AT: usize = 28;
+pub const VARIABLE_AT: usize = 4 * STMT_VARIABLE;
 
 pub const BOUNDS_AT: usize = 32;
-
-// The refusal of an area that is shorter than the answer. It is the area's only one: an enum of one case is no plainer.
-pub const SHORT_AREA: u32 = 1;
-
-// The weight of the bytes used in what a build tells: they stand in the high 32 bits.
-pub const HIGH: u64 = 4294967296;

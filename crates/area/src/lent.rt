@@ -1,17 +1,16 @@
-// The lent area: an answer's bytes with zeros behind them, or zeros only. Where a function is one call of the library, its
-// contract says it in the definitions' words, by which callers go on.
-ghost use Rattle.std.specs.Prelude.{◌≡◌, ◌++◌, ◌+◌, ◌-◌, ◌*◌, ◌^◌, min, ◌≤◌, ◌<◌, length, take, replicate};
+// The lent area: an answer's bytes with zeros behind them, or zeros only. Where a function is one call of the
+// library, its contract says it in the definitions' words, by which callers go on.
+ghost use Rattle.std.specs.Prelude.{◌≡◌, ◌++◌, ◌+◌, ◌-◌, ◌*◌, min, ◌≤◌, ◌<◌, length, take, replicate};
 ghost use Rattle.ast.specs.Bytes.{front, put};
 ghost use Rattle.definitions.specs.Numbers.{most_listed, error_length};
-ghost use Rattle.definitions.specs.Build.{refusal, fitted, told, result_area};
 ghost use Rattle.area.specs.Sections.{Small, errors_at};
 ghost use Rattle.area.specs.Listing.{list_length};
 
 use super::errors::Errors;
-use super::layout::{HIGH, SHORT_AREA};
 use super::sections::{Sizes, errors_at};
 
 // Zeros from a place to the end; nothing where the place is beyond it.
+// A test, since no slice begins beyond the end; `get_mut` and a match on it are no plainer.
 pub fn clear(area: &mut [u8], from: usize)
     ensures { area.new ≡ take from area.old ++ replicate
         (length area.old - from) 0 }
@@ -22,6 +21,7 @@ pub fn clear(area: &mut [u8], from: usize)
 }
 
 // The first n bytes of an answer at the front of the area.
+// A length beside the bytes: callers hold a longer buffer, and the contract speaks of its first n bytes.
 pub fn copy(own: &[u8], n: usize, area: &mut [u8])
     requires { (n ≤ length own.now)
         × (n ≤ length area.old) }
@@ -39,29 +39,4 @@ pub fn put_errors(area: &mut [u8], z: Sizes, errors: &Errors)
 {
     let at = errors_at(z);
     copy(&errors.bytes, errors.length(), &mut area[at..]);
-}
-
-// Refused: the number, and the whole area zero.
-pub fn refuse(area: &mut [u8], number: u32) -> u64
-    ensures { (result ≡ told (refusal number))
-        × (area.new ≡ result_area (length area.old) (refusal number)) }
-{
-    clear(area, 0);
-    number as u64
-}
-
-// The first `used` bytes of an answer, where the area is long enough; else refusal 1.
-pub fn hand_out(own: &[u8], used: usize, area: &mut [u8]) -> u64
-    requires { (used ≤ length own.now)
-        × (used < 2 ^ 32) }
-    ensures { (result ≡ told (fitted (length area.old) (take used own.now)))
-        × (area.new ≡ result_area (length area.old)
-        (fitted (length area.old) (take used own.now))) }
-{
-    if area.len() < used {
-        return refuse(area, SHORT_AREA);
-    }
-    copy(own, used, area);
-    clear(area, used);
-    HIGH * (used as u64)
 }

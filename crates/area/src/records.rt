@@ -5,7 +5,7 @@ ghost use Rattle.std.specs.Prelude.{◌≤◌, ◌<◌, length};
 ghost use Rattle.definitions.specs.Numbers.{variable_length};
 ghost use Rattle.area.specs.Sections.{Small, deps_at, area_vars, with_word, VarsAre};
 
-use super::layout::{HEADER_BYTES, STMT_WORDS, VAR_BYTES, VAR_WORDS, WORD_BYTES};
+use super::layout::{Fate, HEADER_BYTES, STMT_FATE, STMT_WORDS, VAR_BYTES, VAR_WORDS, WORD_BYTES};
 use super::sections::{Sizes, stmts_at, vars_at};
 use ast::kinds::{NodeKind, StmtKind};
 use ast::layout::{NODE_KIND, NODE_WORDS, STMT_KIND};
@@ -14,6 +14,8 @@ use ast::sections::record_word;
 use ast::words::put_word;
 
 // An answer's area as it is read: its bytes, and how many records each section has.
+// It has no fact of its own: who reads nodes asks less than who reads statements, and these less than who reads
+// variables, so a fact of the type would ask more of some.
 #[derive(Clone, Copy)]
 pub struct Area<'a> {
     pub bytes: &'a [u8],
@@ -25,7 +27,8 @@ impl Area<'_> {
     ghost use Rattle.ast.specs.Words.{word_of, float_from};
     ghost use Rattle.ast.specs.Nodes.{node_at, kind_at};
     ghost use Rattle.ast.specs.Kinds.{node_number, stmt_number};
-    ghost use Rattle.area.specs.Fields.{stmt_kind};
+    ghost use Rattle.area.specs.Fields.{stmt_kind, stmt_fate};
+    ghost use Rattle.area.specs.Fates.{fate_number};
     ghost use Rattle.definitions.specs.Numbers.{node_length, stmt_length};
     ghost use Rattle.area.specs.Sections.{nodes_end, vars_at, column};
     ghost use Rattle.area.specs.Views.{nodes_seen, stmt_seen, vars_seen};
@@ -51,6 +54,7 @@ impl Area<'_> {
     }
 
     // Whether node i is of a kind.
+    // By the kind's number, as `NodeView::is`, and not by that method: a view would have to be made at each call.
     pub fn is_node(&self, i: usize, kind: NodeKind) -> bool
         requires { (nodes_end self.now.sizes.nodes ≤ length self.now.bytes.now)
             × (i < self.now.sizes.nodes) }
@@ -69,7 +73,7 @@ impl Area<'_> {
         record_bits(self.bytes, HEADER_BYTES, NODE_WORDS, self.sizes.nodes, i, k)
     }
 
-    // Word k of statement i: as it stands, and as an index.
+    // Word k of statement i: as it stands, to go on into a record; and (`stmt`) as an index or to be compared.
     pub fn stmt_word(&self, i: usize, k: usize) -> u32
         requires { Small self.now.sizes
             × (vars_at self.now.sizes ≤ length self.now.bytes.now)
@@ -93,6 +97,7 @@ impl Area<'_> {
     }
 
     // Whether statement i is of a kind.
+    // By the kind's number, as `is_node`.
     pub fn is_stmt(&self, i: usize, kind: StmtKind) -> bool
         requires { Small self.now.sizes
             × (vars_at self.now.sizes ≤ length self.now.bytes.now)
@@ -102,7 +107,18 @@ impl Area<'_> {
         self.stmt(i, STMT_KIND) == kind as usize
     }
 
+    // Whether statement i is of a fate.
+    pub fn is_fated(&self, i: usize, fate: Fate) -> bool
+        requires { Small self.now.sizes
+            × (vars_at self.now.sizes ≤ length self.now.bytes.now)
+            × (i < self.now.sizes.stmts) }
+        ensures { result ≡ eqb (word_of (stmt_seen self.now i) stmt_fate) (fate_number fate) }
+    {
+        self.stmt(i, STMT_FATE) == fate as usize
+    }
+
     // Word k of variable v.
+    // A flag among these words is 0 or 1, as C reads it.
     pub fn var(&self, v: usize, k: usize) -> u32
         requires { Small self.now.sizes
             × (deps_at self.now.sizes ≤ length self.now.bytes.now)
@@ -115,8 +131,8 @@ impl Area<'_> {
     }
 }
 
-// Writes word k of variable v. Who writes has the bytes and the sizes apart: the sizes grow while variables are listed, and
-// a contract equates the bytes before and after, which a struct that holds them lent would hide.
+// Writes word k of variable v. Who writes has the bytes and the sizes apart: the sizes grow while variables are
+// listed, and a contract equates the bytes before and after, which a struct that holds them lent would hide.
 pub fn put_var(area: &mut [u8], z: Sizes, v: usize, k: usize, word: u32)
     requires { Small z
         × (deps_at z ≤ length area.old)

@@ -9,8 +9,8 @@ ghost use Rattle.area.specs.Sections.{Small, nodes_end, stmts_at, vars_at, deps_
 use super::layout::{HEADER_BYTES, STMT_BYTES, VAR_BYTES};
 use ast::layout::{DEP_BYTES, NODE_BYTES};
 
-// That no count is over its most stays a clause (`Small`) where it is asked for: as a fact of the type it would be asked of
-// those who only read nodes, too.
+// That no count is over its most stays a clause (`Small`) where it is asked for: as a fact of the type it would be
+// asked of those who only read nodes, too.
 #[derive(Clone, Copy)]
 pub struct Sizes {
     pub nodes: usize,
@@ -20,6 +20,7 @@ pub struct Sizes {
 }
 
 // Behind n nodes.
+// `keeping` reckons these places once more (`sections_in`), since its definition takes the lengths from a layout.
 pub fn nodes_end(n: usize) -> usize
     requires { n ≤ most_nodes }
     ensures { result ≡ nodes_end n }

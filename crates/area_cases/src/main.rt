@@ -24,6 +24,7 @@ fn main(rt: HostRuntime) -> io::Result<()> {
         } else {
             broken = broken.saturating_add(1);
         }
+        // A case has words only: 1 where the layout is kept.
         Some(keeps == (recorded == 1))
     });
     println!(rt; "areas {cases} kept {kept} broken {broken} wrong {wrong}")

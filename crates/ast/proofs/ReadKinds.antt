@@ -1,5 +1,6 @@
 -- What a word says as a kind: its number, or, where it is no kind's, that each test of the layout answers false.
-use Rattle.std.specs.Prelude.{ℕ, ◌≡◌, true, false, ◌&&◌, ◌<◌, [], leb, List, Ok, Err, get_or}
+use Rattle.std.specs.Prelude.{ℕ, ◌≡◌, Bool, true, false, not, eqb, ◌&&◌, ◌<◌, [], leb, List, Result, Ok, Err, get_or}
+use Rattle.std.specs.Result.{is_ok, MatchResult}
 use native.Mathlib.Omega.{arith}
 use Rattle.std.proofs.lemmas.Bool.{false≢true}
 use mathlib.Core.Path.{refl, ap, ◌∙◌}
@@ -41,9 +42,24 @@ pub no_sign : {w : ℕ} → ((k : Sign) → w ≡ sign_number k → ⊥) → fal
 unfolding is_sign
 no_sign none = rw (ne_eqb _ _ (none Plus), ne_eqb _ _ (none Minus)) refl
 
-pub no_op : {w : ℕ} → ((k : Sign) → w ≡ sign_number k → ⊥) → false ≡ is_op w
-unfolding is_op is_sign
-no_op none = rw (ne_eqb _ _ (none Plus), ne_eqb _ _ (none Minus), ne_eqb _ _ (none Times), ne_eqb _ _ (none Divided)) refl
+-- an expression's kind is any but an argument's
+pub expr_says : (w : ℕ) (r : Result NodeKind NoKind) (b : Bool) → ReadAs node_number w r → {P : NodeKind → Type 0} → MatchResult r P (λ _. b ≡ false) → ((k : NodeKind) → P k → b ≡ not (eqb (node_number k) 6)) → b ≡ (leb 1 w && leb w 5)
+unfolding ReadAs
+expr_says w (Ok Argument) b e p says = rw (e, says Argument p) refl
+expr_says w (Ok Name) b e p says = rw (e, says Name p) refl
+expr_says w (Ok Number) b e p says = rw (e, says Number p) refl
+expr_says w (Ok Binary) b e p says = rw (e, says Binary p) refl
+expr_says w (Ok Unary) b e p says = rw (e, says Unary p) refl
+expr_says w (Ok Call) b e p says = rw (e, says Call p) refl
+expr_says w (Err x) b none p says = p ∙ no_expr none
+
+pub op_read : (w : ℕ) (r : Result Sign NoKind) → ReadAs sign_number w r → is_ok r ≡ is_op w
+unfolding ReadAs is_op is_sign
+op_read w (Ok Times) e = rw e refl
+op_read w (Ok Plus) e = rw e refl
+op_read w (Ok Minus) e = rw e refl
+op_read w (Ok Divided) e = rw e refl
+op_read w (Err x) none = rw (ne_eqb _ _ (none Plus), ne_eqb _ _ (none Minus), ne_eqb _ _ (none Times), ne_eqb _ _ (none Divided)) refl
 
 pub no_stmt : (names count : ℕ) (ns : List (List ℕ)) (first : ℕ) (r : List ℕ) → ((k : StmtKind) → kind_of_stmt r ≡ stmt_number k → ⊥) → false ≡ stmt_kind_fits names count ns first r
 unfolding stmt_kind_fits

@@ -41,8 +41,8 @@ pub enum Sign {
     Divided = 47,
 }
 
-// These conversions are alike but for their cases: an impl that a macro writes is not allowed here, and a table would be
-// searched where a match is one step.
+// These conversions are alike but for their cases: an impl that a macro writes is not allowed here, and a table
+// would be searched where a match is one step.
 impl TryFrom<usize> for NodeKind {
     ghost use Rattle.ast.specs.Kinds.{ReadAs, node_number};
 

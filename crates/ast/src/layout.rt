@@ -1,6 +1,6 @@
 // The numbers of a tree file: its form, its mosts, the lengths of its records, and the word of each field.
-// `FileNumbers` has them for the definitions. A record's words go by number: the format is words, and one is asked for at
-// a time, where a struct would be read whole.
+// `FileNumbers` has them for the definitions. A record's words go by number: the format is words, and one is asked
+// for at a time, where a struct would be read whole.
 pub const FORM: usize = 1;
 
 // The mosts; that of the text in bytes.
@@ -29,20 +29,22 @@ pub const STMT_WORDS: usize = 6;
 
 pub const MODEL_WORDS: usize = 7;
 
-// The same in bytes.
-pub const NAME_BYTES: usize = 8;
+pub const TRAILER_WORDS: usize = 8;
 
-pub const NODE_BYTES: usize = 32;
+// The same in bytes.
+pub const NAME_BYTES: usize = 4 * NAME_WORDS;
+
+pub const NODE_BYTES: usize = 4 * NODE_WORDS;
 
 pub const DEP_BYTES: usize = 4;
 
-pub const UNKNOWN_BYTES: usize = 40;
+pub const UNKNOWN_BYTES: usize = 4 * UNKNOWN_WORDS;
 
-pub const STMT_BYTES: usize = 24;
+pub const STMT_BYTES: usize = 4 * STMT_WORDS;
 
-pub const MODEL_BYTES: usize = 28;
+pub const MODEL_BYTES: usize = 4 * MODEL_WORDS;
 
-pub const TRAILER_BYTES: usize = 32;
+pub const TRAILER_BYTES: usize = 4 * TRAILER_WORDS;
 
 // The words of a name: where it begins in the text, and its length.
 pub const NAME_START: usize = 0;
@@ -132,5 +134,5 @@ pub const TRAILER_MODELS: usize = 6;
 
 pub const TRAILER_FORM: usize = 7;
 
-// Both words of a missing span.
+// Both words of a missing span: a file has words only.
 pub const MISSING: u64 = 4294967295;

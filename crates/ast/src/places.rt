@@ -8,6 +8,8 @@ use super::kinds::{NoKind, NodeKind};
 use super::layout::{NAME_WORDS, NODE_KIND, NODE_WORDS};
 use super::sections::{Nodes, Records, record_word};
 
+// Nodes by place with the bytes that they lie in. They are apart from `Section`, since they are a file's or an area's.
+// A word comes as it stands, to be written again, or as an index.
 #[derive(Clone, Copy)]
 pub struct NodeView<'a> {
     pub bytes: &'a [u8],
@@ -15,6 +17,8 @@ pub struct NodeView<'a> {
     pub ghost lie: { NodesLie nodes bytes.now },
 }
 
+// Records by place with the bytes that they lie in. The width is a field, where `Section` has it in its type: one
+// test (`stmt_fits`) serves a file's statements and an area's, which have words behind those of the file.
 #[derive(Clone, Copy)]
 pub struct RecordView<'a> {
     pub bytes: &'a [u8],
@@ -23,6 +27,7 @@ pub struct RecordView<'a> {
 }
 
 // A section of a file: `count` records of WIDTH words from byte `at` on.
+// Whole bytes and a start, as the definition has it (`section`), whose places are the file's.
 #[derive(Clone, Copy)]
 pub struct Section<'a, const WIDTH: usize> {
     pub bytes: &'a [u8],
@@ -32,6 +37,7 @@ pub struct Section<'a, const WIDTH: usize> {
 }
 
 // Names that pass, in a text of the first `size` bytes.
+// The text is the front of the same bytes, so its length says it.
 #[derive(Clone, Copy)]
 pub struct Names<'a> {
     pub section: Section<'a, NAME_WORDS>,
@@ -73,6 +79,7 @@ impl NodeView<'_> {
     }
 
     // Whether node i is of a kind.
+    // One comparison with the kind's number: reading the kind and comparing that is two steps, and no plainer.
     pub fn is(&self, i: usize, kind: NodeKind) -> bool
         requires { i < self.now.nodes.count }
         ensures { result ≡ eqb (kind_at (nodes_seen self.now) i) (node_number kind) }

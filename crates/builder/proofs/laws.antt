@@ -39,6 +39,7 @@ pub mod Recording
 pub mod Writing
 pub mod Domains
 pub mod BoundLaws
+pub mod KindWords
 pub mod FateCases
 pub mod FateLaws
 pub mod HeldSteps

@@ -15,7 +15,7 @@ use Rattle.definitions.specs.Numbers.{most_names, most_models, call_kind, name_n
 use Rattle.definitions.specs.Variables.{Error, error}
 use Rattle.definitions.specs.Check.{Scope, lookup, dep_names, dependent_errors, variable_errors, call_errors}
 use Rattle.definitions.specs.Flatten.{model_at, scope_of, stmt_errors, errors_of}
-use Rattle.builder.specs.Tables.{Classes, Rules, Callees, VarsOf}
+use Rattle.builder.specs.Tables.{Classes, Rules, VarsOf}
 use Rattle.builder.specs.declared.names.Class.{Class}
 use Rattle.builder.specs.declared.errors.check.Run.{Run}
 

@@ -1,5 +1,5 @@
 -- Which variables reach t, by the records of an area's variables and the dependents behind them.
-use Rattle.std.specs.Prelude.{ℕ, suc, ◌+◌, ◌*◌, ◌≤◌, ◌<◌, ◌≡◌, Bool, true, ◌||◌, List, [], ◌∷◌, eqb, ltb, length, take, drop, get_or, set}
+use Rattle.std.specs.Prelude.{ℕ, suc, ◌+◌, ◌*◌, ◌≤◌, ◌<◌, ◌≡◌, Bool, true, false, ◌||◌, List, [], ◌∷◌, eqb, ltb, length, take, drop, get_or, set}
 use Rattle.functions.specs.Lists.{any, all, reaches, flag}
 use Rattle.ast.specs.Words.{words}
 use Rattle.area.specs.Fields.{var_first_dep, var_deps, var_timed}
@@ -30,9 +30,9 @@ pub record DepsIn (z : Sizes) (b : List ℕ) : Type 0 where
   pub within : (v : ℕ) → v < z.vars → get_or (column var_first_dep (area_vars b z)) v 0 + get_or (column var_deps (area_vars b z)) v 0 ≤ z.deps
   pub below : (v : ℕ) → v < z.vars → all (λ d. ltb d z.vars) (deps_in b z v) ≡ true
 
--- The next round of marks: 1 for t and for each variable from which a step leads to one that is marked.
-pub record Round (z : Sizes) (b new : List ℕ) : Type 0 where
-  pub mark : (v : ℕ) → v < z.vars → get_or new v 0 ≡ flag (eqb v 0 || any (leads (marks_in b z)) (deps_in b z v))
+-- The next round of marks: t, and each variable from which a step leads to one that is marked.
+pub record Round (z : Sizes) (b : List ℕ) (new : List Bool) : Type 0 where
+  pub mark : (v : ℕ) → v < z.vars → get_or new v false ≡ (eqb v 0 || any (leads (marks_in b z)) (deps_in b z v))
 
 -- Records from number v on with the marks of time-dependence, word 7, that a test gives.
 unfoldable pub timed_from : (ℕ → Bool) → ℕ → List (List ℕ) → List (List ℕ)

@@ -29,9 +29,10 @@ use Rattle.builder.specs.Starting.{starting_in, Righted}
 use Rattle.builder.specs.Descent.{RowsAt}
 use Rattle.area.specs.declared.sections.Sizes.{Sizes}
 use Rattle.std.specs.Prelude as std
-use Rattle.std.specs.Prelude.{Ok, Err}
+use Rattle.std.specs.Prelude.{Ok, Err, IfOk}
 use Rattle.builder.specs.declared.refusal.Refusal.{Refusal}
-use Rattle.builder.specs.Refusals.{number_of}
+use Rattle.builder.specs.declared.refusal.Refused.{Refused}
+use Rattle.builder.specs.Refusals.{number_of, refused_number}
 use Rattle.builder.specs.declared.extent.measure.Extent.{Extent}
 
 -- The numbers of instances, flattened statements and flattened nodes.
@@ -233,3 +234,24 @@ bytes_in (accepted a) = accepted (answer_bytes a)
 unfoldable pub fitted_in : ℕ → Result (List ℕ) → Result (List ℕ)
 fitted_in room (refusal n) = refusal n
 fitted_in room (accepted b) = fitted room b
+
+-- ---- what a build answers
+
+-- in the area's first bytes
+unfoldable pub written_as : std.Result ℕ Refused → List ℕ → Result (List ℕ)
+written_as (Err r) b = refusal (refused_number r)
+written_as (Ok n) b = accepted (take n b)
+
+-- A build's answer `due` at the front of the area b, whatever is behind it.
+pub record Stands (due : Result (List ℕ)) (r : std.Result ℕ Refused) (b : List ℕ) : Type 0 where
+  pub says : written_as r b ≡ due
+  pub within : IfOk r (λ n. (n ≤ length b) × (n ≤ most_bytes))
+
+-- by its length alone
+unfoldable pub said_as : std.Result ℕ Refused → Result ℕ
+said_as (Err r) = refusal (refused_number r)
+said_as (Ok n) = accepted n
+
+unfoldable pub said : Result (List ℕ) → Result ℕ
+said (refusal n) = refusal n
+said (accepted b) = accepted (length b)

@@ -6,7 +6,7 @@ use Rattle.functions.specs.declared.Rule.{Rule}
 use Rattle.functions.specs.Rules.{rule_of}
 use Rattle.ast.specs.Tree.{Stmt, own, submodel, File}
 use Rattle.ast.specs.Records.{stmt_of}
-use Rattle.ast.specs.Opens.{Open, contents_in, file_in}
+use Rattle.ast.specs.Opens.{contents_in, file_in}
 use Rattle.ast.specs.declared.sections.Sections.{Sections}
 use Rattle.definitions.specs.Numbers.{most_names, most_models}
 use Rattle.definitions.specs.Names.{text_of, reserved, built_ins}

@@ -85,6 +85,7 @@ fn answer_laid(
 }
 
 // The answer of model m, of this extent, and the bytes used.
+// Numbers stand beside `Root`: they are a table and lent, and a root is copied.
 pub fn fill(
     source: &Source,
     rows: &mut [u16],

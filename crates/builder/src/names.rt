@@ -9,7 +9,7 @@ ghost use Rattle.builder.specs.Tables.{reserved_class, Classes, Rules};
 ghost use Rattle.builder.specs.Starting.{place_as};
 
 use crate::source::Source;
-use ast::layout::{MOST_NAMES, NAME_LENGTH, NAME_START};
+use ast::layout::MOST_NAMES;
 use ast::view::View;
 use functions::{RULES, Rule, value_of};
 
@@ -31,7 +31,8 @@ pub enum Class {
 }
 
 // The class of each text that decides something.
-const DECIDING: [(&[u8], Class); 18] = [
+// A table of pairs, as the rules are.
+pub const DECIDING: [(&[u8], Class); 18] = [
     (b"t", Class::Time),
     (b"u", Class::Reserved),
     (b"dudt", Class::Reserved),
@@ -60,17 +61,8 @@ pub fn is_reserved(class: Class) -> bool
     matches!(class, Class::Time | Class::Reserved)
 }
 
-// The text of name n.
-pub fn name_text<'a>(file: &View<'a>, n: usize) -> &'a [u8]
-    requires { n < file.now.sections.counts.names }
-    ensures { result.now ≡ text_of (file_seen file.now).names n }
-{
-    let from = file.name(n, NAME_START);
-    let to = from + file.name(n, NAME_LENGTH);
-    &file.bytes[from..to]
-}
-
 // What stands beside each name in a table of names, or another where the table has not the name.
+// By number: a name's text is asked for by it.
 fn by_name<T: Copy>(file: &View, table: &[(&[u8], T)], other: T) -> [T; MOST_NAMES]
     ensures { (length result ≡ most_names)
         × ((n : ℕ) → n < file.now.sections.counts.names
@@ -78,12 +70,13 @@ fn by_name<T: Copy>(file: &View, table: &[(&[u8], T)], other: T) -> [T; MOST_NAM
 {
     let mut out = [other; MOST_NAMES];
     for n in 0..file.sections.counts.names {
-        out[n] = value_of(name_text(file, n), table, other);
+        out[n] = value_of(file.text(n), table, other);
     }
     out
 }
 
 // The class of each name.
+// Rules and classes are two tables, since the rules are worked out only where errors are listed.
 pub fn classes(file: &View) -> [Class; MOST_NAMES]
     ensures { Classes (file_seen file.now).names result }
 {

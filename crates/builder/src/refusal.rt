@@ -1,7 +1,7 @@
-// Why a model is not built.
+// Why a model is not built, and why a build gives no answer.
 ghost use Rattle.std.specs.Prelude.{◌≡◌};
 
-use ast::kinds::NoKind;
+use ast::open;
 
 // The refusals by the number that the caller is told.
 #[derive(Clone, Copy, Debug, PartialEq, Eq)]
@@ -17,6 +17,7 @@ pub enum Refusal {
 impl Refusal {
     ghost use Rattle.builder.specs.Refusals.{number_of};
 
+    // As that of a file's refusal.
     pub fn number(self) -> u32
         ensures { result ≡ number_of self }
     {
@@ -24,24 +25,48 @@ impl Refusal {
     }
 }
 
-impl TryFrom<u32> for Refusal {
-    ghost use Rattle.ast.specs.Kinds.{ReadAs};
-    ghost use Rattle.builder.specs.Refusals.{number_of};
+// The refusal of an area that is shorter than the answer.
+const SHORT_AREA: u32 = 1;
 
-    type Error = NoKind;
+// Why a build gives no answer: the area is shorter than it, the file is refused, or the model.
+#[derive(Clone, Copy, Debug, PartialEq, Eq)]
+pub enum Refused {
+    ShortArea,
+    File(open::Refusal),
+    Model(Refusal),
+}
 
-    ghost try_from_gives = { λ number r. ReadAs number_of number r };
+impl Refused {
+    ghost use Rattle.builder.specs.Refusals.{refused_number};
 
-    #[tactic(auto, unfolding(ast::specs::Kinds::ReadAs))]
-    fn try_from(number: u32) -> Result<Refusal, NoKind> {
-        match number {
-            5 => Ok(Refusal::NoRoot),
-            6 => Ok(Refusal::ModelCycle),
-            7 => Ok(Refusal::SelfListedUnknown),
-            8 => Ok(Refusal::ArgumentBeyond),
-            9 => Ok(Refusal::OverMost),
-            10 => Ok(Refusal::ShortLeftSide),
-            _ => Err(NoKind),
+    // The number that the caller is told.
+    pub fn number(self) -> u32
+        ensures { result ≡ refused_number self }
+    {
+        match self {
+            Refused::ShortArea => SHORT_AREA,
+            Refused::File(refusal) => refusal.number(),
+            Refused::Model(refusal) => refusal.number(),
         }
+    }
+}
+
+impl From<open::Refusal> for Refused {
+    ghost use Rattle.builder.specs.declared.refusal.Refused.TheVariants.{File};
+
+    ghost from_gives = { λ refusal refused. refused ≡ File refusal };
+
+    fn from(refusal: open::Refusal) -> Refused {
+        Refused::File(refusal)
+    }
+}
+
+impl From<Refusal> for Refused {
+    ghost use Rattle.builder.specs.declared.refusal.Refused.TheVariants.{Model};
+
+    ghost from_gives = { λ refusal refused. refused ≡ Model refusal };
+
+    fn from(refusal: Refusal) -> Refused {
+        Refused::Model(refusal)
     }
 }

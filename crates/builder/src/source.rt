@@ -9,8 +9,8 @@ use crate::names::{Class, classes};
 use ast::layout::{MOST_NAMES, MOST_STMTS};
 use ast::view::View;
 
-// The file, the class of each name, and of each statement the number, plus 1, of the model that it calls, or 0: an Option
-// in each entry would make a table twice as long on the stack of a build, which has no heap.
+// The file, the class of each name, and of each statement the number, plus 1, of the model that it calls, or 0: an
+// Option in each entry would make a table twice as long on the stack of a build, which has no heap.
 #[derive(Drop)]
 pub struct Source<'a> {
     pub file: View<'a>,
@@ -45,10 +45,6 @@ impl<'a> Source<'a> {
         ensures { place_as result ≡ called_by (file_seen self.now.file)
             (stmt_in self.now.file.bytes.now self.now.file.sections q) }
     {
-        let c = usize::from(self.callees[q]);
-        if c == 0 {
-            return None;
-        }
-        Some(c - 1)
+        usize::from(self.callees[q]).checked_sub(1)
     }
 }

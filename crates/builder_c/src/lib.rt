@@ -5,6 +5,9 @@ ghost use Rattle.std.specs.Prelude.{◌≡◌, length};
 ghost use Rattle.definitions.specs.Build as definition;
 ghost use Rattle.definitions.specs.Build.{told, result_area};
 
+// The weight of the bytes used, which stand in the high 32 bits.
+const HIGH: u64 = 4294967296;
+
 // The number in the low 32 bits, 0 or a refusal's, and the bytes used in the high ones.
 #[unsafe(no_mangle)]
 pub extern "C" fn build(file: &[u8], root: &[u8], area: &mut [u8]) -> u64
@@ -12,5 +15,8 @@ pub extern "C" fn build(file: &[u8], root: &[u8], area: &mut [u8]) -> u64
         × (area.new ≡ result_area (length area.old)
         (definition.build file.now root.now (length area.old))) }
 {
-    builder::build::build(file, root, area)
+    match builder::build::build(file, root, area) {
+        Ok(used) => HIGH * used as u64,
+        Err(refused) => refused.number() as u64,
+    }
 }

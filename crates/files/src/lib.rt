@@ -10,6 +10,7 @@ use std::io;
 use std::io::Read;
 
 // Reads until the buffer is full or the file ends, and gives how many bytes it put at the buffer's start.
+// A length and no slice: a short one says that the file ended.
 pub fn read_full<R: Read>(file: &mut R, buffer: &mut [u8]) -> io::Result<usize>
     ensures bound { IfOk result (λ n. n ≤ length buffer.new) }
     ensures bytes { IfOk result (λ n.
@@ -28,6 +29,7 @@ pub fn read_full<R: Read>(file: &mut R, buffer: &mut [u8]) -> io::Result<usize>
 }
 
 // An error's text without the number that std has behind it.
+// A match, since its two cases are the contract's.
 fn words_of(said: &str) -> &str
     ensures { IsCut (codes " (os error ") said.now result.now }
 {

@@ -1,13 +1,13 @@
 -- The tests of an area's records in a loop's terms: the record at i, those behind it, and the end; and the tests of one record, case by case.
-use mathlib.Core.Path.{◌≡◌, refl, ap, ◌∙◌}
+use mathlib.Core.Path.{◌≡◌, refl, ap, ap₂, ◌∙◌}
 use mathlib.Core.List.{List, [], ◌∷◌}
-use mathlib.Core.Bool.{Bool, true, false, not, ◌&&◌, ◌||◌}
+use mathlib.Core.Bool.{Bool, true, not, ◌&&◌}
 use Prim.Native.Nat.{ℕ, zero, suc, ◌+◌, ◌≤◌, ◌<◌}
 use native.Mathlib.Omega.{arith}
 use borrow.Author.Tests.{leb-true, lt-ltb, ne_eqb}
-use lib.Dec.{eqb, ltb, leb}
-use lib.ListN.{drop, get_or}
-use Rattle.std.specs.List.{list_all}
+use lib.Dec.{eqb, leb}
+use lib.ListN.{length, drop, get_or}
+use Rattle.std.specs.List.{list_all, range_with_len}
 use Rattle.functions.specs.Lists.{all}
 use Rattle.functions.proofs.Lists.{and_both}
 use Rattle.ast.specs.Words.{section}
@@ -56,29 +56,19 @@ variable_next stmts deps first r h =
     let (_, l) = and_both (leb (name_of_variable r) most_names && leb (state_of r) 1 && leb (time_index_of r) (dep_count_of r) && eqb (first_dep_of r) first) _ h₃ in
     leb-true (first + dep_count_of r) deps l
 
-module _ (w n at : ℕ) (b : List ℕ) (i : ℕ) where
-  pub names_turn : i < n → names_differ (drop i (section w n at b))
-      ≡ (all (named_apart (name_of_variable (get_or (section w n at b) i []))) (drop (i + 1) (section w n at b)) && names_differ (drop (i + 1) (section w n at b)))
-  unfolding names_differ
-  names_turn h = ap names_differ (turn w n at b i h)
+-- each name apart from those behind it
+pub names_along : (t : ℕ → Bool) (a : ℕ) (rs : List (List ℕ)) → ((k : ℕ) → k < length rs → t (a + k) ≡ all (named_apart (name_of_variable (get_or rs k []))) (drop (suc k) rs)) → list_all t (range_with_len a (length rs)) ≡ names_differ rs
+unfolding names_differ
+names_along t a [] h = refl
+names_along t a (r ∷ rs) h =
+    let z : a + 0 ≡ a = omega arith in
+    ap₂ ◌&&◌ (rw z at (h 0 (omega arith))) (names_along t (a + 1) rs (λ k l. let e : a + 1 + k ≡ a + suc k = omega arith in ap t e ∙ h (suc k) (omega arith)))
 
-  pub names_done : n ≤ i → names_differ (drop i (section w n at b)) ≡ true
-  unfolding names_differ
-  names_done h = ap names_differ (done w n at b i h)
-
-apart_test : (name k : ℕ) → (ltb 0 k && not (eqb k name)) ≡ not (eqb k 0 || eqb k name)
-apart_test name zero = refl
-apart_test name (suc k) = simp (lt-ltb 0 (suc k) (omega arith), ne_eqb (suc k) 0 (λ e. omega arith))
-
--- What the code asks of a variable whose name plus 1 is k: it is not named, or it bears that name.
-module _ (name k : ℕ) (r : List ℕ) (is : k ≡ name_of_variable r) where
-  pub apart_no : (eqb k 0 || eqb k name) ≡ true → named_apart name r ≡ false
-  unfolding named_apart
-  apart_no h = rw (← is) (apart_test name k ∙ ap not h)
-
-  pub apart_yes : (eqb k 0 || eqb k name) ≡ false → named_apart name r ≡ true
-  unfolding named_apart
-  apart_yes h = rw (← is) (apart_test name k ∙ ap not h)
+-- What the code asks of a variable whose name plus 1 is k: it is named, and bears another name.
+pub apart_says : (name k : ℕ) (r : List ℕ) → k ≡ name_of_variable r → (not (eqb k 0) && not (eqb k name)) ≡ named_apart name r
+unfolding named_apart
+apart_says name zero r is = rw (← is) refl
+apart_says name (suc k) r is = rw (← is, lt-ltb 0 (suc k) (omega arith), ne_eqb (suc k) 0 (λ e. omega arith)) refl
 
 -- ---- zeros
 

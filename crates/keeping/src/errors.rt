@@ -22,14 +22,10 @@ fn error_fits(rs: &RecordView, i: usize, kinds: usize) -> bool
         & (rs.word(i, ERROR_NAME) <= MOST_NAMES)
 }
 
+// By a number: the greatest kind (`kinds`) is a parameter of the definition, too.
 pub fn errors_fit(rs: &RecordView, kinds: usize) -> bool
     requires { error_length ≤ rs.now.records.width }
     ensures { result ≡ all (error_fits kinds) (records_seen rs.now) }
 {
-    for i in 0..rs.records.count {
-        if !error_fits(rs, i, kinds) {
-            return false;
-        }
-    }
-    true
+    (0..rs.records.count).all(|i| error_fits(rs, i, kinds))
 }

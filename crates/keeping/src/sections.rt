@@ -27,6 +27,7 @@ pub struct Sections {
 }
 
 // Word k of the header.
+// That there is a header stays a clause: `keeps_layout` tests it once, before any of these is called.
 fn header_word(area: &[u8], k: usize) -> usize
     requires { (4 * header_length ≤ length area.now)
         × (k < header_length) }
@@ -57,6 +58,7 @@ fn listed(area: &[u8]) -> usize
 }
 
 // So many records of a width in words, from a byte on.
+// A function for its contract, of which that of the sections is made.
 fn by_place(at: usize, width: usize, count: usize) -> Records
     ensures { result ≡ placed at width count }
 {

@@ -11,6 +11,7 @@ use ast::places::{NodeView, RecordView};
 use ast::stmts::stmt_fits;
 
 // A fate is 1 to 4, of a variable that exists; 4, left over, has variable 0.
+// By numbers, as the definition's test is: the first and the last fate are its bounds.
 fn fate_fits(rs: &RecordView, i: usize, vars: usize) -> bool
     requires { (stmt_length ≤ rs.now.records.width)
         × (i < rs.now.records.count) }
@@ -25,6 +26,7 @@ fn fate_fits(rs: &RecordView, i: usize, vars: usize) -> bool
 }
 
 // A statement whose trees go on from node `first`, and that is no submodel statement.
+// The kind goes by its number, as in `NodeView::is`.
 fn row_fits(ns: &NodeView, rs: &RecordView, i: usize, vars: usize, first: usize) -> bool
     requires { (stmt_length ≤ rs.now.records.width)
         × (i < rs.now.records.count)
@@ -37,6 +39,7 @@ fn row_fits(ns: &NodeView, rs: &RecordView, i: usize, vars: usize, first: usize)
         & fate_fits(rs, i, vars)
 }
 
+// Where the next trees begin is a count beside the loop: only the statement before it tells.
 pub fn rows_fit(ns: &NodeView, rs: &RecordView, vars: usize) -> bool
     requires { stmt_length ≤ rs.now.records.width }
     ensures { result ≡ rows_fit ns.now.nodes.count (nodes_seen ns.now) vars 0

@@ -30,6 +30,7 @@ fn variable_fits(rs: &RecordView, i: usize, stmts: usize, deps: usize, first: us
         & (rs.word(i, VAR_TIMED) <= 1)
 }
 
+// Where the next run begins is a count beside the loop: only the variable before it tells.
 pub fn variables_fit(rs: &RecordView, stmts: usize, deps: usize) -> bool
     requires { (lead_length ≤ rs.now.records.width)
         × (deps < 2 ^ 32) }
@@ -51,24 +52,15 @@ fn named_apart(rs: &RecordView, from: usize, name: usize) -> bool
         × (from ≤ rs.now.records.count) }
     ensures { result ≡ all (named_apart name) (drop from (records_seen rs.now)) }
 {
-    for i in from..rs.records.count {
+    (from..rs.records.count).all(|i| {
         let other = rs.word(i, VAR_NAME);
-        if (other == 0) | (other == name) {
-            return false;
-        }
-    }
-    true
+        (other != 0) & (other != name)
+    })
 }
 
 pub fn names_differ(rs: &RecordView) -> bool
     requires { lead_length ≤ rs.now.records.width }
     ensures { result ≡ names_differ (records_seen rs.now) }
 {
-    for i in 0..rs.records.count {
-        let name = rs.word(i, VAR_NAME);
-        if !named_apart(rs, i + 1, name) {
-            return false;
-        }
-    }
-    true
+    (0..rs.records.count).all(|i| named_apart(rs, i + 1, rs.word(i, VAR_NAME)))
 }

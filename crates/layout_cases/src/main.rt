@@ -8,6 +8,7 @@ use cases::{judge, next_head, next_part};
 use std::io;
 
 // What opening a file answers: the refusal's number, or 0.
+// By number, as verdicts are recorded: read as a refusal, a word that is none's would pass for an opened file.
 fn number(refusal: Option<Refusal>) -> u32 {
     match refusal {
         Some(refusal) => refusal.number(),

@@ -2,8 +2,8 @@
 use keeping::zeros::all_zeros;
 use std::io::Read;
 
-// Whether all that is left of a file is zeros. A read that fails is none: a file that cannot be read counts as empty.
-// No file has as many pieces as are asked for.
+// Whether all that is left of a file is zeros; false where a read fails, since such a file counts as empty.
+// The `for` ends with the file: none has u64::MAX pieces.
 pub fn rest_is_zeros(file: &mut impl Read) -> bool {
     let mut piece = [0; 65536];
     for _ in 0..u64::MAX {

@@ -17,6 +17,7 @@ use std::{fs, io};
 
 // The name of a file, which is text since std opens no other. One that is missing, too long for a path or no UTF-8 text
 // is empty, and no file has that name.
+// Opening it fails as for a file that is not there, so no Option is asked for.
 fn name<'a>(rt: &impl Env, i: usize, buffer: &'a mut [u8]) -> &'a str {
     match rt.arg(i, buffer) {
         Ok(n) => str::from_utf8(&buffer[..n]).unwrap_or(""),

@@ -11,17 +11,18 @@ use area::layout::MOST_LISTED;
 use ast::places::RecordView;
 use files::failure;
 use keeping::sections::sections_in;
-use positions::{Entry, Place};
+use positions::Entry;
 use report::lines::put_lines;
 use report::starts::note_starts;
 use std::io;
 use std::rt::Files;
 
 // An entry for each error that can be listed.
+// An array of full length: all entries are there before the text is read, and those behind the errors are unused.
 fn table() -> [Entry; MOST_LISTED]
     ensures { most_listed ≡ length result }
 {
-    let place = Place::NOWHERE;
+    let place = None;
     [Entry { start: 0, place }; MOST_LISTED]
 }
 
@@ -50,6 +51,7 @@ fn lines_of(
 }
 
 // Prints the lines of an area and of the text in a file.
+// A match, since what is printed of an error can fail itself.
 pub fn print_lines<R: Files + Print + Eprint + Alloc>(
     rt: &R,
     area: &[u8],

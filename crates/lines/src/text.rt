@@ -18,7 +18,7 @@ fn follow(file: &mut impl Read, piece: &mut [u8], entries: &mut [Entry]) -> io::
         × (entries.old ≡ placed [] (starts entries.old)) }
     ensures { OfText (starts entries.old) entries.new }
 {
-    // It ends where the file does: nothing is counted through, so this is no `for`.
+    // It ends where the file does or behind WORD bytes. A read puts as many bytes as it likes, so this is no `for`.
     let mut end = End::new();
     while end.size < WORD {
         let n = file.read(piece)?;

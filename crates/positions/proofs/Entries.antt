@@ -4,6 +4,7 @@ use mathlib.Core.List.{List, [], ◌∷◌, ◌++◌, map, append-nil}
 use Prim.Native.Nat.{ℕ, suc, ◌+◌, ◌≤◌, ◌<◌}
 use native.Mathlib.Omega.{arith}
 use lib.ListN.{length, take, drop, get_or, set}
+use Rattle.std.specs.Prelude.{Option}
 use Rattle.positions.specs.declared.End.{End}
 use Rattle.positions.specs.declared.Entry.{Entry}
 use lib.Seq.{length-take-le, take_all, drop-cons, get_or_at}
@@ -45,7 +46,7 @@ place_in t ss es i d e l =
 
 -- x is entry i, where those below i have their places in the text t
 module _ (t : List ℕ) (os es : List Entry) (i : ℕ) (x : Entry) (l : i < length os) (e : es ≡ map (seen t) (take i os) ++ drop i os) (is : x ≡ get_or es i x) where
-  pub seen_more : (p : Place) → p ≡ place_of t x.start → set es i (record { start = x.start; place = p }) ≡ map (seen t) (take (i + 1) os) ++ drop (i + 1) os
+  pub seen_more : (p : Option Place) → p ≡ place_of t x.start → set es i (record { start = x.start; place = p }) ≡ map (seen t) (take (i + 1) os) ++ drop (i + 1) os
   seen_more p h = rw h (map_over_more (seen t) os es i x l e is)
 
   -- Its place is still the one that it had.

@@ -3,6 +3,7 @@ use mathlib.Core.Path.{◌≡◌, refl, sym, ap, ap₂, ◌∙◌}
 use mathlib.Core.Bool.{Bool, true, false}
 use mathlib.Core.Logic.{◌≢◌}
 use mathlib.Core.List.{List, [], ◌∷◌, ◌++◌, append_assoc}
+use Rattle.std.specs.Prelude.{Option, None, Some}
 use Prim.Native.Nat.{ℕ, suc, ◌+◌, ◌≤◌, ◌<◌}
 use native.Mathlib.Omega.{arith}
 use borrow.Author.Tests.{le-leb, lt-leb, eq-eqb, ne_eqb}
@@ -12,7 +13,7 @@ use lib.Seq.{take-append-le, take-length, take_all}
 use Rattle.functions.specs.Lists.{times, flag}
 use Rattle.positions.specs.declared.End.{End}
 use Rattle.positions.specs.declared.Place.{Place}
-use Rattle.positions.specs.Positions.{newline, is_newline, line_of, below, column_of, nowhere, place_of}
+use Rattle.positions.specs.Positions.{newline, is_newline, line_of, below, column_of, place_of}
 use Rattle.positions.specs.Pieces.{EndOf, Passed, Found}
 use Rattle.positions.proofs.Counting.{times_append, times_front, times_same, times_none}
 
@@ -30,33 +31,33 @@ column_stays t u s h =
     let on : List ℕ → ℕ → Bool = λ x j. eqb (line_of x j) (line_of x s) in
     omega (arith, times_same (on (t ++ u)) (on t) s (λ j l. ap₂ eqb (line_stays t u j (omega arith)) (line_stays t u s h)))
 
-place_there : (t : List ℕ) (s : ℕ) → s ≤ length t → place_of t s ≡ record { line = line_of t s; column = column_of t s }
+place_there : (t : List ℕ) (s : ℕ) → s ≤ length t → place_of t s ≡ Some (record { line = line_of t s; column = column_of t s })
 unfolding place_of
 place_there t s h = rw (le-leb s (length t) h) refl
 
-place_beyond : (t : List ℕ) (s : ℕ) → length t < s → place_of t s ≡ nowhere
+place_beyond : (t : List ℕ) (s : ℕ) → length t < s → place_of t s ≡ None
 unfolding place_of
 place_beyond t s h = rw (lt-leb s (length t) h) refl
 
 pub place_stays : (t u : List ℕ) (s : ℕ) → s ≤ length t → place_of (t ++ u) s ≡ place_of t s
 place_stays t u s h =
     place_there (t ++ u) s (rw length-append (omega arith))
-    ∙ (λ i. record { line = line_stays t u s h i; column = column_stays t u s h i })
+    ∙ (λ i. Some (record { line = line_stays t u s h i; column = column_stays t u s h i }))
     ∙ sym (place_there t s h)
 
--- What stands behind the end of both texts is at 0 and 0 in both.
+-- What stands behind the end of both texts has no place in either.
 place_waits : (t u : List ℕ) (s : ℕ) → length t + length u < s → place_of (t ++ u) s ≡ place_of t s
 place_waits t u s h = place_beyond (t ++ u) s (rw length-append (omega arith)) ∙ sym (place_beyond t s (omega arith))
 
 -- The end of a part of the text is the place there, in the whole text.
 place_end : (t u : List ℕ) (n s : ℕ) (r : End) → n ≤ length u → s ≡ length t + n → EndOf r (t ++ take n u)
-    → record { line = r.line; column = r.column } ≡ place_of (t ++ u) s
+    → Some (record { line = r.line; column = r.column }) ≡ place_of (t ++ u) s
 place_end t u n s r h e g =
     let x = t ++ take n u in
     let l : length x ≡ s = length-append t (take n u) ∙ simp length-take (omega arith) in
     let w : x ++ drop n u ≡ t ++ u = append_assoc t (take n u) (drop n u) ∙ ap (λ (z : List ℕ). t ++ z) (take-append-drop n u) in
-    (λ i. record { line = g.line i; column = g.column i })
-    ∙ (λ i. record { line = line_of x (l i); column = column_of x (l i) })
+    (λ i. Some (record { line = g.line i; column = g.column i }))
+    ∙ (λ i. Some (record { line = line_of x (l i); column = column_of x (l i) }))
     ∙ sym (place_there x s (omega (arith, l))) ∙ sym (place_stays x (drop n u) s (omega (arith, l))) ∙ ap (λ (z : List ℕ). place_of z s) w
 
 -- ---- the end, one byte on
@@ -138,7 +139,7 @@ module _ (e : End) (b : ℕ) (r : End) (size : r.size ≡ e.size + 1) where
 
 -- ---- a start and a piece
 
-module _ (e : End) (u : List ℕ) (start : ℕ) (old : Place) where
+module _ (e : End) (u : List ℕ) (start : ℕ) (old : Option Place) where
   -- A start in the text so far has its place already.
   pub found_before : start ≤ e.size → Found e u start old old
   found_before h = λ t g k. k ∙ sym (place_stays t u start (omega (arith, g.size)))
@@ -149,17 +150,16 @@ module _ (e : End) (u : List ℕ) (start : ℕ) (old : Place) where
 
   -- One in the piece, n bytes in, has that of the end there.
   pub found_here : (n : ℕ) (r : End) → n ≤ length u → start ≡ e.size + n → Passed e (take n u) r
-      → Found e u start old (record { line = r.line; column = r.column })
+      → Found e u start old (Some (record { line = r.line; column = r.column }))
   found_here n r h l p = λ t g _. place_end t u n start r h (omega (arith, g.size)) (p.is_end t g)
 
 -- ---- no text
 
-pub first_zero : (start : ℕ) → start ≡ 0 → record { line = 1; column = 1 } ≡ place_of [] start
+pub first_zero : (start : ℕ) → start ≡ 0 → Some (record { line = 1; column = 1 }) ≡ place_of [] start
 unfolding place_of line_of column_of times below
 first_zero start e = rw e refl
 
-pub first_none : (start : ℕ) → (start ≡ 0 → ⊥) → record { line = 0; column = 0 } ≡ place_of [] start
-unfolding nowhere
+pub first_none : (start : ℕ) → (start ≡ 0 → ⊥) → None ≡ place_of [] start
 first_none start n = sym (place_beyond [] start (omega arith))
 
 pub end_first : (r : End) → r.size ≡ 0 → r.line ≡ 1 → r.column ≡ 1 → EndOf r []

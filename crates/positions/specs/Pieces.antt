@@ -1,5 +1,5 @@
 -- A text that comes in pieces: what is kept from one piece to the next, and what it says of the text so far.
-use Rattle.std.specs.Prelude.{ℕ, ◌+◌, ◌≡◌, List, [], ◌∷◌, ◌++◌, length, map}
+use Rattle.std.specs.Prelude.{ℕ, ◌+◌, ◌≡◌, Option, List, [], ◌∷◌, ◌++◌, length, map}
 use Rattle.positions.specs.declared.End.{End}
 use Rattle.positions.specs.declared.Entry.{Entry}
 use Rattle.positions.specs.declared.Place.{Place}
@@ -17,7 +17,7 @@ pub record Passed (e : End) (b : List ℕ) (r : End) : Type 0 where
   pub is_end : (t : List ℕ) → EndOf e t → EndOf r (t ++ b)
 
 -- r is the place of a start when the bytes b have come behind the text whose end is e, where it was `old` before.
-abbrev pub Found : End → List ℕ → ℕ → Place → Place → Type 0
+abbrev pub Found : End → List ℕ → ℕ → Option Place → Option Place → Type 0
 Found e b start old r = (t : List ℕ) → EndOf e t → old ≡ place_of t start → r ≡ place_of (t ++ b) start
 
 -- ---- a table: entries, each a start with a place

@@ -1,5 +1,5 @@
 -- Line and column of a place in a text, by counts of newline bytes.
-use Rattle.std.specs.Prelude.{ℕ, zero, suc, ◌+◌, Bool, cond, ◌&&◌, List, [], ◌∷◌, ◌++◌, leb, eqb, length, take}
+use Rattle.std.specs.Prelude.{ℕ, zero, suc, ◌+◌, Bool, Option, None, Some, cond, ◌&&◌, List, [], ◌∷◌, ◌++◌, leb, eqb, length, take}
 use Rattle.functions.specs.Lists.{times}
 use Rattle.ast.specs.FileNumbers.{missing_word}
 use Rattle.positions.specs.declared.Place.{Place}
@@ -23,18 +23,14 @@ below (suc n) = below n ++ n ∷ []
 unfoldable pub column_of : List ℕ → ℕ → ℕ
 column_of text start = 1 + times (λ j. eqb (line_of text j) (line_of text start)) (below start)
 
--- what is shown where there is no place
-unfoldable pub nowhere : Place
-nowhere = record { line = 0; column = 0 }
-
--- The place of a start: 0 and 0 for one above the text's length. One that equals it has a line and a column.
-unfoldable pub place_of : List ℕ → ℕ → Place
-place_of text start = cond (leb start (length text)) (record { line = line_of text start; column = column_of text start }) nowhere
+-- The place of a start: none for one above the text's length. One that equals it has a line and a column.
+unfoldable pub place_of : List ℕ → ℕ → Option Place
+place_of text start = cond (leb start (length text)) (Some (record { line = line_of text start; column = column_of text start })) None
 
 -- A span is missing only if both its words are 4,294,967,295.
 unfoldable pub is_missing : ℕ → ℕ → Bool
 is_missing from to = eqb from missing_word && eqb to missing_word
 
--- What is shown for a span whose start has the place p: 0 and 0 for one that is missing.
-unfoldable pub shown_for : ℕ → ℕ → Place → Place
-shown_for from to p = cond (is_missing from to) nowhere p
+-- The place that is shown for a span whose start has the place p: none for one that is missing.
+unfoldable pub shown_for : ℕ → ℕ → Option Place → Option Place
+shown_for from to p = cond (is_missing from to) None p

@@ -38,6 +38,7 @@ impl End {
     }
 
     // The end when a piece more has come.
+    // A loop: `after` asks for a short text, and the closure of a fold would have to take any end.
     pub fn walk(self, piece: &[u8]) -> End
         requires { self.size + length piece.now < 2 ^ 40 }
         ensures { Passed self piece.now result }

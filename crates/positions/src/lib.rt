@@ -18,22 +18,16 @@ pub struct End {
     ghost column_within: { column ≤ size + 1 },
 }
 
-// A line and a column, or 0 and 0: those are what a line of the report shows where there is no place, so an Option would
-// only be turned into them again.
+// A line and a column.
 #[derive(Clone, Copy, Debug, PartialEq, Eq)]
 pub struct Place {
     pub line: u64,
     pub column: u64,
 }
 
-impl Place {
-    // What is shown where there is no place.
-    pub const NOWHERE: Place = Place { line: 0, column: 0 };
-}
-
-// A start, and its place in the text so far.
+// A start, and its place in the text so far: none where the text ends before it.
 #[derive(Clone, Copy, Debug, PartialEq, Eq)]
 pub struct Entry {
     pub start: u64,
-    pub place: Place,
+    pub place: Option<Place>,
 }

@@ -5,12 +5,12 @@ ghost use Rattle.positions.specs.Positions.{shown_for};
 use super::Place;
 use ast::layout::MISSING;
 
-// The place of its start; 0 and 0 where the span is missing.
-pub fn shown(from: u64, to: u64, place: Place) -> Place
+// The place of its start; none where the span is missing.
+pub fn shown(from: u64, to: u64, place: Option<Place>) -> Option<Place>
     ensures { result ≡ shown_for from to place }
 {
     if (from == MISSING) & (to == MISSING) {
-        return Place::NOWHERE;
+        return None;
     }
     place
 }

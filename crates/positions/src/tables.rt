@@ -5,8 +5,8 @@ ghost use Rattle.positions.specs.Pieces.{Found, starts, placed, Advanced, Taken}
 
 use super::{End, Entry, Place};
 
-// The place of an entry's start in the text with the piece, where it has the one in the text so far, whose end is `end`.
-fn look(piece: &[u8], end: End, entry: Entry) -> Place
+// The place of an entry's start in the text with the piece, from that in the text so far, whose end is `end`.
+fn look(piece: &[u8], end: End, entry: Entry) -> Option<Place>
     requires { end.size + length piece.now < 2 ^ 40 }
     ensures { Found end piece.now entry.start entry.place result }
 {
@@ -18,10 +18,10 @@ fn look(piece: &[u8], end: End, entry: Entry) -> Place
         return entry.place;
     }
     let at = end.walk(&piece[..n]);
-    Place {
+    Some(Place {
         line: at.line,
         column: at.column,
-    }
+    })
 }
 
 // The table with a piece. Only a start that lies in the piece makes it be walked.
@@ -35,6 +35,7 @@ fn advance(piece: &[u8], end: End, entries: &mut [Entry])
 }
 
 // Takes a piece into the table, and gives the end of the text with it.
+// That the text stays short is a fact of the end and the piece together, and so of neither type.
 pub fn take_piece(piece: &[u8], end: End, entries: &mut [Entry]) -> End
     requires { end.size + length piece.now < 2 ^ 40 }
     ensures { Taken end piece.now result entries.old entries.new }
@@ -44,13 +45,13 @@ pub fn take_piece(piece: &[u8], end: End, entries: &mut [Entry]) -> End
 }
 
 // The place of a start in no text.
-fn first(start: u64) -> Place
+fn first(start: u64) -> Option<Place>
     ensures { result ≡ place_of [] start }
 {
     if start == 0 {
-        return Place { line: 1, column: 1 };
+        return Some(Place { line: 1, column: 1 });
     }
-    Place::NOWHERE
+    None
 }
 
 // The table of no text.

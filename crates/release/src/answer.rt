@@ -4,7 +4,7 @@ use ast::layout::NODE_BYTES;
 use std::fmt;
 use std::fmt::{Display, Formatter};
 
-// The word at a byte, 0 where the bytes end before.
+// The word at a byte; 0 where the bytes end before, which an answer's never do.
 fn word(bytes: &[u8], at: usize) -> u32 {
     match bytes.get(at..) {
         Some([a, b, c, d, ..]) => u32::from_le_bytes([*a, *b, *c, *d]),

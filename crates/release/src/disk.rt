@@ -40,8 +40,8 @@ fn write_whole<F: Write + OpenFile + Drop>(mut file: F, bytes: &[u8]) -> io::Res
     file.sync_all()
 }
 
-// Writes the bytes to a new file of this name. A file that has the name already is left as it is, and one that could not
-// be written whole is removed.
+// Writes the bytes to a new file of this name. A file that has the name already is left as it is, and one that
+// could not be written whole is removed.
 pub fn write_new<R: Files>(rt: &R, path: &str, bytes: &[u8]) -> io::Result<()> {
     let file = OpenOptions::new()
         .write(true)

@@ -10,7 +10,6 @@ mod disk;
 mod line;
 
 use answer::Totals;
-use area::layout::HIGH;
 use arguments::argument;
 use builder::build::build;
 use disk::{Failed, name, read_tree, write_new};
@@ -40,11 +39,10 @@ fn release<'a, R: Env + Files>(
     let mut buffer = [0; FILE];
     let file = read_tree(rt, from, &mut buffer).map_err(|why| Failed::new(from, why))?;
     let mut area = [0; AREA];
-    let told = build(file, root, &mut area);
-    let (number, used) = ((told % HIGH) as u32, (told / HIGH) as usize);
-    if number != 0 {
-        return Ok(Line::Refused(number));
-    }
+    let used = match build(file, root, &mut area) {
+        Ok(used) => used,
+        Err(refused) => return Ok(Line::Refused(refused)),
+    };
     let Some(answer) = area.get(..used) else {
         let why = Error::new(ErrorKind::InvalidData, "more bytes used than there are");
         return Err(Failed::new("release", why));

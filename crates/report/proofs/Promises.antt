@@ -1,11 +1,12 @@
 -- Read this first: what is promised of the lines that are printed of an answer area and a text.
 use mathlib.Core.Path.{◌≡◌, refl, ap, ap₂, ◌∙◌}
-use mathlib.Core.Bool.{Bool, true}
+use mathlib.Core.Bool.{Bool, true, false}
 use mathlib.Core.List.{List, [], ◌∷◌, ◌++◌, map}
 use Prim.Native.Nat.{ℕ, ◌+◌, ◌-◌}
 use native.Mathlib.Omega.{arith}
-use lib.Dec.{T}
+use lib.Dec.{T, leb}
 use lib.ListN.{length, take, replicate}
+use Rattle.std.specs.Prelude.{Option, None, cond}
 use Rattle.functions.specs.Lists.{all, each, flag, times}
 use Rattle.ast.specs.Words.{section}
 use Rattle.ast.proofs.Fields.{length_section}
@@ -16,11 +17,11 @@ use Rattle.definitions.specs.Layout.{plain, most_kind, nodes_at, stmts_at, vars_
 use Rattle.definitions.specs.Build.{accepted, answer, build, result_area}
 use Rattle.definitions.proofs.Area.{in_area, fate_each, whole_area}
 use Rattle.definitions.proofs.AnswersKeep.{answers_keep}
-use Rattle.positions.specs.Positions.{newline, is_newline}
+use Rattle.positions.specs.Positions.{newline, is_newline, line_of, column_of, place_of, is_missing, shown_for}
 use Rattle.positions.specs.declared.Place.{Place}
 use Rattle.positions.proofs.Counting.{times_append}
 use Rattle.report.specs.Decimals.{decimal}
-use Rattle.report.specs.Lines.{space, field, line_for, error_line, listed_errors, lines}
+use Rattle.report.specs.Lines.{space, field, line_for, nowhere, place_as, start_of_error, end_of_error, place_of_error, error_line, listed_errors, lines}
 use Rattle.report.specs.Examples.{lines_table, lines_examples}
 use Rattle.report.proofs.Digits.{decimal_digits}
 use Rattle.report.proofs.Tables.{lines_are}
@@ -28,6 +29,21 @@ use Rattle.report.proofs.Tables.{lines_are}
 -- What is printed of areas and texts of a table: each byte of a text, its end and what is above it, missing spans, areas that break their layout.
 pub the_lines_examples : T (all (λ b. b) lines_table)
 the_lines_examples = lines_examples
+
+-- ---- the place of an error
+
+place_as_cond : (b : Bool) (p q : Option Place) → place_as (cond b p q) ≡ cond b (place_as p) (place_as q)
+place_as_cond true p q = refl
+place_as_cond false p q = refl
+
+-- What is printed for an error: 0 and 0 where its span is missing, the line and the column of the span's start where that is not above the text's length, else 0 and 0.
+pub place_printed : (text r : List ℕ) → let start = start_of_error r in
+    place_as (place_of_error text r)
+    ≡ cond (is_missing start (end_of_error r)) nowhere (cond (leb start (length text)) (record { line = line_of text start; column = column_of text start }) nowhere)
+unfolding place_of_error shown_for place_of place_as nowhere
+place_printed text r = let start = start_of_error r in
+    place_as_cond (is_missing start (end_of_error r)) None (place_of text start)
+    ∙ ap (cond (is_missing start (end_of_error r)) nowhere) (place_as_cond (leb start (length text)) _ None)
 
 -- ---- the listed errors of an answer
 

@@ -5,6 +5,7 @@ use mathlib.Core.List.{List, [], ◌∷◌, ◌++◌}
 use Prim.Native.Nat.{ℕ, zero, suc, ◌^◌, ◌≤◌, ◌<◌}
 use native.Mathlib.Omega.{arith}
 use lib.ListN.{length, take, drop}
+use Rattle.std.specs.Prelude.{Option}
 use Rattle.functions.specs.Lists.{all, each}
 use Rattle.ast.specs.Words.{words, word_of, section}
 use Rattle.ast.specs.WellFormed.{Each}
@@ -18,7 +19,7 @@ use Rattle.positions.specs.Positions.{place_of, shown_for}
 use Rattle.positions.proofs.Growing.{place_stays}
 use Rattle.keeping.proofs.Begun.{header_within, kept_parts}
 use Rattle.keeping.proofs.InPieces.{header_front, records_in_front, zeros_pieces, front_and_rest, kept_and_rest}
-use Rattle.report.specs.Lines.{start_of_error, end_of_error, line_for, place_of_error, error_line, listed_errors, lines}
+use Rattle.report.specs.Lines.{start_of_error, end_of_error, line_for, place_as, place_of_error, error_line, listed_errors, lines}
 use Rattle.report.proofs.Tables.{lines_are, no_line}
 
 -- ---- the area
@@ -65,7 +66,7 @@ lines_enough text more [] long h = refl
 lines_enough text more (r ∷ rs) long h =
     let small : start_of_error r < 2 ^ 32 = word_small r 1 h.0 in
     let place : place_of (text ++ more) (start_of_error r) ≡ place_of text (start_of_error r) = place_stays text more (start_of_error r) (omega arith) in
-    ap₂ ◌++◌ (ap (λ (p : Place). line_for (shown_for (start_of_error r) (end_of_error r) p) (kind_of_error r)) place) (lines_enough text more rs long h.1)
+    ap₂ ◌++◌ (ap (λ (p : Option Place). line_for (place_as (shown_for (start_of_error r) (end_of_error r) p)) (kind_of_error r)) place) (lines_enough text more rs long h.1)
 
 -- the words of an area of bytes are of 32 bits
 listed_small : (area : List ℕ) → are_bytes area ≡ true → Each Small (listed_errors plain area)

@@ -6,6 +6,7 @@ use native.Mathlib.Omega.{arith}
 use native.Mathlib.Numerals.{add-one}
 use lib.ListN.{length, take, get_or, set, length-append}
 use lib.Seq.{length-take-le, take_all, map-set}
+use Rattle.std.specs.Prelude.{Option}
 use Rattle.std.proofs.lemmas.List.{length-map, map_more}
 use Rattle.ast.specs.Bytes.{front, put}
 use Rattle.ast.specs.RecordsIn.{records_in}
@@ -18,7 +19,7 @@ use Rattle.positions.specs.declared.Entry.{Entry}
 use Rattle.positions.specs.declared.Place.{Place}
 use Rattle.positions.specs.Pieces.{starts}
 use Rattle.positions.specs.Positions.{newline}
-use Rattle.report.specs.Lines.{space, field, line_for, start_of_error}
+use Rattle.report.specs.Lines.{space, field, line_for, place_as, start_of_error}
 use Rattle.report.proofs.Fields.{put_one}
 use Rattle.report.specs.Tabled.{tabled_place, tabled_lines}
 
@@ -56,7 +57,7 @@ module _ (rs : Records) (area : List ℕ) (i : ℕ) where
 
 -- one error more
 tabled_suc : (es : List Entry) (rs : List (List ℕ)) (i : ℕ) (d : Entry) → i < length es → i < length rs
-    → tabled_lines es (take (suc i) rs) ≡ tabled_lines es (take i rs) ++ line_for (tabled_place (get_or es i d).place (get_or rs i [])) (kind_of_error (get_or rs i []))
+    → tabled_lines es (take (suc i) rs) ≡ tabled_lines es (take i rs) ++ line_for (place_as (tabled_place (get_or es i d).place (get_or rs i []))) (kind_of_error (get_or rs i []))
 unfolding tabled_lines
 tabled_suc [] rs i d l h = absurd (omega arith)
 tabled_suc (x ∷ es) [] i d l h = absurd (omega arith)
@@ -64,20 +65,20 @@ tabled_suc (x ∷ es) (r ∷ rs) zero d l h = append-nil _
 tabled_suc (x ∷ es) (r ∷ rs) (suc i) d l h = rw (tabled_suc es rs i d (omega arith) (omega arith), append_assoc)
 
 -- of error i, where the lines of those in front of it are `at` bytes
-module _ (es : List Entry) (rs : List (List ℕ)) (i : ℕ) (d : Entry) (p : Place) (kind : ℕ) (l : i < length es) (h : i < length rs)
+module _ (es : List Entry) (rs : List (List ℕ)) (i : ℕ) (d : Entry) (p : Option Place) (kind : ℕ) (l : i < length es) (h : i < length rs)
     (is-place : p ≡ tabled_place (get_or es i d).place (get_or rs i [])) (is-kind : kind ≡ kind_of_error (get_or rs i []))
     (at : ℕ) (long : at ≡ length (tabled_lines es (take i rs))) where
-  more : tabled_lines es (take (i + 1) rs) ≡ tabled_lines es (take i rs) ++ line_for p kind
+  more : tabled_lines es (take (i + 1) rs) ≡ tabled_lines es (take i rs) ++ line_for (place_as p) kind
   more = rw (add-one, is-place, is-kind) (tabled_suc es rs i d l h)
 
   -- It ends where the lines do,
-  pub more_end : (r : ℕ) → r ≡ at + length (line_for p kind) → r ≡ length (tabled_lines es (take (i + 1) rs))
+  pub more_end : (r : ℕ) → r ≡ at + length (line_for (place_as p) kind) → r ≡ length (tabled_lines es (take (i + 1) rs))
   more_end r e = rw more (simp length-append (omega arith))
 
   -- and put behind those in front of it, it makes the lines with it.
-  pub put_more : (o o' o'' : List ℕ) → o' ≡ front o (tabled_lines es (take i rs)) → o'' ≡ put o' at (line_for p kind)
+  pub put_more : (o o' o'' : List ℕ) → o' ≡ front o (tabled_lines es (take i rs)) → o'' ≡ put o' at (line_for (place_as p) kind)
       → o'' ≡ front o (tabled_lines es (take (i + 1) rs))
-  put_more o o' o'' e g = g ∙ put_behind o (tabled_lines es (take i rs)) (line_for p kind) o' at long e ∙ ap (front o) (sym more)
+  put_more o o' o'' e g = g ∙ put_behind o (tabled_lines es (take i rs)) (line_for (place_as p) kind) o' at long e ∙ ap (front o) (sym more)
 
 -- ---- a table of starts
 

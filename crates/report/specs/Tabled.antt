@@ -1,5 +1,5 @@
 -- Lines from a table: beside each error stands an entry, with the place of its start.
-use Rattle.std.specs.Prelude.{ℕ, ◌≤◌, ◌≡◌, List, [], ◌∷◌, ◌++◌, length, map}
+use Rattle.std.specs.Prelude.{ℕ, ◌≤◌, ◌≡◌, Option, List, [], ◌∷◌, ◌++◌, length, map}
 use Rattle.ast.specs.Bytes.{front}
 use Rattle.ast.specs.declared.sections.Records.{Records}
 use Rattle.definitions.specs.Layout.{kind_of_error}
@@ -8,17 +8,17 @@ use Rattle.positions.specs.declared.Entry.{Entry}
 use Rattle.positions.specs.declared.Place.{Place}
 use Rattle.positions.specs.Pieces.{starts}
 use Rattle.positions.specs.Positions.{shown_for}
-use Rattle.report.specs.Lines.{start_of_error, end_of_error, line_for, lines}
+use Rattle.report.specs.Lines.{start_of_error, end_of_error, line_for, place_as, lines}
 
 -- What is shown for the error r, where its start has the place p.
-unfoldable pub tabled_place : Place → List ℕ → Place
+unfoldable pub tabled_place : Option Place → List ℕ → Option Place
 tabled_place p r = shown_for (start_of_error r) (end_of_error r) p
 
 -- The lines of errors, with the entries of a table beside them.
 unfoldable pub tabled_lines : List Entry → List (List ℕ) → List ℕ
 tabled_lines es [] = []
 tabled_lines [] (r ∷ rs) = []
-tabled_lines (x ∷ es) (r ∷ rs) = line_for (tabled_place x.place r) (kind_of_error r) ++ tabled_lines es rs
+tabled_lines (x ∷ es) (r ∷ rs) = line_for (place_as (tabled_place x.place r)) (kind_of_error r) ++ tabled_lines es rs
 
 -- Errors within the bytes, and a table with an entry for each.
 pub record Tabled (rs : Records) (area : List ℕ) (es : List Entry) : Type 0 where

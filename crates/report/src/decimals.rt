@@ -5,6 +5,7 @@ ghost use Rattle.report.specs.Decimals.{most_digits};
 ghost use Rattle.report.specs.Lines.{field};
 
 // Writes a number's decimal with a byte behind it, and gives the place behind that.
+// By `io::decimal` and not by Display: the bytes stand in the contract.
 pub fn put_field(out: &mut [u8], at: usize, n: u64, behind: u8) -> usize
     requires { at + (most_digits + 1) ≤ length out.old }
     ensures { (result ≡ at + length (field n behind))

@@ -9,6 +9,7 @@ use ast::places::RecordView;
 use positions::Entry;
 
 // Notes them in a table.
+// By number: an error's record is asked for by it.
 pub fn note_starts(es: &RecordView, entries: &mut [Entry])
     requires { (error_length ≤ es.now.records.width)
         × (es.now.records.count ≤ length entries.old) }

@@ -77,11 +77,11 @@ module _ (f : List ℕ) (s : Sections) (o : Open f s) (m : ℕ) (h : m < s.count
   abbrev pub before : ℕ → ℕ
   before i = sum_of g (take i (model_at (file_in f s) m).stmts)
 
-  pub run_next : (i : ℕ) → i < stmt_count (model_record f s m) → before (i + 1) ≡ before i + g (stmt_in f s (first_stmt (model_record f s m) + i))
-  run_next i l =
-      let d = stmt_in f s (first_stmt (model_record f s m) + i) in
+  pub run_next : (i q : ℕ) → q ≡ first_stmt (model_record f s m) + i → i < stmt_count (model_record f s m) → before (i + 1) ≡ before i + g (stmt_in f s q)
+  run_next i q eq l =
+      let d = stmt_in f s q in
       let w : i < length (model_at (file_in f s) m).stmts = omega (arith, (model_is f s o m h).stmts_long) in
-      sum_next g (model_at (file_in f s) m).stmts i d w ∙ ap (λ (q : Stmt). before i + g q) ((model_is f s o m h).stmt i d l)
+      sum_next g (model_at (file_in f s) m).stmts i d w ∙ ap (λ (q : Stmt). before i + g q) ((model_is f s o m h).stmt i d l ∙ ap (stmt_in f s) (sym eq))
 
   pub run_end : (i : ℕ) → stmt_count (model_record f s m) ≤ i → before i ≡ sum_of g (model_at (file_in f s) m).stmts
   run_end i l = ap (sum_of g) (take_all i (model_at (file_in f s) m).stmts (omega (arith, (model_is f s o m h).stmts_long)))

@@ -10,7 +10,9 @@ use Rattle.functions.specs.Lists.{plus_one, to_list, place}
 use Rattle.ast.specs.Tree.{Stmt, own, submodel, File}
 use Rattle.ast.specs.Nodes.{kind_at}
 use Rattle.definitions.specs.Flatten.{model_named, model_at, stmt_models, submodels}
+use Rattle.std.specs.declared.option.Option.{Option as Found}
 use Rattle.std.specs.declared.option.Option.TheVariants.{None, Some}
+use Rattle.std.specs.Option.{SomeIff}
 use Rattle.builder.specs.Tables.{callee_of, called_by}
 use Rattle.builder.specs.Starting.{place_as}
 use Rattle.ast.specs.Records.{kind_of_stmt, right_top, stmt_of}
@@ -109,12 +111,9 @@ module _ (f : List ℕ) (s : Sections) (o : Open f s) (q : ℕ) (h : q < s.count
 -- ---- what the code answers
 
 -- none by an entry that is 0, and any other less 1
-pub entry_none : (o : Option ℕ) (x : ℕ) → x ≡ plus_one o → x ≡ 0 → place_as None ≡ o
+pub entry_less : (o : Option ℕ) (x : ℕ) (r : Found ℕ) → x ≡ plus_one o → SomeIff r (1 ≤ x) (x - 1) → place_as r ≡ o
 unfolding place_as plus_one
-entry_none none x e z = refl
-entry_none (some i) x e z = absurd (omega arith)
-
-pub entry_some : (o : Option ℕ) (x : ℕ) → x ≡ plus_one o → (x ≡ 0 → ⊥) → place_as (Some (x - 1)) ≡ o
-unfolding place_as plus_one
-entry_some none x e n = absurd (n e)
-entry_some (some i) x e n = ap some (omega arith)
+entry_less none x None e below = refl
+entry_less none x (Some v) e (least, is) = absurd (omega (arith, least, e))
+entry_less (some i) x None e below = absurd (below (omega (arith, e)))
+entry_less (some i) x (Some v) e (least, is) = ap some (omega (arith, is, e))

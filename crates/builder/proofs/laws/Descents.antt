@@ -104,15 +104,15 @@ unfolding flatten
 flat_zero file levels zero m e = refl
 flat_zero file levels (suc k) m e = absurd (omega arith)
 
--- what statement i of a model of an open file brings in is read with the rows as they stand then
-pub rest_next : (f : List ℕ) (s : Sections) → Open f s → (rows₀ rows : List ℕ) (level k m i first : ℕ) → m < s.counts.models
-    → take (256 * level) rows ≡ take (256 * level) rows₀ → i < stmt_count (get_or (contents_in f s).models m []) → first ≡ first_stmt (get_or (contents_in f s).models m [])
+-- what statement i of a model of an open file, which is its statement q, brings in is read with the rows as they stand then
+pub rest_next : (f : List ℕ) (s : Sections) → Open f s → (rows₀ rows : List ℕ) (level k m i q : ℕ) → m < s.counts.models
+    → take (256 * level) rows ≡ take (256 * level) rows₀ → i < stmt_count (get_or (contents_in f s).models m []) → q ≡ first_stmt (get_or (contents_in f s).models m []) + i
     → rest (file_in f s) (levels_of (contents_in f s).nodes rows₀ level) k m i
-    ≡ brought_at f s rows level (λ j. flatten (file_in f s) k j) (first + i) ++ rest (file_in f s) (levels_of (contents_in f s).nodes rows₀ level) k m (i + 1)
-rest_next f s o rows₀ rows level k m i first l kept b ef =
+    ≡ brought_at f s rows level (λ j. flatten (file_in f s) k j) q ++ rest (file_in f s) (levels_of (contents_in f s).nodes rows₀ level) k m (i + 1)
+rest_next f s o rows₀ rows level k m i q l kept b eq =
     let d = stmt_of [] [] in
     let c : i < length (model_at (file_in f s) m).stmts = rw (model_is f s o m l).stmts_long b in
-    rw (levels_kept (contents_in f s).nodes rows₀ rows level kept, ef, ← (model_is f s o m l).stmt i d b) (rest_step (file_in f s) (levels_of (contents_in f s).nodes rows₀ level) k m i d c)
+    rw (levels_kept (contents_in f s).nodes rows₀ rows level kept, eq, ← (model_is f s o m l).stmt i d b) (rest_step (file_in f s) (levels_of (contents_in f s).nodes rows₀ level) k m i d c)
 
 -- ---- what a submodel statement brings in
 

@@ -94,12 +94,12 @@ module _ (f : List ℕ) (s : Sections) (k m : ℕ) (rows₀ : List ℕ) (level :
       }
 
   module _ (o : Open f s) (l : m < s.counts.models) (rows : List ℕ) (total : FlatExtent) (i : ℕ) (h : Counting rows total i) where
-    pub counting_step : (rows' : List ℕ) (first : ℕ) (total' : FlatExtent) → i < stmt_count (get_or (contents_in f s).models m []) → first ≡ first_stmt (get_or (contents_in f s).models m [])
-        → Extended total (brought_at f s rows level (λ j. flatten (file_in f s) (k - 1) j) (first + i)) total'
+    pub counting_step : (rows' : List ℕ) (q : ℕ) (total' : FlatExtent) → i < stmt_count (get_or (contents_in f s).models m []) → q ≡ first_stmt (get_or (contents_in f s).models m []) + i
+        → Extended total (brought_at f s rows level (λ j. flatten (file_in f s) (k - 1) j) q) total'
         × RowsKept f s level rows rows'
         → Counting rows' total' (i + 1)
-    counting_step rows' first total' b ef (g, w) =
-        let e = rest_next f s o rows₀ rows level (k - 1) m i first l h.kept b ef in
+    counting_step rows' q total' b eq (g, w) =
+        let e = rest_next f s o rows₀ rows level (k - 1) m i q l h.kept b eq in
         record {
           long = w.0 ∙ h.long;
           kept = w.1 ∙ h.kept;

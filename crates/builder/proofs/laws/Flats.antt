@@ -5,15 +5,13 @@ use mathlib.Core.Bool.{Bool, true, false, ◌&&◌}
 use mathlib.Core.List.{List, [], ◌∷◌, ◌++◌, map, map-append, map-map}
 use Prim.Native.Nat.{ℕ, ◌+◌, ◌-◌, ◌≤◌, ◌<◌}
 use native.Mathlib.Omega.{arith}
-use native.Mathlib.Numerals.{add-one}
 use borrow.Author.Tests.{ne_eqb}
 use lib.Dec.{eqb}
 use lib.ListN
-use lib.ListN.{length, take, get_or, set, length-map}
+use lib.ListN.{length, get_or, length-map}
 use lib.Ieee.{Float, eq}
-use lib.Seq.{take-suc-set}
 use Rattle.std.specs.List.{list_any, range_with_len}
-use Rattle.std.proofs.lemmas.List.FromFn.{fill_by_all, map-range_with_len_more}
+use Rattle.std.proofs.lemmas.List.FromFn.{fill_by_all, length-range_with_len, map-range_with_len_more}
 use Rattle.functions.specs.Lists.{any, flag}
 use Rattle.ast.specs.Tree.{Flat, equation, rate}
 use Rattle.ast.specs.Words.{word_of, span_from}
@@ -70,11 +68,14 @@ module _ (ns : List (List ℕ)) (lower : Float) (f : ℕ) (s : answer.Option Sta
 
 -- ---- statement i
 
--- a table's first entries, where one more is filled in
-pub one_filled : {A B : Type 0} (f : A → B) (g : ℕ → B) (xs : List A) (i : ℕ) (x : A) → i < length xs → f x ≡ g i → map f (take i xs) ≡ map g (range_with_len 0 i) → map f (take (i + 1) (set xs i x)) ≡ map g (range_with_len 0 (i + 1))
-one_filled f g xs i x h e p =
-    let t : take (i + 1) (set xs i x) ≡ take i xs ++ (x ∷ []) = rw add-one (take-suc-set xs i x h) in
-    rw (t, map-append, p, e) (sym (map-range_with_len_more g 0 i i (omega arith)))
+-- a table by number, where one more is put behind it
+pub one_more : {A B : Type 0} (f : A → B) (g : ℕ → B) (xs : List A) (i : ℕ) (x : A) → f x ≡ g i → map f xs ≡ map g (range_with_len 0 i) → map f (xs ++ (x ∷ [])) ≡ map g (range_with_len 0 (i + 1))
+one_more f g xs i x e p =
+    rw (map-append, p, e) (sym (map-range_with_len_more g 0 i i (omega arith)))
+
+-- and how long it is
+pub long_by : {A B : Type 0} (f : A → B) (g : ℕ → B) (xs : List A) (i : ℕ) → map f xs ≡ map g (range_with_len 0 i) → length xs ≡ i
+long_by f g xs i p = simp (length-map, length-range_with_len) at (ap length p)
 
 any_map : {A B : Type 0} (p : B → Bool) (f : A → B) (xs : List A) → any p (map f xs) ≡ list_any (λ x. p (f x)) xs
 unfolding any
@@ -86,6 +87,10 @@ module _ (b : List ℕ) (z : Sizes) where
   pub flats_count : length (flats_in b z) ≡ z.stmts
   unfolding flats_in
   flats_count = simp length-map (length_section 8 z.stmts (stmts_at z) b)
+
+  -- and as many entries has a table of what a function gives of each
+  pub flats_each : {A B : Type 0} (f : A → B) (g : Flat → B) (xs : List A) → map f xs ≡ map g (flats_in b z) → length xs ≡ z.stmts
+  flats_each f g xs p = simp (length-map, flats_count) at (ap length p)
 
   -- statement i of all
   pub flat_at_lem : (i : ℕ) → get_or (flats_in b z) i (flat_at (area_nodes b z) []) ≡ flat_in b z i

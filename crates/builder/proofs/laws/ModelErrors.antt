@@ -148,26 +148,26 @@ module _ {A : Type 0} (g : A → List Error) (xs : List A) where
   run_ends i h d d' n r p = let t : take i xs ≡ xs = take_all i xs h in rw t at p
 
 -- of a model's unknowns and statements; the first one's number and the count are those of its record
-module _ (f : List ℕ) (s : Sections) (o : Open f s) (m : ℕ) (h : m < s.counts.models) (first count i : ℕ) where
+module _ (f : List ℕ) (s : Sections) (o : Open f s) (m : ℕ) (h : m < s.counts.models) (first count k i : ℕ) (ek : k ≡ first + i) where
   module _ (ef : first ≡ word_of (get_or (contents_in f s).models m []) 1) (ec : count ≡ word_of (get_or (contents_in f s).models m []) 2) where
-    pub unknown_here : i < count → get_or (model_at (file_in f s) m).unknowns i (unknown_in f s (first + i)) ≡ unknown_in f s (first + i)
-    unknown_here l = (model_is f s o m h).unknown i _ (omega (arith, ec)) ∙ ap (λ (k : ℕ). unknown_in f s (k + i)) (sym ef)
+    pub unknown_here : k < first + count → get_or (model_at (file_in f s) m).unknowns i (unknown_in f s k) ≡ unknown_in f s k
+    unknown_here l = (model_is f s o m h).unknown i _ (omega (arith, ec, ek)) ∙ ap (unknown_in f s) (sym (ek ∙ ap (λ (n : ℕ). n + i) ef))
 
-    pub unknown_there : i < count → i < length (model_at (file_in f s) m).unknowns
-    unknown_there l = omega (arith, (model_is f s o m h).unknowns_long, ec)
+    pub unknown_there : k < first + count → i < length (model_at (file_in f s) m).unknowns
+    unknown_there l = omega (arith, (model_is f s o m h).unknowns_long, ec, ek)
 
-    pub unknowns_past : count ≤ i → length (model_at (file_in f s) m).unknowns ≤ i
-    unknowns_past l = omega (arith, (model_is f s o m h).unknowns_long, ec)
+    pub unknowns_past : first + count ≤ k → length (model_at (file_in f s) m).unknowns ≤ i
+    unknowns_past l = omega (arith, (model_is f s o m h).unknowns_long, ec, ek)
 
   module _ (ef : first ≡ word_of (get_or (contents_in f s).models m []) 3) (ec : count ≡ word_of (get_or (contents_in f s).models m []) 4) where
-    pub stmt_here : i < count → get_or (model_at (file_in f s) m).stmts i (stmt_in f s (first + i)) ≡ stmt_in f s (first + i)
-    stmt_here l = (model_is f s o m h).stmt i _ (omega (arith, ec)) ∙ ap (λ (k : ℕ). stmt_in f s (k + i)) (sym ef)
+    pub stmt_here : k < first + count → get_or (model_at (file_in f s) m).stmts i (stmt_in f s k) ≡ stmt_in f s k
+    stmt_here l = (model_is f s o m h).stmt i _ (omega (arith, ec, ek)) ∙ ap (stmt_in f s) (sym (ek ∙ ap (λ (n : ℕ). n + i) ef))
 
-    pub stmt_there : i < count → i < length (model_at (file_in f s) m).stmts
-    stmt_there l = omega (arith, (model_is f s o m h).stmts_long, ec)
+    pub stmt_there : k < first + count → i < length (model_at (file_in f s) m).stmts
+    stmt_there l = omega (arith, (model_is f s o m h).stmts_long, ec, ek)
 
-    pub stmts_past : count ≤ i → length (model_at (file_in f s) m).stmts ≤ i
-    stmts_past l = omega (arith, (model_is f s o m h).stmts_long, ec)
+    pub stmts_past : first + count ≤ k → length (model_at (file_in f s) m).stmts ≤ i
+    stmts_past l = omega (arith, (model_is f s o m h).stmts_long, ec, ek)
 
 -- ---- the arguments of a submodel statement: the last of them is the node before the end, its keyword k
 

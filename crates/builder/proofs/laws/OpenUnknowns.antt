@@ -43,9 +43,10 @@ module _ (f : List ℕ) (s : Sections) (o : Open f s) where
     pub deps_count : length (unknown_in f s u).deps ≡ count
     deps_count = rw ec (unknown_deps_count u h)
 
-    pub deps_at_lem : (i d : ℕ) → i < count → d ≡ get_or (contents_in f s).deps (first + i) 0 → (d ≡ get_or (unknown_in f s u).deps i 0) × (d < s.counts.names)
-    deps_at_lem i d l e =
-        (e ∙ sym (rw (← ef) at (unknown_dep u h i (rw ec at l))), omega (arith, e, dep_below f s o (first + i) (omega (arith, deps_within))))
+    pub deps_at_lem : (i k d : ℕ) → k ≡ first + i → i < count → d ≡ get_or (contents_in f s).deps k 0 → (d ≡ get_or (unknown_in f s u).deps i 0) × (d < s.counts.names)
+    deps_at_lem i k d ek l e =
+        let p : d ≡ get_or (contents_in f s).deps (first + i) 0 = rw ek at e in
+        (p ∙ sym (rw (← ef) at (unknown_dep u h i (rw ec at l))), omega (arith, p, dep_below f s o (first + i) (omega (arith, deps_within))))
 
   -- every dependent that an unknown lists is a name
   pub unknown_deps_below : (u : ℕ) → u < s.counts.unknowns → (j : ℕ) → j < length (unknown_in f s u).deps → get_or (unknown_in f s u).deps j 0 < s.counts.names
@@ -73,11 +74,11 @@ module _ (f : List ℕ) (s : Sections) (o : Open f s) where
       pub run_count : length (unknowns_in f s m) ≡ count
       run_count = rw ec model_unknowns_count
 
-      pub run_unknown : (i : ℕ) → i < count → get_or (unknowns_in f s m) i no_unknown ≡ unknown_in f s (first + i)
-      run_unknown i l = rw ef (model_unknown i no_unknown (rw ec at l))
+      pub run_unknown : (i u : ℕ) → u ≡ first + i → i < count → get_or (unknowns_in f s m) i no_unknown ≡ unknown_in f s u
+      run_unknown i u eu l = rw (eu, ef) (model_unknown i no_unknown (rw ec at l))
 
-      pub run_name : (i n : ℕ) → i < count → n ≡ word_of (get_or (contents_in f s).unknowns (first + i) []) 0 → ((get_or (unknowns_in f s m) i no_unknown).name ≡ n) × (n < s.counts.names)
-      run_name i n l e =
-          let h : first + i < s.counts.unknowns = omega (arith, run_within) in
-          let q : (unknown_in f s (first + i)).name ≡ n = unknown_name_lem (first + i) h ∙ sym e in
-          (ap (λ (u : Unknown). u.name) (run_unknown i l) ∙ q, omega (arith, (unknown_is f s o (first + i) h).name_below, e))
+      pub run_name : (i u n : ℕ) → u ≡ first + i → i < count → n ≡ word_of (get_or (contents_in f s).unknowns u []) 0 → ((get_or (unknowns_in f s m) i no_unknown).name ≡ n) × (n < s.counts.names)
+      run_name i u n eu l e =
+          let h : u < s.counts.unknowns = omega (arith, run_within, eu) in
+          let q : (unknown_in f s u).name ≡ n = unknown_name_lem u h ∙ sym e in
+          (ap (λ (u : Unknown). u.name) (run_unknown i u eu l) ∙ q, omega (arith, (unknown_is f s o u h).name_below, e))

@@ -37,19 +37,26 @@ range_last : (a n : ℕ) → range_with_len a (suc n) ≡ range_with_len a n ++ 
 range_last a zero = let z : a ≡ a + 0 = omega arith in ap (λ (k : ℕ). k ∷ []) z
 range_last a (suc n) = let z : a + 1 + n ≡ a + suc n = omega arith in ap (λ (xs : List ℕ). a ∷ xs) (range_last (a + 1) n ∙ ap (λ (k : ℕ). range_with_len (a + 1) n ++ k ∷ []) z)
 
-module _ (f : File) (root : ℕ) (t p : ℕ → Bool) where
-  -- where t says of each of the first n models what p says
-  models_along : (n : ℕ) → ((m : ℕ) → m < n → t m ≡ p m) → list_any (λ m. (eqb m root || reached f root m) && t m) (range_with_len 0 n) ≡ any_reached f root p n
-  unfolding any_reached
-  models_along zero h = refl
-  models_along (suc n) h =
-      let z : 0 + n ≡ n = omega arith in
-      let test = λ (m : ℕ). (eqb m root || reached f root m) && t m in
-      ap (list_any test) (range_last 0 n) ∙ list_any-append test (range_with_len 0 n) _ ∙ or_comm (list_any test (range_with_len 0 n)) _ ∙ rw (z, or-false (test n), h n (omega arith), models_along n (λ m l. h m (omega arith)))
+module _ (f : File) (root : ℕ) where
+  module _ (p : ℕ → Bool) where
+    -- of the first n models
+    models_along : (n : ℕ) → list_any (λ m. (eqb m root || reached f root m) && p m) (range_with_len 0 n) ≡ any_reached f root p n
+    unfolding any_reached
+    models_along zero = refl
+    models_along (suc n) =
+        let z : 0 + n ≡ n = omega arith in
+        let test = λ (m : ℕ). (eqb m root || reached f root m) && p m in
+        ap (list_any test) (range_last 0 n) ∙ list_any-append test (range_with_len 0 n) _ ∙ or_comm (list_any test (range_with_len 0 n)) _ ∙ rw (z, or-false (test n), models_along n) refl
 
-  -- of all models
-  pub reached_along : (n : ℕ) → length f.models ≡ n → ((m : ℕ) → m < n → t m ≡ p m) → list_any (λ m. (eqb m root || reached f root m) && t m) (range_with_len 0 n) ≡ any_reached f root p (length f.models)
-  reached_along n l h = rw l (models_along n h)
+    -- of all models
+    pub reached_along : (n : ℕ) → length f.models ≡ n → list_any (λ m. (eqb m root || reached f root m) && p m) (range_with_len 0 n) ≡ any_reached f root p (length f.models)
+    reached_along n l = rw l (models_along n)
+
+  -- the same where t says of each of the first n models what p says
+  pub reached_same : (t p : ℕ → Bool) (n : ℕ) → ((m : ℕ) → m < n → t m ≡ p m) → any_reached f root t n ≡ any_reached f root p n
+  unfolding any_reached
+  reached_same t p zero h = refl
+  reached_same t p (suc n) h = rw (h n (omega arith), reached_same t p n (λ m l. h m (omega arith))) refl
 
 -- ---- what the table of models reached says
 

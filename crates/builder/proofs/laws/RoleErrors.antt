@@ -16,7 +16,7 @@ use Rattle.definitions.specs.Numbers.{name_not_found, wrong_start, rate_invalid}
 use Rattle.definitions.specs.Variables.{Error, error}
 use Rattle.definitions.specs.Roles as roles
 use Rattle.ast.specs.Numbers.{number_of}
-use Rattle.area.specs.Listing.{kind_number, found_as, Lists}
+use Rattle.area.specs.Listing.{kind_number, error_as, found_as, Lists}
 use Rattle.area.specs.declared.errors.Found.{Found}
 use Rattle.area.specs.declared.errors.ErrorKind.{ErrorKind}
 use Rattle.std.specs.Prelude as rust
@@ -27,6 +27,7 @@ use Rattle.builder.specs.declared.allocation.roles.Start.{Start}
 use Rattle.builder.specs.declared.allocation.roles.Start.TheVariants.{Short, Number}
 use Rattle.builder.specs.Allocating.{flat_in, flats_in, Flattened, entry_by, start_by, start_errors_by, rate_errors_by, role_errors_by, found_start, start_at, CallFits}
 use Rattle.area.specs.Sections.{area_nodes, area_stmt}
+use Rattle.area.proofs.Listings.{found_one}
 use Rattle.builder.proofs.laws.LeftSides.{entry_none, entry_some, found_start_lem}
 use Rattle.builder.proofs.laws.Flats.{flats_count, flat_here, flat_equation, flat_rate}
 use Rattle.builder.proofs.laws.ModelErrors.{run_room, run_goes, run_ends}
@@ -36,8 +37,8 @@ use Rattle.definitions.proofs.ErrorCount.{length_unless}
 
 -- an error with the span from word k of a record on
 pub found_spanned : (r : List ℕ) (k : ℕ) (kind : ErrorKind) (a b n m : ℕ) → a ≡ word_of r k → b ≡ word_of r (suc k) → n ≡ m
-    → found_as (rust.Some (record { kind = kind; from = a; to = b; name = n })) ≡ error (kind_number kind) (span_from r k) m ∷ []
-unfolding found_as span_from
+    → error_as (record { kind = kind; from = a; to = b; name = n }) ≡ error (kind_number kind) (span_from r k) m
+unfolding span_from
 found_spanned r k kind a b n m e g h = rw (e, g, h) refl
 
 module _ (b : Bool) (e : Error) where
@@ -47,9 +48,9 @@ module _ (b : Bool) (e : Error) where
   found_none h = rw h refl
 
   -- the error where it fails
-  pub found_error : (x : rust.Option Found) → b ≡ false → found_as x ≡ e ∷ [] → found_as x ≡ unless b e
+  pub found_error : (x : Found) → b ≡ false → error_as x ≡ e → found_as (rust.Some x) ≡ unless b e
   unfolding unless
-  found_error x h g = rw h g
+  found_error x h g = rw h (found_one x e g)
 
 -- ---- by the answer for a left side
 

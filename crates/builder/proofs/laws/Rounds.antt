@@ -155,17 +155,17 @@ module _ (f : File) (q : Stmt) (old : List ℕ) (n a : ℕ) (was : List ℕ) whe
 
 -- ---- the statements of model a in a loop's terms; the first one's number and the count are those of its record
 
-module _ (f : List ℕ) (s : Sections) (o : Open f s) (old : List ℕ) (a : ℕ) (l : a < s.counts.models) (first count i : ℕ)
+module _ (f : List ℕ) (s : Sections) (o : Open f s) (old : List ℕ) (a : ℕ) (l : a < s.counts.models) (first count q i : ℕ) (eq : q ≡ first + i)
     (ef : first ≡ word_of (get_or (contents_in f s).models a []) 3) (ec : count ≡ word_of (get_or (contents_in f s).models a []) 4) where
   -- one more
-  pub row_more : (t t' : List ℕ) → i < count → Added s.counts.models a (λ y. any (onward old y) (stmt_models (file_in f s) (stmt_of (contents_in f s).nodes (get_or (contents_in f s).stmts (first + i) [])))) t t'
+  pub row_more : (t t' : List ℕ) → q < first + count → Added s.counts.models a (λ y. any (onward old y) (stmt_models (file_in f s) (stmt_of (contents_in f s).nodes (get_or (contents_in f s).stmts q [])))) t t'
       → Rowed (file_in f s) s.counts.models old a i t → Rowed (file_in f s) s.counts.models old a (i + 1) t'
   row_more t t' h d r =
       let m = model_is f s o a l in
-      let q = stmt_of (contents_in f s).nodes (get_or (contents_in f s).stmts (first + i) []) in
-      let e : get_or (model_at (file_in f s) a).stmts i q ≡ q = m.stmt i q (omega (arith, ec)) ∙ ap (λ (k : ℕ). stmt_of (contents_in f s).nodes (get_or (contents_in f s).stmts (k + i) [])) (sym ef) in
-      rowed_more (file_in f s) s.counts.models old o.laid.within.models a l i q t t' (omega (arith, m.stmts_long, ec)) e d r
+      let it = λ (k : ℕ). stmt_of (contents_in f s).nodes (get_or (contents_in f s).stmts k []) in
+      let e : get_or (model_at (file_in f s) a).stmts i (it q) ≡ it q = m.stmt i (it q) (omega (arith, ec, eq)) ∙ ap it (sym (eq ∙ ap (λ (k : ℕ). k + i) ef)) in
+      rowed_more (file_in f s) s.counts.models old o.laid.within.models a l i (it q) t t' (omega (arith, m.stmts_long, ec, eq)) e d r
 
   -- all
-  pub row_done : (t : List ℕ) → count ≤ i → Rowed (file_in f s) s.counts.models old a i t → Stepped (file_in f s) s.counts.models old (a + 1) t
-  row_done t h r = rowed_done (file_in f s) s.counts.models old o.laid.within.models a l i t (omega (arith, (model_is f s o a l).stmts_long, ec)) r
+  pub row_done : (t : List ℕ) → first + count ≤ q → Rowed (file_in f s) s.counts.models old a i t → Stepped (file_in f s) s.counts.models old (a + 1) t
+  row_done t h r = rowed_done (file_in f s) s.counts.models old o.laid.within.models a l i t (omega (arith, (model_is f s o a l).stmts_long, ec, eq)) r

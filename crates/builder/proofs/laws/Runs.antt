@@ -17,15 +17,15 @@ use Rattle.builder.specs.Checking.{unknown_in, stmt_in}
 use Rattle.builder.proofs.laws.OpenRecords.{model_is, unknown_is}
 use Rattle.builder.proofs.laws.Ranges.{any_along}
 
-module _ (f : List ℕ) (s : Sections) (o : Open f s) (m : ℕ) (h : m < s.counts.models) (first count i : ℕ) where
+module _ (f : List ℕ) (s : Sections) (o : Open f s) (m : ℕ) (h : m < s.counts.models) (first count k : ℕ) where
   module _ (ef : first ≡ word_of (get_or (contents_in f s).models m []) 1) (ec : count ≡ word_of (get_or (contents_in f s).models m []) 2) where
-    -- unknown number i of the run is one of the unknowns
-    pub unknowns_below : i < count → first + i < s.counts.unknowns
+    -- what stands before the end of the run is one of the unknowns
+    pub unknowns_below : k < first + count → k < s.counts.unknowns
     unknowns_below l = omega (arith, (model_is f s o m h).unknowns_within)
 
   module _ (ef : first ≡ word_of (get_or (contents_in f s).models m []) 3) (ec : count ≡ word_of (get_or (contents_in f s).models m []) 4) where
-    -- statement number i of the run is one of the statements
-    pub stmts_below : i < count → first + i < s.counts.stmts
+    -- what stands before the end of the run is one of the statements
+    pub stmts_below : k < first + count → k < s.counts.stmts
     stmts_below l = omega (arith, (model_is f s o m h).stmts_within)
 
 -- ---- whether any passes, by their numbers
@@ -53,20 +53,20 @@ pub record UnknownOf (f : List ℕ) (s : Sections) (m u i : ℕ) : Type 0 where
   pub there : i < length (model_at (file_in f s) m).unknowns
   pub here : get_or (model_at (file_in f s) m).unknowns i (unknown_in f s u) ≡ unknown_in f s u
 
-module _ (f : List ℕ) (s : Sections) (o : Open f s) (m : ℕ) (h : m < s.counts.models) (first count i : ℕ)
+module _ (f : List ℕ) (s : Sections) (o : Open f s) (m : ℕ) (h : m < s.counts.models) (first count u i : ℕ) (eu : u ≡ first + i)
     (ef : first ≡ word_of (get_or (contents_in f s).models m []) 1) (ec : count ≡ word_of (get_or (contents_in f s).models m []) 2) where
-  pub unknown_of_run : i < count → UnknownOf f s m (first + i) i
+  pub unknown_of_run : u < first + count → UnknownOf f s m u i
   unfolding unknown_of
   unknown_of_run l =
       let a = model_is f s o m h in
-      let below : first + i < s.counts.unknowns = omega (arith, a.unknowns_within) in
+      let below = unknowns_below f s o m h first count u ef ec l in
       record {
         below = below;
-        named = (unknown_is f s o (first + i) below).name_below;
-        there = omega (arith, a.unknowns_long, ec);
-        here = a.unknown i _ (omega (arith, ec)) ∙ ap (λ (k : ℕ). unknown_in f s (k + i)) (sym ef);
+        named = (unknown_is f s o u below).name_below;
+        there = omega (arith, a.unknowns_long, ec, eu);
+        here = a.unknown i _ (omega (arith, ec, eu)) ∙ ap (unknown_in f s) (sym (eu ∙ ap (λ (k : ℕ). k + i) ef));
       }
 
   -- the run has all unknowns of the model
-  pub run_all : count ≤ i → length (model_at (file_in f s) m).unknowns ≤ i
-  run_all l = omega (arith, (model_is f s o m h).unknowns_long, ec)
+  pub run_all : first + count ≤ u → length (model_at (file_in f s) m).unknowns ≤ i
+  run_all l = omega (arith, (model_is f s o m h).unknowns_long, ec, eu)

@@ -1,5 +1,5 @@
 -- Reaching t in the records of an area's variables: round by round, the marks of a round taken over record by record.
-use mathlib.Core.Path.{◌≡◌, refl, sym, ap, ◌∙◌}
+use mathlib.Core.Path.{◌≡◌, refl, sym, ap, ap₂, ◌∙◌}
 use mathlib.Core.Bool.{Bool, true, false, not, ◌||◌, or-false as or_nothing}
 use mathlib.Core.List.{List, [], ◌∷◌}
 use Prim.Native.Nat.{ℕ, zero, suc, ◌+◌, ◌-◌, ◌*◌, ◌≤◌, ◌<◌}
@@ -11,9 +11,8 @@ use borrow.Author.Tests.{ltb-true, eqb-true, not-false}
 use lib.Dec.{ltb, eqb}
 use lib.ListN.{length, take, drop, get_or, set, length-drop, length-map}
 use lib.Seq.{get_or-take, get_or-drop, length-take-le, get_or-set_same, get_or-set_other, set-get_or, set-set}
+use Rattle.std.specs.List.{list_any, range_with_len}
 use Rattle.functions.specs.Lists.{any, reaches, flag}
-use Rattle.functions.proofs.Lists.{drop_past}
-use Rattle.functions.proofs.Loops.{any_step}
 use Rattle.ast.specs.Words.{words, word_of}
 use Rattle.ast.proofs.Fields.{length_deps, length_section}
 use Rattle.ast.proofs.Files.{all_at}
@@ -23,6 +22,7 @@ use Rattle.area.proofs.VarsWritten.{column_set, vars_stay, vars_then}
 use Rattle.definitions.proofs.Counts.{or_false}
 use Rattle.definitions.proofs.ListLaws.{flag_one}
 use Rattle.builder.specs.Reaching.{deps_in, marks_in, leads, DepsIn, Round, timed_by, timed_from}
+use Rattle.builder.proofs.laws.Ranges.{any_along}
 use Rattle.builder.proofs.laws.Filled.{Filled, filled_none, filled_more}
 use Rattle.builder.proofs.laws.FateRecords.{record_placed, length_words}
 use Rattle.builder.proofs.laws.Timing.{any_alike}
@@ -44,26 +44,30 @@ module _ (z : Sizes) (b : List ℕ) (d : DepsIn z b) (v : ℕ) (h : v < z.vars) 
   unfolding deps_in
   how_many = length-take-le count (drop first listed) (simp length-drop (omega (arith, length_deps b (deps_at z) z.deps d.long, d.within v h)))
 
-  -- the one that is read is among them
-  pub dep_read : (i at f r : ℕ) → i < count → at ≡ deps_at z → f ≡ first → r ≡ get_or (take z.deps (words (drop at b))) (f + i) 0 → r ≡ get_or (deps_in b z v) i 0
+  -- the one at place i is among all that are listed
+  dep_listed : (i : ℕ) → i < count → get_or listed (first + i) 0 ≡ get_or (deps_in b z v) i 0
   unfolding deps_in
-  dep_read i at f r l p q e = e ∙ rw (p, q) (sym (get_or-take count (drop first listed) i 0 l ∙ get_or-drop first listed i 0))
+  dep_listed i l = sym (get_or-take count (drop first listed) i 0 l ∙ get_or-drop first listed i 0)
 
-  module _ (i r : ℕ) (l : i < count) (e : r ≡ get_or (deps_in b z v) i 0) where
-    -- it is a variable
-    pub dep_below : r < z.vars
-    dep_below =
-        let t : ltb (get_or (deps_in b z v) i 0) z.vars ≡ true = all_at (λ d. ltb d z.vars) (deps_in b z v) 0 (d.below v h) i (omega (arith, how_many)) in
-        ltb-true r z.vars (rw (← e) at t)
+  module _ (f n : ℕ) (ef : f ≡ first) (en : n ≡ count) where
+    -- each of them is there
+    pub run_within : f + n ≤ z.deps
+    run_within = omega (arith, d.within v h)
 
-    -- one further
-    pub any_on : (p : ℕ → Bool) → any p (drop i (deps_in b z v)) ≡ (p r || any p (drop (i + 1) (deps_in b z v)))
-    any_on p = rw (e, add-one) (any_step (deps_in b z v) 0 i (omega (arith, how_many)) p)
+    -- and is a variable
+    pub dep_below : (at k r : ℕ) → at ≡ deps_at z → f ≤ k → k < f + n → r ≡ get_or (take z.deps (words (drop at b))) k 0 → r < z.vars
+    dep_below at k r ea l g e =
+        let i : first + (k - first) ≡ k = omega arith in
+        let w : k - first < count = omega arith in
+        let t : ltb (get_or (deps_in b z v) (k - first) 0) z.vars ≡ true = all_at (λ d. ltb d z.vars) (deps_in b z v) 0 (d.below v h) (k - first) (omega (arith, how_many)) in
+        let q : r ≡ get_or (deps_in b z v) (k - first) 0 = rw ea at e ∙ ap (λ (j : ℕ). get_or listed j 0) (sym i) ∙ dep_listed (k - first) w in
+        ltb-true r z.vars (rw (← q) at t)
 
-  -- none is left
-  pub any_out : (p : ℕ → Bool) (i : ℕ) → count ≤ i → any p (drop i (deps_in b z v)) ≡ false
-  unfolding any
-  any_out p i l = ap (any p) (drop_past (deps_in b z v) i (omega (arith, how_many)))
+    -- whether any passes, by the numbers of those listed
+    pub any_dep : (p : ℕ → Bool) → list_any (λ k. p (get_or listed k 0)) (range_with_len f n) ≡ any p (deps_in b z v)
+    any_dep p =
+        ap₂ (λ (a m : ℕ). list_any (λ k. p (get_or listed k 0)) (range_with_len a m)) ef (en ∙ sym how_many)
+        ∙ any_along (λ k. p (get_or listed k 0)) p 0 first (deps_in b z v) (λ k l. ap p (dep_listed k (omega (arith, how_many))))
 
 -- ---- records with marks
 
@@ -138,64 +142,59 @@ module _ (z : Sizes) (b : List ℕ) where
 
 -- ---- marks taken over from a round
 
--- the first v of a table's marks, and whether one of those was new
-pub record Taken (was next : List ℕ) (v : ℕ) (changed : Bool) (table : List ℕ) : Type 0 where
-  pub filled : Filled 0 (length was) (λ (k : ℕ). get_or next k 0) v table
+-- the first v of a table's marks, taken over from a test, and whether one of those was new
+pub record Taken (was : List ℕ) (next : ℕ → Bool) (v : ℕ) (changed : Bool) (table : List ℕ) : Type 0 where
+  pub filled : Filled 0 (length was) (λ (k : ℕ). flag (next k)) v table
   pub rest : (k : ℕ) → v ≤ k → get_or table k 0 ≡ get_or was k 0
-  pub same : changed ≡ false → (k : ℕ) → k < v → get_or next k 0 ≡ get_or was k 0
+  pub same : changed ≡ false → (k : ℕ) → k < v → flag (next k) ≡ get_or was k 0
 
-module _ (was next : List ℕ) where
+module _ (was : List ℕ) (next : ℕ → Bool) where
   taken_none : Taken was next 0 false was
   taken_none = record { filled = filled_none 0 (length was) _ was refl; rest = λ k l. refl; same = λ q k l. absurd (omega arith) }
 
   taken_more : (v : ℕ) (changed : Bool) (table : List ℕ) → v < length was → Taken was next v changed table
-      → Taken was next (v + 1) (changed || not (eqb (get_or table v 0) (get_or next v 0))) (set table v (get_or next v 0))
+      → Taken was next (v + 1) (changed || not (eqb (get_or table v 0) (flag (next v)))) (set table v (flag (next v)))
   taken_more v changed table l t = record {
-    filled = filled_more 0 (length was) _ v (get_or next v 0) table l refl t.filled;
-    rest = λ k h. get_or-set_other table v k (get_or next v 0) 0 (λ q. omega arith) ∙ t.rest k (omega arith);
+    filled = filled_more 0 (length was) _ v (flag (next v)) table l refl t.filled;
+    rest = λ k h. get_or-set_other table v k (flag (next v)) 0 (λ q. omega arith) ∙ t.rest k (omega arith);
     same = λ q k h. let (a, b) = or_false changed _ q in go a (not-false _ b) k h (ℕ_discrete k v);
   }
     where
-      go : changed ≡ false → eqb (get_or table v 0) (get_or next v 0) ≡ true → (k : ℕ) → k < v + 1 → Dec (k ≡ v) → get_or next k 0 ≡ get_or was k 0
-      go a b k h (yes q) = rw q (sym (eqb-true (get_or table v 0) (get_or next v 0) b) ∙ t.rest v (omega arith))
+      go : changed ≡ false → eqb (get_or table v 0) (flag (next v)) ≡ true → (k : ℕ) → k < v + 1 → Dec (k ≡ v) → flag (next k) ≡ get_or was k 0
+      go a b k h (yes q) = rw q (sym (eqb-true (get_or table v 0) (flag (next v)) b) ∙ t.rest v (omega arith))
       go a b k h (no q) = t.same a k (omega arith)
 
--- an area in which the first v marks are taken over from those of a round, by the area at first and as it is
-pub record TakenOver (z : Sizes) (b next : List ℕ) (v : ℕ) (changed : Bool) (b' : List ℕ) : Type 0 where
+-- an area in which the first v marks are taken over from a test, by the area at first and as it is
+pub record TakenOver (z : Sizes) (b : List ℕ) (next : ℕ → Bool) (v : ℕ) (changed : Bool) (b' : List ℕ) : Type 0 where
   pub kept : VarsAre z b (area_vars b' z) b'
-  pub others : timed_from (λ w. eqb (get_or next w 0) 1) 0 (area_vars b' z) ≡ timed_from (λ w. eqb (get_or next w 0) 1) 0 (area_vars b z)
+  pub others : timed_from next 0 (area_vars b' z) ≡ timed_from next 0 (area_vars b z)
   pub marks : Taken (marks_in b z) next v changed (marks_in b' z)
 
--- a mark is 0 or 1
-marked : (x : ℕ) (a : Bool) → x ≡ flag a → x ≡ flag (eqb x 1)
-marked x a e = rw e (sym (ap flag (flag_one a)))
-
-module _ (z : Sizes) (b next : List ℕ) where
+module _ (z : Sizes) (b : List ℕ) (next : ℕ → Bool) where
   -- none yet
   pub over_none : TakenOver z b next 0 false b
   over_none = record { kept = vars_stay z b; others = refl; marks = taken_none (marks_in b z) next }
 
   -- one more
   pub over_more : (v : ℕ) (changed : Bool) (b₁ b₂ : List ℕ) (old : ℕ) → deps_at z ≤ length b → v < z.vars → old ≡ get_or (marks_in b₁ z) v 0
-      → VarsAre z b₁ (with_word (area_vars b₁ z) v 7 (get_or next v 0)) b₂ → TakenOver z b next v changed b₁
-      → TakenOver z b next (v + 1) (changed || not (eqb old (get_or next v 0))) b₂
+      → VarsAre z b₁ (with_word (area_vars b₁ z) v 7 (flag (next v))) b₂ → TakenOver z b next v changed b₁
+      → TakenOver z b next (v + 1) (changed || not (eqb old (flag (next v)))) b₂
   over_more v changed b₁ b₂ old room h e w t =
       let wide : 7 < length (get_or (area_vars b₁ z) v []) = omega (arith, var_long z b₁ (omega (arith, t.kept.long)) v h) in
-      let m : marks_in b₂ z ≡ set (marks_in b₁ z) v (get_or next v 0) = ap (column 7) w.records ∙ column_set (area_vars b₁ z) v 7 (get_or next v 0) wide in
+      let m : marks_in b₂ z ≡ set (marks_in b₁ z) v (flag (next v)) = ap (column 7) w.records ∙ column_set (area_vars b₁ z) v 7 (flag (next v)) wide in
       record {
         kept = vars_then z b b₁ b₂ (area_vars b₁ z) (area_vars b₂ z) t.kept (record { front = w.front; behind = w.behind; long = w.long; records = refl });
-        others = ap (timed_from (λ u. eqb (get_or next u 0) 1) 0) w.records ∙ timed_one (λ u. eqb (get_or next u 0) 1) 0 v (get_or next v 0) (area_vars b₁ z) ∙ t.others;
+        others = ap (timed_from next 0) w.records ∙ timed_one next 0 v (flag (next v)) (area_vars b₁ z) ∙ t.others;
         marks = rw (e, m) (taken_more (marks_in b z) next v changed (marks_in b₁ z) (omega (arith, length_marks z b)) t.marks);
       }
 
   -- all of them
-  pub over_all : (v : ℕ) (changed : Bool) (b' : List ℕ) → Round z b next → z.vars ≤ v → TakenOver z b next v changed b'
-      → VarsAre z b (timed_from (λ w. eqb (get_or next w 0) 1) 0 (area_vars b z)) b'
-  over_all v changed b' r l t = record {
+  pub over_all : (v : ℕ) (changed : Bool) (b' : List ℕ) → z.vars ≤ v → TakenOver z b next v changed b' → VarsAre z b (timed_from next 0 (area_vars b z)) b'
+  over_all v changed b' l t = record {
     front = t.kept.front;
     behind = t.kept.behind;
     long = t.kept.long;
-    records = sym (vars_stay_marked z b' (λ w. eqb (get_or next w 0) 1) (λ w h. t.marks.filled.entry w (omega arith) ∙ marked (get_or next w 0) _ (r.mark w h))) ∙ t.others;
+    records = sym (vars_stay_marked z b' next (λ w h. t.marks.filled.entry w (omega arith))) ∙ t.others;
   }
 
 -- ---- round by round
@@ -243,22 +242,21 @@ module _ (z : Sizes) (b : List ℕ) (d : DepsIn z b) (k : ℕ) (b' : List ℕ) (
       ∙ timed_marks (timed_by b z k) 0 v (area_vars b z) (omega (arith, length_vars z b)) wide
       ∙ rw zero-add refl
 
-  module _ (new : List ℕ) (r : Round z b' new) where
+  module _ (new : List Bool) (r : Round z b' new) where
     -- a round more is a step more
-    round_is : (v : ℕ) → v < z.vars → eqb (get_or new v 0) 1 ≡ timed_by b z (suc k) v
+    round_is : (v : ℕ) → v < z.vars → get_or new v false ≡ timed_by b z (suc k) v
     unfolding leads
     round_is v h =
-        ap (λ (n : ℕ). eqb n 1) (r.mark v h)
-        ∙ flag_one _
+        r.mark v h
         ∙ ap (λ (ds : List ℕ). eqb v 0 || any (leads (marks_in b' z)) ds) (deps_same v)
         ∙ ap (λ (a : Bool). eqb v 0 || a) (any_alike (leads (marks_in b' z)) (timed_by b z k) z.vars (deps_in b z v) (d.below v h) (λ x l. rw (marks_now x l) (flag_one _)))
         ∙ sym (timed_step z b k v)
 
-    module _ (b'' : List ℕ) (w : VarsAre z b' (timed_from (λ v. eqb (get_or new v 0) 1) 0 (area_vars b' z)) b'') where
+    module _ (b'' : List ℕ) (w : VarsAre z b' (timed_from (λ v. get_or new v false) 0 (area_vars b' z)) b'') where
       -- the marks taken over are any that the round's agree with
-      taken_as : (u : ℕ → Bool) → ((v : ℕ) → v < z.vars → eqb (get_or new v 0) 1 ≡ u v) → VarsAre z b (timed_from u 0 (area_vars b z)) b''
+      taken_as : (u : ℕ → Bool) → ((v : ℕ) → v < z.vars → get_or new v false ≡ u v) → VarsAre z b (timed_from u 0 (area_vars b z)) b''
       taken_as u h =
-          let t : ℕ → Bool = λ v. eqb (get_or new v 0) 1 in
+          let t : ℕ → Bool = λ v. get_or new v false in
           vars_then z b b' b'' _ _ e (record {
             front = w.front;
             behind = w.behind;
@@ -270,10 +268,10 @@ module _ (z : Sizes) (b : List ℕ) (d : DepsIn z b) (k : ℕ) (b' : List ℕ) (
       pub reached_more : VarsAre z b (timed_from (timed_by b z (k + 1)) 0 (area_vars b z)) b''
       reached_more = rw add-one (taken_as (timed_by b z (suc k)) round_is)
 
-      module _ (same : (v : ℕ) → v < z.vars → get_or new v 0 ≡ get_or (marks_in b' z) v 0) where
+      module _ (same : (v : ℕ) → v < z.vars → flag (get_or new v false) ≡ get_or (marks_in b' z) v 0) where
         -- a step more marks nothing new
         same_step : (v : ℕ) → v < z.vars → timed_by b z (suc k) v ≡ timed_by b z k v
-        same_step v h = sym (round_is v h) ∙ ap (λ (n : ℕ). eqb n 1) (same v h ∙ marks_now v h) ∙ flag_one _
+        same_step v h = sym (round_is v h) ∙ sym (flag_one _) ∙ ap (λ (n : ℕ). eqb n 1) (same v h ∙ marks_now v h) ∙ flag_one _
 
         -- nor do any more
         same_on : (j v : ℕ) → v < z.vars → timed_by b z (j + k) v ≡ timed_by b z k v

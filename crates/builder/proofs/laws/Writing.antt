@@ -235,22 +235,22 @@ module _ (f : List ℕ) (s : Sections) (k m : ℕ) (rows₀ : List ℕ) (level :
       }
 
   module _ (o : Open f s) (l : m < s.counts.models) (rows out : List ℕ) (total : Written) (i : ℕ) (h : Writing rows out total i) where
-    module _ (first : ℕ) (b : i < stmt_count (get_or (contents_in f s).models m [])) (ef : first ≡ first_stmt (get_or (contents_in f s).models m [])) where
+    module _ (q : ℕ) (b : i < stmt_count (get_or (contents_in f s).models m [])) (eq : q ≡ first_stmt (get_or (contents_in f s).models m []) + i) where
       abbrev next : List Flat
-      next = brought_at f s rows level (λ j. flatten (file_in f s) (k - 1) j) (first + i)
+      next = brought_at f s rows level (λ j. flatten (file_in f s) (k - 1) j) q
 
       left_next : left i ≡ next ++ left (i + 1)
-      left_next = rest_next f s o rows₀ rows level (k - 1) m i first l h.kept b ef
+      left_next = rest_next f s o rows₀ rows level (k - 1) m i q l h.kept b eq
 
       both_fit : FlatsFit total (next ++ left (i + 1)) (length out)
       both_fit = fits_same total (length out) (next ++ left (i + 1)) (left i) (sym left_next) h.room
 
       -- there is room for the next statement
-      pub writing_room : FlatsFit total (brought_at f s rows level (λ j. flatten (file_in f s) (k - 1) j) (first + i)) (length out)
+      pub writing_room : FlatsFit total (brought_at f s rows level (λ j. flatten (file_in f s) (k - 1) j) q) (length out)
       writing_room = first_fit total out next (left (i + 1)) both_fit
 
       pub writing_step : (rows' out' : List ℕ) (r : Written)
-          → FlatsPut total out (brought_at f s rows level (λ j. flatten (file_in f s) (k - 1) j) (first + i)) r out' × RowsKept f s level rows rows'
+          → FlatsPut total out (brought_at f s rows level (λ j. flatten (file_in f s) (k - 1) j) q) r out' × RowsKept f s level rows rows'
           → Writing rows' out' r (i + 1)
       writing_step rows' out' r (g, w) =
           record {

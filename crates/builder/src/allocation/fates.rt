@@ -3,6 +3,7 @@ ghost use Rattle.std.specs.Prelude.{◌≡◌, map, ◌+◌, ◌*◌, ◌≤◌,
 ghost use Rattle.ast.specs.Words.{bytes_of};
 ghost use Rattle.ast.specs.Bytes.{put};
 ghost use Rattle.ast.specs.Encode.{encode};
+ghost use Rattle.area.specs.Fates.{fate_number};
 ghost use Rattle.area.specs.Sections.{Small, stmts_at, vars_at, area_stmts, area_stmt};
 ghost use Rattle.definitions.specs.Numbers.{stmt_length};
 ghost use Rattle.definitions.specs.Roles.{free};
@@ -17,15 +18,15 @@ use area::sections::{Sizes, stmts_at};
 use ast::words::put_word;
 
 // Writes the fate of statement i and its variable.
-fn put_fate(area: &mut [u8], z: Sizes, i: usize, fate: u32, v: u32)
+fn put_fate(area: &mut [u8], z: Sizes, i: usize, fate: Fate, v: u32)
     requires { Small z
         × (vars_at z ≤ length area.old)
         × (i < z.stmts) }
     ensures { area.new ≡ put area.old (stmts_at z + 4 * stmt_length * i)
-        (bytes_of (with_fate (area_stmt area.old z i) (fate, v))) }
+        (bytes_of (with_fate (area_stmt area.old z i) (fate_number fate, v))) }
 {
     let at = stmts_at(z) + STMT_BYTES * i;
-    put_word(area, at + FATE_AT, fate);
+    put_word(area, at + FATE_AT, fate as u32);
     put_word(area, at + VARIABLE_AT, v);
 }
 
@@ -50,17 +51,17 @@ fn write_fate<'a>(
     match roles[i] {
         Role::Neither => {
             if let Some((v, rest)) = queue.split_first() {
-                put_fate(area, z, i, Fate::Held as u32, u32::from(*v));
+                put_fate(area, z, i, Fate::Held, u32::from(*v));
                 return rest;
             }
-            put_fate(area, z, i, Fate::LeftOver as u32, 0);
+            put_fate(area, z, i, Fate::LeftOver, 0);
         }
-        Role::Initial(v) => put_fate(area, z, i, Fate::Initial as u32, u32::from(v)),
+        Role::Initial(v) => put_fate(area, z, i, Fate::Initial, u32::from(v)),
         Role::Rate(v) => {
             if has_rate(&roles[i + 1..], v) {
-                put_fate(area, z, i, Fate::Replaced as u32, u32::from(v));
+                put_fate(area, z, i, Fate::Replaced, u32::from(v));
             } else {
-                put_fate(area, z, i, Fate::Held as u32, u32::from(v));
+                put_fate(area, z, i, Fate::Held, u32::from(v));
             }
         }
     }
@@ -68,6 +69,7 @@ fn write_fate<'a>(
 }
 
 // Writes the fates of all statements, those left paired with the queued states in order.
+// By number: a statement's record is written by it, and a rate asks for the roles behind it.
 pub fn write_fates(area: &mut [u8], z: Sizes, roles: &[Role], states: &[u16])
     requires { Small z
         × (vars_at z ≤ length area.old)

@@ -6,7 +6,7 @@ ghost use Rattle.ast.specs.Encode.{encode};
 ghost use Rattle.area.specs.Sections.{vars_at, area_stmts, area_vars};
 ghost use Rattle.builder.specs.VarRecords.{held_from, NothingHeld, HeldBehind, HeldChanged};
 
-use area::layout::{Fate, STMT_FATE, STMT_VARIABLE, VAR_HELD, VAR_INITIAL};
+use area::layout::{Fate, STMT_VARIABLE, VAR_HELD, VAR_INITIAL};
 use area::records::{Area, put_var};
 use area::sections::Sizes;
 
@@ -21,16 +21,15 @@ fn hold_stmt(area: &mut [u8], z: Sizes, i: usize)
         bytes: area,
         sizes: z,
     };
-    let fate = read.stmt(i, STMT_FATE);
     let v = read.stmt(i, STMT_VARIABLE);
     if z.vars <= v {
         return;
     }
-    if fate == Fate::Held as usize {
+    if read.is_fated(i, Fate::Held) {
         put_var(area, z, v, VAR_HELD, (i + 1) as u32);
         return;
     }
-    if fate == Fate::Initial as usize {
+    if read.is_fated(i, Fate::Initial) {
         let more = read.var(v, VAR_INITIAL) + 1;
         put_var(area, z, v, VAR_INITIAL, more);
     }

@@ -37,6 +37,8 @@ fn lacks(roles: &[Role], area: &Area, v: u16) -> bool
 }
 
 // The states of an area that no rate equation goes to.
+// A push at each turn, as `lacking_in` says what each one adds: `collect` asks for the allocator of a heap, and
+// there is none; `extend` answers a Result. So also in `roles`.
 pub fn lacking(roles: &[Role], area: &Area) -> ArrayVec<u16, MOST_VARS>
     requires { Small area.now.sizes
         × (deps_at area.now.sizes ≤ length area.now.bytes.now) }

@@ -1,5 +1,5 @@
 // What each flattened statement asks for, read back from the answer's area.
-ghost use Rattle.std.specs.Prelude.{◌≡◌, [], ◌∷◌, map, ℕ, suc, ◌-◌, ◌≤◌, ◌<◌, length, take, get_or, eqb};
+ghost use Rattle.std.specs.Prelude.{◌≡◌, map, ℕ, suc, ◌-◌, ◌≤◌, ◌<◌, length, get_or, eqb};
 ghost use Rattle.functions.specs.Lists.{any, unless, each};
 ghost use Rattle.ast.specs.Words.{word_of, span_from};
 ghost use Rattle.std.specs.Float.Ieee.{eq};
@@ -10,13 +10,14 @@ ghost use Rattle.area.specs.Sections.{Small, nodes_end, vars_at, deps_at};
 ghost use Rattle.area.specs.Views.{nodes_seen, stmt_seen};
 ghost use Rattle.definitions.specs.Numbers.{most_names, wrong_start};
 ghost use Rattle.definitions.specs.Variables.{error};
-ghost use Rattle.area.specs.Listing.{kind_number, found_as, Listed, RoomFor};
+ghost use Rattle.area.specs.Listing.{kind_number, error_as, found_as, Listed, RoomFor};
 ghost use Rattle.builder.specs.Allocating.{arg_node, start_at, short_by, role_as, start_role_by, found_start, StartFits, role_by, ArgIn, NumberIn, StartIn, entry_by, start_errors_by, rate_errors_by, role_errors_by};
 ghost use Rattle.builder.specs.Areas.{flat_seen, flats_seen, FlattenedSeen, NumberedSeen, indexes_seen, rates_seen};
 
 use area::errors::{ErrorKind, Errors, Found};
 use area::layout::{VAR_STATE, VAR_TIME_INDEX, VAR_TIMED};
 use area::records::Area;
+use arrayvec::ArrayVec;
 use ast::kinds::{NodeKind, StmtKind};
 use ast::layout::{
     MOST_STMTS, NODE_BITS, NODE_FROM, NODE_NAME, NODE_OP, NODE_SIZE, NODE_TO, STMT_FROM, STMT_LEFT,
@@ -24,9 +25,12 @@ use ast::layout::{
 };
 use ast::numbers::same_number;
 
-// A statement's role: neither, an initial condition of a variable, or a rate equation that goes to one.
-#[derive(Clone, Copy, PartialEq, Eq)]
+// A statement's role: neither, an initial condition of a variable, or a rate equation that goes to one. Neither is also
+// what a vector of roles has in the places behind its end.
+// It has a case for neither, since with an Option around it each match would be two deep.
+#[derive(Clone, Copy, Default, PartialEq, Eq)]
 pub enum Role {
+    #[default]
     Neither,
     Initial(u16),
     Rate(u16),
@@ -55,6 +59,7 @@ fn arg_at(area: &Area, call: usize, i: usize) -> usize
 }
 
 // What the expression at node i is as a left side.
+// Area, numbers and the first variable go by themselves here: not every test of a role asks for all three.
 fn start_of(area: &Area, numbers: &[u16], i: usize) -> Option<Start>
     requires { FlattenedSeen area.now
         × NumberedSeen area.now numbers.now
@@ -106,6 +111,8 @@ pub fn any_short(area: &Area, numbers: &[u16]) -> bool
 }
 
 // The role of an equation by its left side.
+// An arm for each case, though two do the same: tried as one arm for both, with which the proof did not close, as it
+// has no name there for each of the two. So also in `start_error` and `is_short`.
 fn start_role(area: &Area, start: Option<Start>, lower: f64) -> Role
     requires { (nodes_end area.now.sizes.nodes ≤ length area.now.bytes.now)
         × Small area.now.sizes
@@ -156,34 +163,34 @@ fn allocate_stmt(area: &Area, numbers: &[u16], lower: f64, i: usize) -> Role
 }
 
 // The roles of all statements.
-pub fn roles(area: &Area, numbers: &[u16], lower: f64) -> [Role; MOST_STMTS]
+pub fn roles(area: &Area, numbers: &[u16], lower: f64) -> ArrayVec<Role, MOST_STMTS>
     requires { FlattenedSeen area.now
         × NumberedSeen area.now numbers.now }
-    ensures { map role_as (take area.now.sizes.stmts result) ≡ map (role_by numbers.now (indexes_seen area.now)
+    ensures { map role_as result.items ≡ map (role_by numbers.now (indexes_seen area.now)
         (rates_seen area.now) lower) (flats_seen area.now) }
 {
-    let mut out = [Role::Neither; MOST_STMTS];
+    let mut out = ArrayVec::new();
     for i in 0..area.sizes.stmts {
-        out[i] = allocate_stmt(area, numbers, lower, i);
+        out.push(allocate_stmt(area, numbers, lower, i));
     }
     out
 }
 
 // What is found wrong with statement i.
-fn stmt_error(area: &Area, i: usize, kind: ErrorKind, name: u32) -> Option<Found>
+fn stmt_error(area: &Area, i: usize, kind: ErrorKind, name: u32) -> Found
     requires { Small area.now.sizes
         × (vars_at area.now.sizes ≤ length area.now.bytes.now)
         × (i < area.now.sizes.stmts) }
-    ensures { found_as result ≡ error (kind_number kind) (span_from (stmt_seen area.now i) stmt_span) name ∷ [] }
+    ensures { error_as result ≡ error (kind_number kind) (span_from (stmt_seen area.now i) stmt_span) name }
 {
     let from = area.stmt_word(i, STMT_FROM);
     let to = area.stmt_word(i, STMT_TO);
-    Some(Found {
+    Found {
         kind,
         from,
         to,
         name,
-    })
+    }
 }
 
 // Error 12: the number of argument node `arg`, in time's place of a call, is another than time's lower bound.
@@ -232,13 +239,14 @@ fn rate_error(area: &Area, numbers: &[u16], i: usize) -> Option<Found>
 {
     let name = area.stmt_word(i, STMT_NAME);
     match numbers[name as usize].checked_sub(1) {
-        None => stmt_error(area, i, ErrorKind::NameNotFound, 1 + name),
+        None => Some(stmt_error(area, i, ErrorKind::NameNotFound, 1 + name)),
         Some(v) if takes_rate(area, usize::from(v)) => None,
-        Some(_) => stmt_error(area, i, ErrorKind::RateInvalid, 1 + name),
+        Some(_) => Some(stmt_error(area, i, ErrorKind::RateInvalid, 1 + name)),
     }
 }
 
 // Which of the errors 12, 5 and 13 is found of statement i.
+// By kind as `allocate_stmt` goes: a role has no span and no name, which an error needs.
 fn role_error(area: &Area, numbers: &[u16], lower: f64, i: usize) -> Option<Found>
     requires { FlattenedSeen area.now
         × NumberedSeen area.now numbers.now

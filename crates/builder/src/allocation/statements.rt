@@ -33,7 +33,7 @@ pub fn allocate_stmts(area: &mut [u8], z: Sizes, numbers: &[u16], lower: f64) ->
         sizes: z,
     };
     let table = roles(&read, numbers, lower);
-    let roles = &table[..z.stmts];
+    let roles = table.as_slice();
     let states = lacking(roles, &read);
     let left = Left {
         stmts: left_count(roles),

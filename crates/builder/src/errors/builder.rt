@@ -1,5 +1,5 @@
 // `builder`: the errors of a model and of the submodels that it calls, in the order of the Rust.
-ghost use Rattle.std.specs.Prelude.{◌≡◌, [], ◌∷◌, ℕ, ◌^◌, ◌≤◌, ◌<◌, get_or};
+ghost use Rattle.std.specs.Prelude.{◌≡◌, [], ℕ, ◌^◌, ◌≤◌, ◌<◌, get_or};
 ghost use Rattle.functions.specs.Lists.{unless, each};
 ghost use Rattle.ast.specs.Records.{kind_of_stmt, span_of_unknown};
 ghost use Rattle.ast.specs.Views.{nodes_seen, contents_seen, file_seen};
@@ -7,7 +7,7 @@ ghost use Rattle.definitions.specs.Numbers.{most_models, submodel_kind};
 ghost use Rattle.definitions.specs.Variables.{error, domain_errors, unknown_errors};
 ghost use Rattle.definitions.specs.Check.{Scope};
 ghost use Rattle.definitions.specs.Flatten.{model_at, order_errors, errors_of};
-ghost use Rattle.area.specs.Listing.{kind_number, Listed, RoomFor, found_as};
+ghost use Rattle.area.specs.Listing.{kind_number, Listed, RoomFor, error_as, found_as};
 ghost use Rattle.builder.specs.Checking.{args_in, unknown_in, own_errors, missing_at};
 ghost use Rattle.builder.specs.Checking.{ArgsIn, StmtAt, Scoped};
 ghost use Rattle.builder.specs.Seen.{scope_seen, errors_seen};
@@ -36,6 +36,8 @@ struct Place {
 }
 
 // An error with the span of unknown u, unless a test passed.
+// As with `found_at`, the test goes in. Nodes, unknowns, statements and models have their spans at different words:
+// each error reads its span where it is found, and no one function reads them all.
 fn unknown_error(file: &View, u: usize, passed: bool, kind: ErrorKind, name: usize) -> Option<Found>
     requires { (u < file.now.sections.counts.unknowns)
         × (name < 2 ^ 32) }
@@ -100,8 +102,8 @@ fn unknowns_errors(source: &Source, m: usize, errors: &mut Errors)
 {
     let first = source.file.model(m, MODEL_FIRST_UNKNOWN);
     let unknowns = source.file.model(m, MODEL_UNKNOWNS);
-    for i in 0..unknowns {
-        unknown_errors(source, first + i, errors);
+    for u in first..first + unknowns {
+        unknown_errors(source, u, errors);
     }
 }
 
@@ -125,21 +127,21 @@ fn order_errors(ns: &NodeView, run: Run, errors: &mut Errors)
 }
 
 // Error 3: submodel statement q, whose model is missing.
-fn missing_error(file: &View, q: usize) -> Option<Found>
+fn missing_error(file: &View, q: usize) -> Found
     requires { (q < file.now.sections.counts.stmts)
         × (kind_of_stmt (get_or (contents_seen file.now).stmts q []) ≡ submodel_kind) }
-    ensures { found_as result ≡ missing_at file.now.bytes.now file.now.sections q ∷ [] }
+    ensures { error_as result ≡ missing_at file.now.bytes.now file.now.sections q }
 {
     let from = file.stmt(q, STMT_FROM) as u32;
     let to = file.stmt(q, STMT_TO) as u32;
     let name = file.node(file.stmt(q, STMT_RIGHT), NODE_NAME);
     let word = (name + 1) as u32;
-    Some(Found {
+    Found {
         kind: ErrorKind::SubmodelMissing,
         from,
         to,
         name: word,
-    })
+    }
 }
 
 // The errors of an equation or a rate equation, statement q of model m.
@@ -177,7 +179,7 @@ fn add_submodel(tables: &Tables, k: usize, q: usize, errors: &mut Errors)
 {
     let file = &tables.source.file;
     let Some(c) = tables.source.callee(q) else {
-        return errors.list(missing_error(file, q));
+        return errors.put(missing_error(file, q));
     };
     builder(tables, k, c, errors);
     let nodes = file.nodes();
@@ -219,10 +221,10 @@ pub fn builder(tables: &Tables, k: usize, m: usize, errors: &mut Errors)
     let first = source.file.model(m, MODEL_FIRST_STMT);
     let stmts = source.file.model(m, MODEL_STMTS);
     unknowns_errors(source, m, errors);
-    for i in 0..stmts {
+    for q in first..first + stmts {
         let place = Place {
             model: m,
-            stmt: first + i,
+            stmt: q,
             depth: k - 1,
         };
         stmt_errors(tables, &vars, place, errors);

@@ -22,6 +22,7 @@ use ast::places::NodeView;
 use functions::rule_allows;
 
 // Arguments before node `end`: how many, and how many nodes they have in all.
+// It has no fact of its own: that arguments lie there is a fact of the nodes too, which a run does not hold.
 #[derive(Clone, Copy)]
 pub struct Run {
     pub end: usize,
@@ -30,6 +31,7 @@ pub struct Run {
 }
 
 // An error with the span of node i, unless a test passed.
+// Whether the test passed goes in with the rest, so that an error's words are read only where it did not.
 pub fn found_at(
     ns: &NodeView,
     i: usize,
@@ -84,6 +86,8 @@ pub fn run_of(ns: &NodeView, i: usize) -> Run
 }
 
 // Whether an argument of the run bears a keyword.
+// A keyword goes as its node's word, its name plus 1, or 0 for none: most tests only ask whether there is one.
+// By descent, as the others here: a run steps to the argument before by the last one's size.
 pub fn has_keyword(ns: &NodeView, run: Run) -> bool
     requires { (names : ℕ) × ArgsIn names ns.now.bytes.now ns.now.nodes run }
     ensures { result ≡ has_keyword (args_in (nodes_seen ns.now) run) }
@@ -97,8 +101,9 @@ pub fn has_keyword(ns: &NodeView, run: Run) -> bool
     has_keyword(ns, before_last(ns, run))
 }
 
-// Error 7 for each keyword of a built-in's arguments, in order. It and its like go along a run in the same way: one descent
-// that is handed what to do at an argument would carry its contract and the list's through both, and be longer than they.
+// Error 7 for each keyword of a built-in's arguments, in order.
+// `order_errors`, `arg_errors` and `check_args` go along a run in the same way. One descent for all, with a closure
+// for an argument, would carry the closure's contract beside that of the errors listed, and be longer than the four.
 fn keyword_errors(ns: &NodeView, run: Run, errors: &mut Errors)
     requires { ((names : ℕ) × ArgsIn names ns.now.bytes.now ns.now.nodes run)
         × RoomFor errors.old (keyword_errors (args_in (nodes_seen ns.now) run)) }

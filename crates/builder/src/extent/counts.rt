@@ -19,6 +19,8 @@ use ast::subst::measure_expr;
 use ast::view::View;
 
 // How big flattened statements are: how many there are, and how many nodes their trees have.
+// A count beyond its most stands as one more than the most, as `Extended` has it: a Result would be taken apart and
+// put together at each sum of a descent.
 #[derive(Clone, Copy)]
 pub struct FlatExtent {
     pub stmts: usize,
@@ -42,8 +44,8 @@ pub fn instances(source: &Source, k: usize, m: usize, most: usize) -> usize
     let first = source.file.model(m, MODEL_FIRST_STMT);
     let count = source.file.model(m, MODEL_STMTS);
     let mut total = 1;
-    for i in 0..count {
-        total += stmt_instances(source, k - 1, first + i, most - total);
+    for q in first..first + count {
+        total += stmt_instances(source, k - 1, q, most - total);
     }
     total
 }
@@ -65,6 +67,7 @@ fn stmt_instances(source: &Source, k: usize, q: usize, most: usize) -> usize
 }
 
 // The nodes of statement q's own trees, read at a level, at most `most`.
+// It goes as `write_own` does, and stays apart as `flat_extent` does.
 fn own_nodes(file: &View, rows: &[u16], level: usize, q: usize, most: usize) -> usize
     requires { OwnAt file.now.bytes.now file.now.sections rows.now level q }
     ensures { (sub : ℕ → List Flat) → result ≡ at_most most
@@ -93,6 +96,7 @@ fn own_extent(file: &View, rows: &[u16], level: usize, q: usize, done: FlatExten
 
 // The extent `done` and that of model m's flattened statements, whose trees are read at a level. Each number is counted
 // to one more than its most.
+// `write_flats` has the same shape, and stays apart: it has room for all and asks for no limit.
 #[cycle(flat_extent_stmt_extent)]
 pub fn flat_extent(
     source: &Source,
@@ -114,8 +118,8 @@ pub fn flat_extent(
     let first = source.file.model(m, MODEL_FIRST_STMT);
     let count = source.file.model(m, MODEL_STMTS);
     let mut total = done;
-    for i in 0..count {
-        total = stmt_extent(source, rows, k - 1, first + i, level, total);
+    for q in first..first + count {
+        total = stmt_extent(source, rows, k - 1, q, level, total);
     }
     total
 }

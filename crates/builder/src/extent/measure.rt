@@ -12,6 +12,7 @@ use area::layout::MOST_INSTANCES;
 use ast::layout::{MOST_NODES, MOST_STMTS};
 
 // How big an answer is: its instances, flattened statements and nodes.
+// No `FlatExtent` in it, which counts beyond the mosts: here all are within them.
 #[derive(Clone, Copy, Debug, PartialEq, Eq)]
 pub struct Extent {
     pub instances: usize,

@@ -17,6 +17,7 @@ use area::layout::{HEADER_BYTES, MOST_BYTES};
 use ast::layout::NODE_BYTES;
 
 // No replacements: N entries in which nothing stands.
+// A big array comes from a function of its own: the literal would stand in every goal of a caller.
 pub fn no_rows<const N: usize>() -> [u16; N]
     ensures { (length result ≡ N)
         × ((n : ℕ) → get_or result n 0 ≡ 0) }
@@ -25,6 +26,7 @@ pub fn no_rows<const N: usize>() -> [u16; N]
 }
 
 // An answer of the builder's own.
+// As with the rows, from a function of its own.
 pub fn blank() -> [u8; MOST_BYTES]
     ensures { length result ≡ most_bytes }
 {

@@ -3,6 +3,7 @@
 ghost use Rattle.std.specs.Prelude.{◌≡◌, List, [], ◌∷◌, ℕ, ◌+◌, ◌*◌, ◌≤◌, ◌<◌, length};
 ghost use Rattle.ast.specs.Tree.{Flat, size};
 ghost use Rattle.ast.specs.Words.{bytes_of};
+ghost use Rattle.ast.specs.Kinds.{stmt_number};
 ghost use Rattle.ast.specs.Bytes.{put};
 ghost use Rattle.ast.specs.NodesIn.{node_bytes};
 ghost use Rattle.ast.specs.Encode.{nodes, encode};
@@ -26,6 +27,7 @@ use ast::view::View;
 use ast::words::put_record;
 
 // How many nodes are written, and the byte behind the records written.
+// The bytes go beside it: a step's contract is an equation between those before and after.
 #[derive(Clone, Copy)]
 pub struct Written {
     pub nodes: usize,
@@ -33,6 +35,7 @@ pub struct Written {
 }
 
 // Writes the tree at node i, read at a level, behind `done` nodes, and gives their new number.
+// As `write_behind` of ast, which is a part of the descent there and goes by nodes: here it is by an open file.
 fn write_tree(
     file: &View,
     rows: &[u16],
@@ -59,7 +62,7 @@ fn write_tree(
 fn record_at(
     out: &mut [u8],
     at: usize,
-    kind: u32,
+    kind: StmtKind,
     name: u32,
     left: u32,
     right: u32,
@@ -68,9 +71,12 @@ fn record_at(
 )
     requires { at + 4 * stmt_length ≤ length out.old }
     ensures { out.new ≡ put out.old at
-        (bytes_of (kind ∷ name ∷ left ∷ right ∷ from ∷ to ∷ 0 ∷ 0 ∷ [])) }
+        (bytes_of (stmt_number kind ∷ name ∷ left ∷ right ∷ from ∷ to ∷ 0 ∷ 0 ∷ [])) }
 {
-    put_record(&mut out[at..], &[kind, name, left, right, from, to, 0, 0]);
+    put_record(
+        &mut out[at..],
+        &[kind as u32, name, left, right, from, to, 0, 0],
+    );
 }
 
 // Writes statement q's own trees, left before right, and its record, without its fate.
@@ -95,14 +101,14 @@ fn write_own(
         let name = file.stmt(q, STMT_NAME) as u32;
         let b = write_tree(file, rows, level, i, out, done.nodes);
         let r = (b - 1) as u32;
-        record_at(out, done.end, StmtKind::Rate as u32, name, 0, r, from, to);
+        record_at(out, done.end, StmtKind::Rate, name, 0, r, from, to);
         return Written { nodes: b, end };
     }
     let a = write_tree(file, rows, level, file.stmt(q, STMT_LEFT), out, done.nodes);
     let b = write_tree(file, rows, level, i, out, a);
     let l = (a - 1) as u32;
     let r = (b - 1) as u32;
-    record_at(out, done.end, StmtKind::Equation as u32, 0, l, r, from, to);
+    record_at(out, done.end, StmtKind::Equation, 0, l, r, from, to);
     Written { nodes: b, end }
 }
 
@@ -131,8 +137,8 @@ pub fn write_flats(
     let first = source.file.model(m, MODEL_FIRST_STMT);
     let count = source.file.model(m, MODEL_STMTS);
     let mut total = done;
-    for i in 0..count {
-        total = write_stmt(source, rows, k - 1, first + i, level, out, total);
+    for q in first..first + count {
+        total = write_stmt(source, rows, k - 1, q, level, out, total);
     }
     total
 }

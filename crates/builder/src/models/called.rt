@@ -7,7 +7,6 @@ ghost use Rattle.builder.specs.Tables.{callee_of, Callees};
 ghost use Rattle.builder.specs.Checking.{stmt_in};
 ghost use Rattle.builder.specs.Starting.{place_as};
 
-use crate::names::name_text;
 use ast::kinds::StmtKind;
 use ast::layout::{MODEL_NAME, MOST_STMTS, NODE_NAME, STMT_RIGHT};
 use ast::view::View;
@@ -19,7 +18,7 @@ pub fn find_root(file: &View, root: &[u8]) -> Option<usize>
 {
     (0..file.sections.counts.models).position(|m| {
         let name = file.model(m, MODEL_NAME);
-        same_bytes(root, name_text(file, name))
+        same_bytes(root, file.text(name))
     })
 }
 
@@ -31,6 +30,7 @@ fn find_model(file: &View, name: usize) -> Option<usize>
 }
 
 // The number, plus 1, of the model that statement q calls, or 0.
+// An entry as `Source` has it, whose table alone asks for one.
 fn callee(file: &View, q: usize) -> u8
     requires { q < file.now.sections.counts.stmts }
     ensures { result ≡ callee_of (file_seen file.now) (stmt_in file.now.bytes.now file.now.sections q) }
@@ -43,6 +43,7 @@ fn callee(file: &View, q: usize) -> u8
 }
 
 // The same of each statement.
+// By number: a statement's record is asked for by it.
 pub fn callees(file: &View) -> [u8; MOST_STMTS]
     ensures { Callees file.now.bytes.now file.now.sections result }
 {

@@ -1,5 +1,5 @@
 // The models reached from the root, and the refusals 6, 7 and 8 among them.
-ghost use Rattle.std.specs.Prelude.{◌≡◌, cond, ◌||◌, ◌+◌, ◌-◌, ◌<◌, eqb, length};
+ghost use Rattle.std.specs.Prelude.{ℕ, Bool, ◌≡◌, cond, ◌||◌, ◌+◌, ◌-◌, ◌<◌, eqb, length};
 ghost use Rattle.functions.specs.Lists.{any};
 ghost use Rattle.ast.specs.Nodes.{kind_at, op_at, size_at, args_before};
 ghost use Rattle.ast.specs.Views.{contents_seen, file_seen};
@@ -19,8 +19,8 @@ use ast::layout::{
 };
 use ast::view::View;
 
-// 1 where y is 1, else x. A choice and no branch: the compiler then does many entries of a row at once, and without it a
-// build of 32 models deep takes half as long again.
+// 1 where y is 1, else x. A choice and no branch: the compiler then does many entries of a row at once, and without
+// it a build of 32 models deep takes half as long again.
 fn either(x: u8, y: u8) -> u8
     ensures { result ≡ cond (eqb y 1) 1 x }
 {
@@ -28,6 +28,7 @@ fn either(x: u8, y: u8) -> u8
 }
 
 // Adds to row a model c and the models that `old` says are reached from it.
+// By number: both rows stand in flat tables.
 fn add_reached(old: &[u8], models: usize, c: usize, new: &mut [u8], a: usize)
     requires { RowsOf models c a old.now new.old }
     ensures { Added models a (λ y. onward old.now y c) new.old new.new }
@@ -54,6 +55,7 @@ fn add_called(source: &Source, old: &[u8], q: usize, new: &mut [u8], a: usize)
 }
 
 // Row a of the next table: what model a's statements add.
+// The tables go as slices with their length as a clause: the new one is filled row by row.
 fn reach_row(source: &Source, old: &[u8], a: usize, new: &mut [u8])
     requires { (length old.now ≡ model_pairs)
         × (a < source.now.file.sections.counts.models)
@@ -63,8 +65,8 @@ fn reach_row(source: &Source, old: &[u8], a: usize, new: &mut [u8])
 {
     let first = source.file.model(a, MODEL_FIRST_STMT);
     let count = source.file.model(a, MODEL_STMTS);
-    for i in 0..count {
-        add_called(source, old, first + i, new, a);
+    for q in first..first + count {
+        add_called(source, old, q, new, a);
     }
 }
 
@@ -81,7 +83,8 @@ fn reach_round(source: &Source, old: &[u8]) -> [u8; MODEL_PAIRS]
     new
 }
 
-// Whether model b is reached from model a, at 32 a + b.
+// Whether model b is reached from model a, at 32 a + b: one flat table, since `Reaching` speaks of one list.
+// 0 and 1 and no bools: its `flag` has them so, and whole rows are joined at once (`either`).
 pub fn reach(source: &Source) -> [u8; MODEL_PAIRS]
     ensures { ReachedIn source.now.file.bytes.now source.now.file.sections result }
 {
@@ -114,6 +117,8 @@ fn lists_itself(source: &Source, u: usize) -> bool
 }
 
 // Whether a positional argument of a call has a number that is not below n.
+// It goes back from the call by the sizes of arguments, as `fill_row` and `arg_at` do. The place is kept beside the
+// loop, since an argument's place is known only from the one behind it.
 fn beyond(file: &View, call: usize, n: usize) -> bool
     requires { (call < file.now.sections.counts.nodes)
         × (kind_at (contents_seen file.now).nodes call ≡ call_kind) }
@@ -145,15 +150,31 @@ fn too_many(source: &Source, q: usize) -> bool
     beyond(&source.file, call, source.file.model(c, MODEL_UNKNOWNS))
 }
 
+// Whether a model, the root or reached from it, passes a test.
+fn any_reached<F: Fn(usize) -> bool>(
+    file: &View,
+    table: &[u8; MODEL_PAIRS],
+    root: usize,
+    test: F,
+) -> bool
+    requires { ReachedIn file.now.bytes.now file.now.sections table.now
+        × (root < file.now.sections.counts.models)
+        × ((m : ℕ) → m < file.now.sections.counts.models → F.pre test m) }
+    ensures { (p : ℕ → Bool) → ((m : ℕ) (b : Bool) → F.post test m b → b ≡ p m)
+        → result ≡ flatten.any_reached (file_seen file.now) root p (length (file_seen file.now).models) }
+{
+    (0..file.sections.counts.models)
+        .filter(|m| is_reached(file, table, root, *m))
+        .any(test)
+}
+
 // Whether a model, the root or reached from it, is reached from itself.
 pub fn cyclic(file: &View, table: &[u8; MODEL_PAIRS], root: usize) -> bool
     requires { ReachedIn file.now.bytes.now file.now.sections table.now
         × (root < file.now.sections.counts.models) }
     ensures { result ≡ flatten.cyclic (file_seen file.now) root }
 {
-    (0..file.sections.counts.models)
-        .filter(|m| is_reached(file, table, root, *m))
-        .any(|m| table[MOST_MODELS * m + m] == 1)
+    any_reached(file, table, root, |m| table[MOST_MODELS * m + m] == 1)
 }
 
 // Whether an unknown of model m lists itself.
@@ -173,12 +194,11 @@ pub fn self_listed(source: &Source, table: &[u8; MODEL_PAIRS], root: usize) -> b
         × ReachedIn source.now.file.bytes.now source.now.file.sections table.now }
     ensures { result ≡ flatten.self_listed (file_seen source.now.file) root }
 {
-    (0..source.file.sections.counts.models)
-        .filter(|m| is_reached(&source.file, table, root, *m))
-        .any(|m| has_self_listed(source, m))
+    any_reached(&source.file, table, root, |m| has_self_listed(source, m))
 }
 
 // Whether a statement of model m calls a model with an argument beyond that model's unknowns.
+// As `has_self_listed`, with a function of its own for its contract: the definition's test of one model.
 fn has_too_many(source: &Source, m: usize) -> bool
     requires { m < source.now.file.sections.counts.models }
     ensures { result ≡ any (flatten.stmt_beyond (file_seen source.now.file))
@@ -195,7 +215,5 @@ pub fn overfull(source: &Source, table: &[u8; MODEL_PAIRS], root: usize) -> bool
         × (root < source.now.file.sections.counts.models) }
     ensures { result ≡ flatten.overfull (file_seen source.now.file) root }
 {
-    (0..source.file.sections.counts.models)
-        .filter(|m| is_reached(&source.file, table, root, *m))
-        .any(|m| has_too_many(source, m))
+    any_reached(&source.file, table, root, |m| has_too_many(source, m))
 }

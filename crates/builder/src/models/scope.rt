@@ -54,6 +54,8 @@ pub fn is_dep_of(
 
 // A table by name without marks. An entry has 16 bits: 1 plus a count of kept dependents is at most 1,025, 1 plus a
 // number of the root's variables at most 129; 0 stands for none, since an Option would take two of them.
+// Not by `no_rows`: those who mark ask for `Blank`. The table goes on as a slice and in no struct with a fact, since
+// its fact changes: `Blank`, then `Marks`, then `VarsOf`.
 pub fn no_marks() -> [u16; MOST_NAMES]
     ensures { Blank most_names result }
 {
@@ -61,6 +63,7 @@ pub fn no_marks() -> [u16; MOST_NAMES]
 }
 
 // Marks t's name, in a table without marks.
+// As `time_alone`, whose entry is a variable's number: here it is a mark.
 fn time_declared(source: &Source, out: &mut [u16])
     requires { Blank most_names out.old }
     ensures { Marks source.now.file.sections.counts.names (time_name (file_seen source.now.file).names ∷ []) out.new }
@@ -80,8 +83,8 @@ fn declared(source: &Source, m: usize, out: &mut [u16])
     time_declared(source, out);
     let first = source.file.model(m, MODEL_FIRST_UNKNOWN);
     let count = source.file.model(m, MODEL_UNKNOWNS);
-    for i in 0..count {
-        let name = source.file.unknown(first + i, UNKNOWN_NAME);
+    for u in first..first + count {
+        let name = source.file.unknown(u, UNKNOWN_NAME);
         if !is_reserved(source.classes[name]) {
             out[name] = 1;
         }
@@ -104,6 +107,8 @@ fn kept_count(file: &View, vars: &[u16], u: usize) -> u16
 
 // Notes the variables of model m by name, in a table without marks: 0 where a name is none, else 1 plus the count of
 // its kept dependents.
+// It goes over the unknowns as `declared` does, and behind it: a dependent is kept where its name is marked, so all
+// marks come first.
 pub fn model_vars(source: &Source, m: usize, out: &mut [u16])
     requires { (m < source.now.file.sections.counts.models)
         × Blank most_names out.old }
@@ -113,10 +118,10 @@ pub fn model_vars(source: &Source, m: usize, out: &mut [u16])
     declared(source, m, out);
     let first = source.file.model(m, MODEL_FIRST_UNKNOWN);
     let count = source.file.model(m, MODEL_UNKNOWNS);
-    for i in 0..count {
-        let name = source.file.unknown(first + i, UNKNOWN_NAME);
+    for u in first..first + count {
+        let name = source.file.unknown(u, UNKNOWN_NAME);
         if out[name] != 0 {
-            out[name] += kept_count(&source.file, out, first + i);
+            out[name] += kept_count(&source.file, out, u);
         }
     }
 }

@@ -33,6 +33,7 @@ pub fn last_declared(file: &View, m: usize, name: usize) -> Option<usize>
 }
 
 // From 0 to infinity, or unbounded.
+// `floor` picks a value, not a step, and is the definition's own parameter.
 fn bounds_from(floor: bool) -> Bounds
     ensures { result ≡ floats (bounds_from floor) }
 {
@@ -68,6 +69,7 @@ fn unknown_bounds(source: &Source, u: usize) -> Bounds
 }
 
 // The bounds of unknown u; where there is none, those from 0 or the unbounded ones.
+// A match, as the definition has it: `map_or_else` is no plainer.
 fn declared_bounds(source: &Source, u: Option<usize>, floor: bool) -> Bounds
     requires { IfSome u (λ i. i < source.now.file.sections.counts.unknowns) }
     ensures { Floating (declared_bounds source.now.file.bytes.now source.now.file.sections u
@@ -102,6 +104,7 @@ fn bound_bits(x: f64, file: &View, u: Option<usize>, k: usize) -> u64
 }
 
 // Writes the two words of a number's bits.
+// The bytes and a place go side by side: contracts say what is put at a place.
 fn put_bits(bits: u64, out: &mut [u8], place: usize)
     requires { place + 4 * bits_length ≤ length out.old }
     ensures { out.new ≡ put out.old place (bytes_of (low bits ∷ high bits ∷ [])) }
@@ -126,6 +129,7 @@ pub fn put_bounds(b: Bounds, file: &View, u: Option<usize>, out: &mut [u8], plac
 }
 
 // Writes the bounds of variable v, of a name (plus 1) of model m.
+// Variable 0 is t, with bounds of its own: the definition has that case here too (`var_bounds`).
 pub fn put_var_bounds(
     source: &Source,
     m: usize,

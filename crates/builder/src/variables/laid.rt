@@ -14,6 +14,7 @@ use area::sections::Sizes;
 
 // Lays the variables of model m into an area of n nodes and q statements, notes their numbers by name in a table
 // without entries, and gives the sizes.
+// Nodes and statements go by themselves: an extent has instances too, of which this knows nothing.
 pub fn lay_vars(
     source: &Source,
     m: usize,

@@ -20,36 +20,33 @@ fn reaches_time(area: &Area, v: usize) -> bool
     let at = deps_at(area.sizes);
     let first = area.var(v, VAR_FIRST_DEP) as usize;
     let count = area.var(v, VAR_DEPS) as usize;
-    for i in 0..count {
-        let d = dep_word(area.bytes, at, area.sizes.deps, first + i);
-        if area.var(d, VAR_TIMED) == 1 {
-            return true;
-        }
-    }
-    false
+    (first..first + count).any(|i| {
+        let d = dep_word(area.bytes, at, area.sizes.deps, i);
+        area.var(d, VAR_TIMED) == 1
+    })
 }
 
 // The next round of marks: t's, and that of each variable of which a dependent was marked.
-fn time_round(area: &Area) -> [u8; MOST_VARS]
+// By number: a variable's record is asked for by it. So also in `take_marks`.
+fn time_round(area: &Area) -> [bool; MOST_VARS]
     requires { DepsSeen area.now }
     ensures { Round area.now.sizes area.now.bytes.now result }
 {
-    let mut new = [0u8; MOST_VARS];
+    let mut new = [false; MOST_VARS];
     for v in 0..area.sizes.vars {
-        new[v] = u8::from((v == 0) | reaches_time(area, v));
+        new[v] = (v == 0) | reaches_time(area, v);
     }
     new
 }
 
 // Takes over the marks, and tells whether one of them is new.
-fn take_marks(area: &mut [u8], z: Sizes, next: &[u8]) -> bool
+fn take_marks(area: &mut [u8], z: Sizes, next: &[bool]) -> bool
     requires { DepsIn z area.old
-        × (length next.now ≡ most_variables)
-        × Round z area.old next.now }
-    ensures { VarsAre z area.old (timed_from (λ v. eqb (get_or next.now v 0) 1) 0
+        × (length next.now ≡ most_variables) }
+    ensures { VarsAre z area.old (timed_from (λ v. get_or next.now v false) 0
         (area_vars area.old z)) area.new
         × (result ≡ false → (v : ℕ) → v < z.vars
-        → get_or next.now v 0 ≡ get_or (marks_in area.old z) v 0) }
+        → flag (get_or next.now v false) ≡ get_or (marks_in area.old z) v 0) }
 {
     let mut changed = false;
     for v in 0..z.vars {

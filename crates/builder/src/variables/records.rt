@@ -1,4 +1,5 @@
-// The records of the root's variables and the header. What a record's word has plus 1, or 0, goes so from hand to hand.
+// The records of the root's variables and the header. A name goes from hand to hand plus 1, or 0, as its record and
+// the definitions have it.
 ghost use Rattle.std.specs.Prelude.{◌≡◌, ◌++◌, ◌+◌, ◌*◌, ◌≤◌, ◌<◌, length, drop, get_or};
 ghost use Rattle.functions.specs.Lists.{each};
 ghost use Rattle.ast.specs.Words.{bytes_of};
@@ -130,6 +131,7 @@ fn write_var(
 }
 
 // The same of all variables, whose records have their names before; gives the count of dependents.
+// The count goes from step to step: a variable's dependents begin where those of the one before end.
 pub fn write_vars(source: &Source, m: usize, area: &mut [u8], z: Sizes, numbers: &[u16]) -> usize
     requires { (m < source.now.file.sections.counts.models)
         × Numbered source.now.file.bytes.now source.now.file.sections m numbers.now

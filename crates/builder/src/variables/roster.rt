@@ -1,6 +1,6 @@
-// The root's variables: t first, then each unreserved unknown's name in order of first declaration. A variable's record
-// has its name plus 1, or 0, and so do the definitions; `numbers` has 0 for a name that is no variable's, since an Option
-// in each entry would make it twice as long.
+// The root's variables: t first, then each unreserved unknown's name in order of first declaration. A variable's
+// record has its name plus 1, or 0, and so do the definitions; `numbers` has 0 for a name that is no variable's,
+// since an Option in each entry would make it twice as long.
 ghost use Rattle.std.specs.Prelude.{◌≡◌, [], ◌∷◌, ◌+◌, ◌*◌, ◌≤◌, ◌<◌, length, IfSome};
 ghost use Rattle.std.proofs.Math.Option.{none};
 ghost use Rattle.functions.specs.Lists.{plus_one};
@@ -89,8 +89,8 @@ pub fn roster_of(
         deps: 0,
     };
     time_alone(time_name(source), area, z, numbers);
-    for i in 0..count {
-        let name = source.file.unknown(first + i, UNKNOWN_NAME);
+    for u in first..first + count {
+        let name = source.file.unknown(u, UNKNOWN_NAME);
         if !is_reserved(source.classes[name]) {
             z = declare(area, z, numbers, name);
         }
@@ -99,6 +99,8 @@ pub fn roster_of(
 }
 
 // Writes variable v - 1 behind `done` kept dependents, nothing where v is 0, and gives their new count.
+// The bytes and how many dependents are written go side by side, as bytes go beside `Written`: the contract is an
+// equation between the bytes before and after.
 fn put_dep(v: u16, out: &mut [u8], done: usize) -> usize
     requires { RoomBehind (one_below v) done out.old }
     ensures { PutBehind (one_below v) done out.old result out.new }
@@ -121,8 +123,8 @@ fn put_unknown_deps(file: &View, numbers: &[u16], u: usize, out: &mut [u8], done
     let first = file.unknown(u, UNKNOWN_FIRST_DEP);
     let count = file.unknown(u, UNKNOWN_DEPS);
     let mut total = done;
-    for i in 0..count {
-        total = put_dep(numbers[file.dep(first + i)], out, total);
+    for d in first..first + count {
+        total = put_dep(numbers[file.dep(d)], out, total);
     }
     total
 }
@@ -166,8 +168,8 @@ pub fn set_dependents(
     let first = file.model(m, MODEL_FIRST_UNKNOWN);
     let count = file.model(m, MODEL_UNKNOWNS);
     let mut total = done;
-    for i in 0..count {
-        total = put_named_deps(file, numbers, first + i, name, out, total);
+    for u in first..first + count {
+        total = put_named_deps(file, numbers, u, name, out, total);
     }
     total
 }

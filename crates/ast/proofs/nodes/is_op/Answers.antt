@@ -1,7 +1,6 @@
-use Rattle.ast.specs.Kinds.{ReadAs}
-use Rattle.ast.proofs.ReadKinds.{no_op}
+use mathlib.Core.Path.{◌∙◌}
+use Rattle.ast.proofs.ReadKinds.{op_read}
 use Rattle.ast.proofs.nodes.is_op.Goals as goal
 
-pub returns-in-Err : goal.returns-in-Err
-unfolding ReadAs
-returns-in-Err c = no_op c.in-Err.ensures
+pub returns : goal.returns
+returns c = c.is_ok.ensures.value ∙ op_read _ _ c.try_from.ensures

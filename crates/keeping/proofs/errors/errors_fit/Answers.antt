@@ -1,16 +1,15 @@
-use mathlib.Core.Path.{sym, ◌∙◌}
-use Rattle.ast.proofs.Turns.{all_turn, all_done}
+use mathlib.Core.Path.{refl}
+use mathlib.Core.List.{[]}
+use Prim.Native.Nat.{ℕ}
+use borrow.Author.Rules.{rules}
+use borrow.Author.Tests.{tests}
+use Rattle.ast.specs.Views.{records_seen, record_seen}
+use Rattle.ast.proofs.Fields.{length_section}
+use Rattle.ast.proofs.Ranges.{all_places}
 use Rattle.definitions.specs.Layout.{error_fits}
 use Rattle.keeping.proofs.errors.errors_fit.Goals as goal
 
-pub returns-then-not-error_fits : goal.returns-then-not-error_fits
-returns-then-not-error_fits c = let l = c.loop-i in
-    sym (l.invariant ∙ all_turn _ _ _ _ l.i (error_fits _) c.loop-i-test.true ∙ rw (sym c.error_fits.ensures ∙ c.if-not-error_fits.true))
-
-pub loop-i-preserved : goal.loop-i-preserved
-loop-i-preserved c = let l = c.loop-i in
-    l.invariant ∙ all_turn _ _ _ _ l.i (error_fits _) c.loop-i-test.true ∙ rw (sym c.error_fits.ensures ∙ c.if-not-error_fits.false)
-
 pub returns : goal.returns
-returns c = let l = c.loop-i in
-    sym (l.invariant ∙ all_done _ _ _ _ l.i (error_fits _) c.loop-i-test.false)
+returns c = let v = c.args.rs.now in
+    let r = v.records in
+    all_places (λ (i : ℕ). error_fits c.args.kinds (record_seen v i)) (error_fits c.args.kinds) [] r.count (records_seen v) (length_section r.width r.count r.at v.bytes.now) refl c.all.ensures.ran (λ i b q k. search (rules, tests)) (λ k. refl)

@@ -1,6 +1,7 @@
 use Rattle.area.specs.Sections.{stmts_at, vars_at, deps_at}
 use native.Mathlib.Omega.{arith}
 use Rattle.builder.proofs.laws.FateRecords.{fate_put}
+use Rattle.builder.proofs.laws.KindWords.{fate_word}
 use borrow.Author.Rules.{rules}
 use Rattle.builder.proofs.allocation.fates.put_fate.Goals as goal
 
@@ -28,4 +29,4 @@ pub returns : goal.returns
 unfolding stmts_at vars_at deps_at
 returns c = let a = c.args in
     let stmts_at_lem = c.stmts_at in
-    fate_put a.z.stmts (stmts_at a.z) a.i a.area.now _ _ _ _ a.fate a.v (omega arith) (omega arith) (λ j. omega (arith, c.slice_known-1.given j)) (omega (arith, stmts_at_lem.ensures)) (omega (arith, stmts_at_lem.ensures)) c.put_word.ensures c.put_word-2.ensures
+    rw (← fate_word a.fate) (fate_put a.z.stmts (stmts_at a.z) a.i a.area.now _ _ _ _ _ a.v (omega arith) (omega arith) (λ j. omega (arith, c.slice_known-1.given j)) (omega (arith, stmts_at_lem.ensures)) (omega (arith, stmts_at_lem.ensures)) c.put_word.ensures c.put_word-2.ensures)

@@ -1,6 +1,7 @@
 use mathlib.Core.Path.{sym, ◌∙◌}
 use Prim.Native.Nat.{◌<◌}
 use native.Mathlib.Omega.{arith}
+use Rattle.area.proofs.Listings.{found_one}
 use Rattle.builder.proofs.laws.LeftSides.{entry_below}
 use Rattle.builder.proofs.laws.RoleErrors.{found_none, found_error, errors_unknown, errors_known}
 use Rattle.builder.proofs.allocation.roles.rate_error.Goals as goal
@@ -14,7 +15,7 @@ overflow_add-name c =
     omega (arith, c.stmt_word-name.ensures, c.requires.2)
 
 pub returns-in-None : goal.returns-in-None
-returns-in-None c = c.stmt_error.ensures ∙ errors_unknown _ _ _ _ _ c.stmt_word-name.ensures c.in-None.ensures
+returns-in-None c = found_one _ _ c.stmt_error.ensures ∙ errors_unknown _ _ _ _ _ c.stmt_word-name.ensures c.in-None.ensures
 
 pub takes_rate-requires : goal.takes_rate-requires
 takes_rate-requires c =

@@ -1,7 +1,8 @@
-use mathlib.Core.Path.{◌≡◌, ◌∙◌}
-use native.Mathlib.Omega.{arith}
-use lib.Seq.{length-take-le}
+use mathlib.Core.Path.{◌≡◌, ap, ◌∙◌}
+use mathlib.Core.List.{map}
+use Rattle.builder.specs.Allocating.{role_as}
 use Rattle.builder.specs.Root.{queue_by}
+use Rattle.builder.proofs.laws.Flats.{flats_each}
 use Rattle.builder.proofs.laws.PairedStates.{flattened_long, left_by, states_by, all_paired, none_paired, fated_by_lem}
 use Rattle.builder.proofs.allocation.statements.allocate_stmts.Goals as goal
 use Rattle.builder.proofs.allocation.statements.allocate_stmts.Goals.{then-left, else-left}
@@ -9,12 +10,13 @@ use Rattle.builder.proofs.allocation.statements.allocate_stmts.Goals.{then-left,
 pub write_fates-requires : goal.write_fates-requires
 write_fates-requires c =
     let F = c.requires.0.1 in
-    (F.small, flattened_long _ _ _ F, length-take-le _ _ (omega (arith, F.small.stmts)))
+    let t = ap (map role_as) c.as_slice-roles.ensures.value ∙ c.roles-table.ensures in
+    (F.small, flattened_long _ _ _ F, flats_each _ _ role_as _ _ t)
 
 pub returns : goal.returns
 returns c =
     let a = c.args in
-    let t = c.roles-table.ensures in
+    let t = ap (map role_as) c.as_slice-roles.ensures.value ∙ c.roles-table.ensures in
     let l = c.lacking-states.ensures in
     let queue : c.if-left.paired.now ≡ queue_by a.area.now a.z a.numbers.now a.lower =
     elim c.if-left.branch [

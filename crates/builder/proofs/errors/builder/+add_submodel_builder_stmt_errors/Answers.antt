@@ -16,8 +16,8 @@ use Rattle.builder.proofs.laws.Calls.{call_args}
 use Rattle.builder.proofs.laws.ModelErrors.{run_begins, run_room, run_goes, run_ends, stmt_here, stmt_there, stmts_past, errors_none, errors_more, not_three, own_same, call_in, any_scope, submodel_missing_lem, submodel_found}
 use Rattle.builder.proofs.errors.builder.+add_submodel_builder_stmt_errors.Goals as goal
 
-pub add_submodel-list-requires : goal.add_submodel-list-requires
-add_submodel-list-requires t c = let a = c.args in
+pub add_submodel-put-requires : goal.add_submodel-put-requires
+add_submodel-put-requires t c = let a = c.args in
     let f = a.tables.now.source.now.file in
     let r = c.requires.2 (scope_seen f 0) in
     omega (arith, r)
@@ -26,7 +26,7 @@ pub add_submodel-returns-in_default : goal.add_submodel-returns-in_default
 unfolding place_as
 add_submodel-returns-in_default t c = let a = c.args in
     let f = a.tables.now.source.now.file in
-    let l = rw c.missing_error.ensures at c.list.ensures in
+    let l = rw c.missing_error.ensures at c.put.ensures in
     λ o. rw (submodel_missing_lem f.opened a.q c.requires.0.within 3 (sym c.requires.1) refl (λ j. errors_of (file_seen f) a.k j) o c.in_default.ensures) l
 
 pub add_submodel-builder-requires : goal.add_submodel-builder-requires
@@ -71,10 +71,10 @@ builder-unknowns_errors-requires t c = let a = c.args in
     let f = a.tables.now.source.now.file in
     (c.requires.0, room_first (errors_more (file_seen f) a.k a.m c.if-k-eq0.false) _ c.requires.2)
 
-pub builder-loop-i-init : goal.builder-loop-i-init
-builder-loop-i-init t c = let a = c.args in
+pub builder-loop-q-init : goal.builder-loop-q-init
+builder-loop-q-init t c = let a = c.args in
     let f = a.tables.now.source.now.file in
-    run_begins (stmt_errors (file_seen f) (λ j. errors_of (file_seen f) (a.k - 1) j) (scope_seen f a.m)) (model_at (file_seen f) a.m).stmts _ _
+    (0, omega arith, run_begins (stmt_errors (file_seen f) (λ j. errors_of (file_seen f) (a.k - 1) j) (scope_seen f a.m)) (model_at (file_seen f) a.m).stmts _ _)
 
 pub builder-stmt_errors-requires : goal.builder-stmt_errors-requires
 builder-stmt_errors-requires t c = let a = c.args in
@@ -82,31 +82,34 @@ builder-stmt_errors-requires t c = let a = c.args in
     let if1 = c.if-k-eq0 in
     let model = c.model-first in
     let model2 = c.model-stmts in
-    let loop = c.loop-i in
-    let loop-test = c.loop-i-test in
-    let there = stmt_there f.bytes.now f.sections f.opened a.m c.requires.0 model.result model2.result loop.i model.ensures.0 model2.ensures.0 loop-test.true in
-    let here = stmt_here f.bytes.now f.sections f.opened a.m c.requires.0 model.result model2.result loop.i model.ensures.0 model2.ensures.0 loop-test.true in
+    let loop = c.loop-q in
+    let inv = loop.invariant in
+    let loop-test = c.loop-q-test in
+    let there = stmt_there f.bytes.now f.sections f.opened a.m c.requires.0 model.result model2.result loop.q inv.0 inv.1 model.ensures.0 model2.ensures.0 loop-test.true in
+    let here = stmt_here f.bytes.now f.sections f.opened a.m c.requires.0 model.result model2.result loop.q inv.0 inv.1 model.ensures.0 model2.ensures.0 loop-test.true in
     let room = room_then (errors_more (file_seen f) a.k a.m if1.false) _ _ _ _ c.requires.2 c.unknowns_errors.ensures in
-    (omega (arith, c.decreases, if1.false), (record { opened = f.opened; model = c.requires.0; vars = c.model_vars.ensures.0 }, record { within = stmts_below f.bytes.now f.sections f.opened a.m c.requires.0 model.result model2.result loop.i model.ensures.0 model2.ensures.0 loop-test.true; deep = omega (arith, c.requires.1) }, run_room (stmt_errors (file_seen f) (λ j. errors_of (file_seen f) (a.k - 1) j) (scope_seen f a.m)) (model_at (file_seen f) a.m).stmts (stmt_in f.bytes.now f.sections (model.result + loop.i)) loop.i there here _ _ _ _ room loop.invariant))
+    (omega (arith, c.decreases, if1.false), (record { opened = f.opened; model = c.requires.0; vars = c.model_vars.ensures.0 }, record { within = stmts_below f.bytes.now f.sections f.opened a.m c.requires.0 model.result model2.result loop.q model.ensures.0 model2.ensures.0 loop-test.true; deep = omega (arith, c.requires.1) }, run_room (stmt_errors (file_seen f) (λ j. errors_of (file_seen f) (a.k - 1) j) (scope_seen f a.m)) (model_at (file_seen f) a.m).stmts (stmt_in f.bytes.now f.sections loop.q) inv.0 there here _ _ _ _ room inv.2))
 
-pub builder-loop-i-preserved : goal.builder-loop-i-preserved
-builder-loop-i-preserved t c = let a = c.args in
+pub builder-loop-q-preserved : goal.builder-loop-q-preserved
+builder-loop-q-preserved t c = let a = c.args in
     let f = a.tables.now.source.now.file in
     let model = c.model-first in
     let model2 = c.model-stmts in
-    let loop = c.loop-i in
-    let loop-test = c.loop-i-test in
-    let there = stmt_there f.bytes.now f.sections f.opened a.m c.requires.0 model.result model2.result loop.i model.ensures.0 model2.ensures.0 loop-test.true in
-    let here = stmt_here f.bytes.now f.sections f.opened a.m c.requires.0 model.result model2.result loop.i model.ensures.0 model2.ensures.0 loop-test.true in
-    run_goes (stmt_errors (file_seen f) (λ j. errors_of (file_seen f) (a.k - 1) j) (scope_seen f a.m)) (model_at (file_seen f) a.m).stmts (stmt_in f.bytes.now f.sections (model.result + loop.i)) loop.i there here _ _ _ _ _ _ loop.invariant c.stmt_errors.ensures
+    let loop = c.loop-q in
+    let inv = loop.invariant in
+    let loop-test = c.loop-q-test in
+    let there = stmt_there f.bytes.now f.sections f.opened a.m c.requires.0 model.result model2.result loop.q inv.0 inv.1 model.ensures.0 model2.ensures.0 loop-test.true in
+    let here = stmt_here f.bytes.now f.sections f.opened a.m c.requires.0 model.result model2.result loop.q inv.0 inv.1 model.ensures.0 model2.ensures.0 loop-test.true in
+    (inv.0 + 1, omega (arith, inv.1), run_goes (stmt_errors (file_seen f) (λ j. errors_of (file_seen f) (a.k - 1) j) (scope_seen f a.m)) (model_at (file_seen f) a.m).stmts (stmt_in f.bytes.now f.sections loop.q) inv.0 there here _ _ _ _ _ _ inv.2 c.stmt_errors.ensures)
 
 pub builder-returns : goal.builder-returns
 builder-returns t c = let a = c.args in
     let f = a.tables.now.source.now.file in
     let model = c.model-first in
     let model2 = c.model-stmts in
-    let loop = c.loop-i in
-    let ends = run_ends (stmt_errors (file_seen f) (λ j. errors_of (file_seen f) (a.k - 1) j) (scope_seen f a.m)) (model_at (file_seen f) a.m).stmts loop.i (stmts_past f.bytes.now f.sections f.opened a.m c.requires.0 model.result model2.result loop.i model.ensures.0 model2.ensures.0 c.loop-i-test.false) _ _ _ _ loop.invariant in
+    let loop = c.loop-q in
+    let inv = loop.invariant in
+    let ends = run_ends (stmt_errors (file_seen f) (λ j. errors_of (file_seen f) (a.k - 1) j) (scope_seen f a.m)) (model_at (file_seen f) a.m).stmts inv.0 (stmts_past f.bytes.now f.sections f.opened a.m c.requires.0 model.result model2.result loop.q inv.0 inv.1 model.ensures.0 model2.ensures.0 c.loop-q-test.false) _ _ _ _ inv.2 in
     lists_then (errors_more (file_seen f) a.k a.m c.if-k-eq0.false) _ _ _ _ _ _ c.unknowns_errors.ensures ends
 
 pub stmt_errors-own_errors-requires : goal.stmt_errors-own_errors-requires

@@ -1,5 +1,6 @@
 -- `builder::builder::builder` and the two functions that it calls in turn meet their contracts: statement by statement, a submodel's by the model that it calls. The measure is three times the depth, and one or two more for a statement.
-use Prim.Native.Nat.{◌+◌, ◌-◌, ◌*◌}
+use mathlib.Core.Path.{◌≡◌}
+use Prim.Native.Nat.{ℕ, ◌+◌, ◌-◌, ◌*◌}
 use lib.ListN.{take}
 use Rattle.functions.specs.Lists.{each}
 use Rattle.ast.specs.Views.{file_seen}
@@ -17,5 +18,5 @@ decreases-builder l = 3 * l.k
 abbrev pub decreases-stmt_errors : goal.decreases-stmt_errors
 decreases-stmt_errors l = 3 * l.place.depth + 2
 
-abbrev pub invariant-builder-loop-i : goal.invariant-builder-loop-i
-invariant-builder-loop-i l = Listed l.initial.errors (each (stmt_errors (file_seen l.tables.source.now.file) (λ j. errors_of (file_seen l.tables.source.now.file) (l.k - 1) j) (scope_seen l.tables.source.now.file l.m)) (take l.i (model_at (file_seen l.tables.source.now.file) l.m).stmts)) l.errors
+abbrev pub invariant-builder-loop-q : goal.invariant-builder-loop-q
+invariant-builder-loop-q l = (i : ℕ) × (l.q ≡ l.first + i) × Listed l.initial.errors (each (stmt_errors (file_seen l.tables.source.now.file) (λ j. errors_of (file_seen l.tables.source.now.file) (l.k - 1) j) (scope_seen l.tables.source.now.file l.m)) (take i (model_at (file_seen l.tables.source.now.file) l.m).stmts)) l.errors

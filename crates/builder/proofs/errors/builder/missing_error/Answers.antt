@@ -2,7 +2,6 @@
 use mathlib.Core.Path.{refl, sym}
 use native.Mathlib.Omega.{arith}
 use Rattle.ast.specs.Words.{span_from}
-use Rattle.area.specs.Listing.{found_as}
 use Rattle.builder.proofs.laws.ModelErrors.{call_in, call_named}
 use Rattle.builder.proofs.errors.builder.missing_error.Goals as goal
 
@@ -19,5 +18,5 @@ overflow_cast-word c = let p = c.requires in
     omega (arith, c.node-name.ensures.0, call_named c.args.file.now.opened a.q p.0 3 (sym p.1) refl stmt3.result stmt3.ensures.0)
 
 pub returns : goal.returns
-unfolding found_as span_from
+unfolding span_from
 returns c = rw (c.stmt-from.ensures.0, c.stmt-to.ensures.0, c.node-name.ensures.0, c.stmt.ensures.0) refl

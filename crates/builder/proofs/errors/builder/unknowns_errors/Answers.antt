@@ -1,4 +1,5 @@
 use Prim.Native.Nat.{◌+◌}
+use native.Mathlib.Omega.{arith}
 use Rattle.ast.specs.Opens.{file_in}
 use Rattle.definitions.specs.Variables.{unknown_errors}
 use Rattle.definitions.specs.Flatten.{model_at}
@@ -7,36 +8,39 @@ use Rattle.builder.proofs.laws.Runs.{unknowns_below}
 use Rattle.builder.proofs.laws.ModelErrors.{run_begins, run_room, run_goes, run_ends, unknown_here, unknown_there, unknowns_past}
 use Rattle.builder.proofs.errors.builder.unknowns_errors.Goals as goal
 
-pub loop-i-init : goal.loop-i-init
-loop-i-init c = let a = c.args in
-    run_begins (unknown_errors (file_in a.source.now.file.bytes.now a.source.now.file.sections).names) (model_at (file_in a.source.now.file.bytes.now a.source.now.file.sections) a.m).unknowns _ _
+pub loop-u-init : goal.loop-u-init
+loop-u-init c = let a = c.args in
+    (0, omega arith, run_begins (unknown_errors (file_in a.source.now.file.bytes.now a.source.now.file.sections).names) (model_at (file_in a.source.now.file.bytes.now a.source.now.file.sections) a.m).unknowns _ _)
 
 pub unknown_errors-requires : goal.unknown_errors-requires
 unknown_errors-requires c = let a = c.args in
     let p = c.requires in
     let model = c.model-first in
     let model2 = c.model-unknowns in
-    let loop = c.loop-i in
-    let loop-test = c.loop-i-test in
-    let there = unknown_there a.source.now.file.bytes.now a.source.now.file.sections c.args.source.now.file.opened a.m p.0 model.result model2.result loop.i model.ensures.0 model2.ensures.0 loop-test.true in
-    let here = unknown_here a.source.now.file.bytes.now a.source.now.file.sections c.args.source.now.file.opened a.m p.0 model.result model2.result loop.i model.ensures.0 model2.ensures.0 loop-test.true in
-    (unknowns_below a.source.now.file.bytes.now a.source.now.file.sections c.args.source.now.file.opened a.m p.0 model.result model2.result loop.i model.ensures.0 model2.ensures.0 loop-test.true, run_room (unknown_errors (file_in a.source.now.file.bytes.now a.source.now.file.sections).names) (model_at (file_in a.source.now.file.bytes.now a.source.now.file.sections) a.m).unknowns (unknown_in a.source.now.file.bytes.now a.source.now.file.sections (model.result + loop.i)) loop.i there here _ _ _ _ p.1 loop.invariant)
+    let loop = c.loop-u in
+    let inv = loop.invariant in
+    let loop-test = c.loop-u-test in
+    let there = unknown_there a.source.now.file.bytes.now a.source.now.file.sections c.args.source.now.file.opened a.m p.0 model.result model2.result loop.u inv.0 inv.1 model.ensures.0 model2.ensures.0 loop-test.true in
+    let here = unknown_here a.source.now.file.bytes.now a.source.now.file.sections c.args.source.now.file.opened a.m p.0 model.result model2.result loop.u inv.0 inv.1 model.ensures.0 model2.ensures.0 loop-test.true in
+    (unknowns_below a.source.now.file.bytes.now a.source.now.file.sections c.args.source.now.file.opened a.m p.0 model.result model2.result loop.u model.ensures.0 model2.ensures.0 loop-test.true, run_room (unknown_errors (file_in a.source.now.file.bytes.now a.source.now.file.sections).names) (model_at (file_in a.source.now.file.bytes.now a.source.now.file.sections) a.m).unknowns (unknown_in a.source.now.file.bytes.now a.source.now.file.sections loop.u) inv.0 there here _ _ _ _ p.1 inv.2)
 
-pub loop-i-preserved : goal.loop-i-preserved
-loop-i-preserved c = let a = c.args in
+pub loop-u-preserved : goal.loop-u-preserved
+loop-u-preserved c = let a = c.args in
     let p = c.requires in
     let model = c.model-first in
     let model2 = c.model-unknowns in
-    let loop = c.loop-i in
-    let loop-test = c.loop-i-test in
-    let there = unknown_there a.source.now.file.bytes.now a.source.now.file.sections c.args.source.now.file.opened a.m p.0 model.result model2.result loop.i model.ensures.0 model2.ensures.0 loop-test.true in
-    let here = unknown_here a.source.now.file.bytes.now a.source.now.file.sections c.args.source.now.file.opened a.m p.0 model.result model2.result loop.i model.ensures.0 model2.ensures.0 loop-test.true in
-    run_goes (unknown_errors (file_in a.source.now.file.bytes.now a.source.now.file.sections).names) (model_at (file_in a.source.now.file.bytes.now a.source.now.file.sections) a.m).unknowns (unknown_in a.source.now.file.bytes.now a.source.now.file.sections (model.result + loop.i)) loop.i there here _ _ _ _ _ _ loop.invariant c.unknown_errors.ensures
+    let loop = c.loop-u in
+    let inv = loop.invariant in
+    let loop-test = c.loop-u-test in
+    let there = unknown_there a.source.now.file.bytes.now a.source.now.file.sections c.args.source.now.file.opened a.m p.0 model.result model2.result loop.u inv.0 inv.1 model.ensures.0 model2.ensures.0 loop-test.true in
+    let here = unknown_here a.source.now.file.bytes.now a.source.now.file.sections c.args.source.now.file.opened a.m p.0 model.result model2.result loop.u inv.0 inv.1 model.ensures.0 model2.ensures.0 loop-test.true in
+    (inv.0 + 1, omega (arith, inv.1), run_goes (unknown_errors (file_in a.source.now.file.bytes.now a.source.now.file.sections).names) (model_at (file_in a.source.now.file.bytes.now a.source.now.file.sections) a.m).unknowns (unknown_in a.source.now.file.bytes.now a.source.now.file.sections loop.u) inv.0 there here _ _ _ _ _ _ inv.2 c.unknown_errors.ensures)
 
 pub returns : goal.returns
 returns c = let a = c.args in
     let p = c.requires in
     let model = c.model-first in
     let model2 = c.model-unknowns in
-    let loop = c.loop-i in
-    run_ends (unknown_errors (file_in a.source.now.file.bytes.now a.source.now.file.sections).names) (model_at (file_in a.source.now.file.bytes.now a.source.now.file.sections) a.m).unknowns loop.i (unknowns_past a.source.now.file.bytes.now a.source.now.file.sections c.args.source.now.file.opened a.m p.0 model.result model2.result loop.i model.ensures.0 model2.ensures.0 c.loop-i-test.false) _ _ _ _ loop.invariant
+    let loop = c.loop-u in
+    let inv = loop.invariant in
+    run_ends (unknown_errors (file_in a.source.now.file.bytes.now a.source.now.file.sections).names) (model_at (file_in a.source.now.file.bytes.now a.source.now.file.sections) a.m).unknowns inv.0 (unknowns_past a.source.now.file.bytes.now a.source.now.file.sections c.args.source.now.file.opened a.m p.0 model.result model2.result loop.u inv.0 inv.1 model.ensures.0 model2.ensures.0 c.loop-u-test.false) _ _ _ _ inv.2

@@ -4,10 +4,10 @@ use Rattle.area.specs.Sections.{deps_at}
 use Rattle.builder.specs.Fating.{is_fated}
 use Rattle.builder.proofs.errors.conditions.is_condition.Goals as goal
 
-pub stmt-fate-requires : goal.stmt-fate-requires
+pub is_fated-requires : goal.is_fated-requires
 unfolding deps_at
-stmt-fate-requires c = let p = c.requires in
-    (p.0.small, omega (arith, p.0.long), p.1, omega arith)
+is_fated-requires c = let p = c.requires in
+    (p.0.small, omega (arith, p.0.long), p.1)
 
 pub stmt-requires : goal.stmt-requires
 unfolding deps_at
@@ -16,4 +16,4 @@ stmt-requires c = let p = c.requires in
 
 pub returns : goal.returns
 unfolding is_fated
-returns c = rw (c.stmt-fate.ensures.0, c.stmt.ensures.0) refl
+returns c = rw (c.is_fated.ensures, c.stmt.ensures.0) refl

@@ -4,6 +4,7 @@ use Rattle.ast.proofs.Fields.{length_section}
 use Rattle.functions.specs.Lists.{place}
 use Rattle.area.specs.Sections.{stmts_at, deps_at}
 use Rattle.area.specs.Listing.{found_as}
+use Rattle.area.proofs.Listings.{found_one}
 use Rattle.area.specs.Views.{stmts_seen}
 use Rattle.builder.specs.Fating.{is_fated}
 use Rattle.builder.specs.Starting.{place_as}
@@ -12,46 +13,46 @@ use Rattle.builder.proofs.laws.HeldSteps.{place_few}
 use Rattle.builder.proofs.laws.StartingLaws.{state_bare, state_lacks, state_free, state_algebraic, state_starts}
 use Rattle.builder.proofs.errors.conditions.state_error.Goals as goal
 
-pub returns-then-held-eq0 : goal.returns-then-held-eq0
+pub returns-in_err-held : goal.returns-in_err-held
 unfolding found_as
-returns-then-held-eq0 c = let a = c.args in
+returns-in_err-held c = let a = c.args in
     let p = c.requires in
-    sym (state_bare _ _ _ _ _ _ (c.var-held.ensures ∙ p.1.held a.v p.2) c.if-held-eq0.true)
+    rw c.from_residual.ensures (sym (state_bare _ _ _ _ _ _ (c.var.ensures ∙ p.1.held a.v p.2) (omega (arith, c.in_err-held.ensures))))
 
 pub is_stmt-rate-requires : goal.is_stmt-rate-requires
 unfolding deps_at place
 is_stmt-rate-requires c = let a = c.args in
     let p = c.requires in
     let rs = stmts_seen a.area.now in
-    (p.1.small, omega (arith, p.1.long), omega (arith, c.var-held.ensures, p.1.held a.v p.2, place_few (is_fated 2 a.v) 0 rs, length_section 8 a.area.now.sizes.stmts (stmts_at a.area.now.sizes) a.area.now.bytes.now, c.if-held-eq0.false))
+    (p.1.small, omega (arith, p.1.long), omega (arith, c.var.ensures, p.1.held a.v p.2, place_few (is_fated 2 a.v) 0 rs, length_section 8 a.area.now.sizes.stmts (stmts_at a.area.now.sizes) a.area.now.bytes.now, c.in_ok-held.ensures))
 
 pub returns-then-rate-none : goal.returns-then-rate-none
 returns-then-rate-none c = let a = c.args in
     let p = c.requires in
-    let e = rw c.var.ensures at c.model_error.ensures in
-    e ∙ sym (state_lacks _ _ _ _ _ _ (c.var-held.ensures ∙ p.1.held a.v p.2) c.if-held-eq0.false _ _ c.is_stmt-rate.ensures (c.var-none.ensures ∙ p.1.initial a.v p.2) c.if-rate-none.true)
+    let e = rw c.var-name.ensures at c.model_error.ensures in
+    found_one _ _ e ∙ sym (state_lacks _ _ _ _ _ _ (c.var.ensures ∙ p.1.held a.v p.2) (λ e. omega (arith, e, c.in_ok-held.ensures)) _ _ (rw c.in_ok-held.ensures.1 at c.is_stmt-rate.ensures) (c.var-none.ensures ∙ p.1.initial a.v p.2) c.if-rate-none.true)
 
 pub returns-then-rate-none-2 : goal.returns-then-rate-none-2
 unfolding found_as
 returns-then-rate-none-2 c = let a = c.args in
     let p = c.requires in
-    sym (state_free _ _ _ _ _ _ (c.var-held.ensures ∙ p.1.held a.v p.2) c.if-held-eq0.false _ _ c.is_stmt-rate.ensures (c.var-none.ensures ∙ p.1.initial a.v p.2) c.if-rate-none.false c.if-rate-none-2.true)
+    sym (state_free _ _ _ _ _ _ (c.var.ensures ∙ p.1.held a.v p.2) (λ e. omega (arith, e, c.in_ok-held.ensures)) _ _ (rw c.in_ok-held.ensures.1 at c.is_stmt-rate.ensures) (c.var-none.ensures ∙ p.1.initial a.v p.2) c.if-rate-none.false c.if-rate-none-2.true)
 
 pub condition_error-requires : goal.condition_error-requires
 unfolding place_as place
 condition_error-requires c = let a = c.args in
-    let few = place_below (is_fated 1 a.v) 0 (stmts_seen a.area.now) c.in-Some.i (sym (c.in-Some.ensures)) in
+    let few = place_below (is_fated 1 a.v) 0 (stmts_seen a.area.now) _ (sym c.in_ok-i.ensures) in
     (c.requires.1, omega (arith, few, length_section 8 a.area.now.sizes.stmts (stmts_at a.area.now.sizes) a.area.now.bytes.now))
 
-pub returns-in-Some : goal.returns-in-Some
+pub returns : goal.returns
 unfolding place_as
-returns-in-Some c = let a = c.args in
+returns c = let a = c.args in
     let p = c.requires in
-    let e = rw c.var-in-Some.ensures at c.condition_error.ensures in
-    e ∙ sym (state_algebraic _ _ _ _ _ _ (c.var-held.ensures ∙ p.1.held a.v p.2) c.if-held-eq0.false _ _ c.is_stmt-rate.ensures (c.var-none.ensures ∙ p.1.initial a.v p.2) c.if-rate-none-2.false _ c.in-Some.ensures)
+    let e = rw c.var-2.ensures at c.condition_error.ensures in
+    found_one _ _ e ∙ sym (state_algebraic _ _ _ _ _ _ (c.var.ensures ∙ p.1.held a.v p.2) (λ e. omega (arith, e, c.in_ok-held.ensures)) _ _ (rw c.in_ok-held.ensures.1 at c.is_stmt-rate.ensures) (c.var-none.ensures ∙ p.1.initial a.v p.2) c.if-rate-none-2.false _ c.in_ok-i.ensures)
 
-pub returns-in-None : goal.returns-in-None
+pub returns-in_err-i : goal.returns-in_err-i
 unfolding found_as place_as
-returns-in-None c = let a = c.args in
+returns-in_err-i c = let a = c.args in
     let p = c.requires in
-    sym (state_starts _ _ _ _ _ _ (c.var-held.ensures ∙ p.1.held a.v p.2) c.if-held-eq0.false _ _ c.is_stmt-rate.ensures (c.var-none.ensures ∙ p.1.initial a.v p.2) c.if-rate-none-2.false c.in-None.ensures)
+    rw c.from_residual-in_err-i.ensures (sym (state_starts _ _ _ _ _ _ (c.var.ensures ∙ p.1.held a.v p.2) (λ e. omega (arith, e, c.in_ok-held.ensures)) _ _ (rw c.in_ok-held.ensures.1 at c.is_stmt-rate.ensures) (c.var-none.ensures ∙ p.1.initial a.v p.2) c.if-rate-none-2.false c.in_err-i.ensures))

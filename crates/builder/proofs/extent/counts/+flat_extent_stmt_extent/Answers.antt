@@ -1,4 +1,5 @@
 use mathlib.Core.Path.{refl, sym, ◌∙◌}
+use Prim.Native.Nat.{◌+◌}
 use native.Mathlib.Omega.{arith}
 use borrow.Author.Tests.{eqb-true}
 use Rattle.builder.specs.Starting.{place_as}
@@ -12,26 +13,27 @@ flat_extent-returns-then-k-eq0 t c = let a = c.args in
     let p = c.requires in
     (extended_none a.done _ p.2 (flat_zero _ _ a.k a.m c.if-k-eq0.true), (refl, refl, p.1.fit))
 
-pub flat_extent-loop-i-init : goal.flat_extent-loop-i-init
-flat_extent-loop-i-init t c = let a = c.args in
+pub flat_extent-loop-q-init : goal.flat_extent-loop-q-init
+flat_extent-loop-q-init t c = let a = c.args in
     let p = c.requires in
-    counting_start a.source.now.file.bytes.now a.source.now.file.sections a.k a.m a.rows.now a.level a.done c.if-k-eq0.false p.1.fit p.2
+    (0, omega arith, counting_start a.source.now.file.bytes.now a.source.now.file.sections a.k a.m a.rows.now a.level a.done c.if-k-eq0.false p.1.fit p.2)
 
 pub flat_extent-stmt_extent-total-requires : goal.flat_extent-stmt_extent-total-requires
 flat_extent-stmt_extent-total-requires t c = let a = c.args in
     let if1 = c.if-k-eq0 in
     let p = c.requires in
-    let v = c.loop-i.invariant in
+    let v = c.loop-q.invariant.2 in
     (omega (arith, c.decreases, if1.false), (omega (arith, (model_is a.source.now.file.bytes.now a.source.now.file.sections a.source.now.file.opened a.m p.0).stmts_within, c.model-first.ensures.0, c.model-count.ensures.0), record { deep = omega (arith, p.1.deep, if1.false); long = omega (arith, p.1.long, v.long, if1.false); fit = v.fit }, v.counted))
 
-pub flat_extent-loop-i-preserved : goal.flat_extent-loop-i-preserved
-flat_extent-loop-i-preserved t c = let a = c.args in
-    counting_step a.source.now.file.bytes.now a.source.now.file.sections a.k a.m a.rows.now a.level a.done a.source.now.file.opened c.requires.0 _ _ _ c.loop-i.invariant _ _ _ (omega (arith, c.loop-i-test.true, c.model-count.ensures.0)) c.model-first.ensures.0 c.stmt_extent-total.ensures
+pub flat_extent-loop-q-preserved : goal.flat_extent-loop-q-preserved
+flat_extent-loop-q-preserved t c = let a = c.args in
+    let inv = c.loop-q.invariant in
+    (inv.0 + 1, omega (arith, inv.1), counting_step a.source.now.file.bytes.now a.source.now.file.sections a.k a.m a.rows.now a.level a.done a.source.now.file.opened c.requires.0 _ _ _ inv.2 _ _ _ (omega (arith, c.loop-q-test.true, inv.1, c.model-count.ensures.0)) (omega (arith, inv.1, c.model-first.ensures.0)) c.stmt_extent-total.ensures)
 
 pub flat_extent-returns : goal.flat_extent-returns
 flat_extent-returns t c = let a = c.args in
-    let v = c.loop-i.invariant in
-    (counting_end a.source.now.file.bytes.now a.source.now.file.sections a.k a.m a.rows.now a.level a.done a.source.now.file.opened c.requires.0 _ _ _ v (omega (arith, c.model-count.ensures.0)), (v.long, v.kept, v.fit))
+    let v = c.loop-q.invariant.2 in
+    (counting_end a.source.now.file.bytes.now a.source.now.file.sections a.k a.m a.rows.now a.level a.done a.source.now.file.opened c.requires.0 _ _ _ v (omega (arith, c.loop-q-test.false, c.loop-q.invariant.1, c.model-count.ensures.0)), (v.long, v.kept, v.fit))
 
 pub stmt_extent-returns-then-done : goal.stmt_extent-returns-then-done
 stmt_extent-returns-then-done t c = (extended_full c.args.done _ c.requires.2 c.if-done.true, (refl, refl, c.requires.1.fit))

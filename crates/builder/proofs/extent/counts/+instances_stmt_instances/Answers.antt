@@ -20,9 +20,9 @@ instances-returns-then-k-eq0 t c = let a = c.args in
 pub instances-returns-then-most-eq0 : goal.instances-returns-then-most-eq0
 instances-returns-then-most-eq0 t c = at_most_zero _ _ c.if-most-eq0.true
 
-pub instances-loop-i-init : goal.instances-loop-i-init
-instances-loop-i-init t c = let a = c.args in
-    at_most_one _ _ c.if-most-eq0.false (ap (λ (z : ℕ). 1 + z) (sum_none (called_instances (file_in a.source.now.file.bytes.now a.source.now.file.sections) (a.k - 1)) (model_at (file_in a.source.now.file.bytes.now a.source.now.file.sections) a.m).stmts))
+pub instances-loop-q-init : goal.instances-loop-q-init
+instances-loop-q-init t c = let a = c.args in
+    (0, omega arith, at_most_one _ _ c.if-most-eq0.false (ap (λ (z : ℕ). 1 + z) (sum_none (called_instances (file_in a.source.now.file.bytes.now a.source.now.file.sections) (a.k - 1)) (model_at (file_in a.source.now.file.bytes.now a.source.now.file.sections) a.m).stmts)))
 
 pub instances-overflow_sub-most : goal.instances-overflow_sub-most
 unfolding at_most
@@ -37,19 +37,19 @@ pub instances-overflow_add-total : goal.instances-overflow_add-total
 unfolding at_most
 instances-overflow_add-total t c = omega arith
 
-pub instances-loop-i-preserved : goal.instances-loop-i-preserved
-instances-loop-i-preserved t c = let a = c.args in
-    let loop = c.loop-i in
+pub instances-loop-q-preserved : goal.instances-loop-q-preserved
+instances-loop-q-preserved t c = let a = c.args in
+    let loop = c.loop-q in
     let p = c.requires in
     let g = called_instances (file_in a.source.now.file.bytes.now a.source.now.file.sections) (a.k - 1) in
-    let r = run_next a.source.now.file.bytes.now a.source.now.file.sections a.source.now.file.opened a.m p.0 g loop.i (omega (arith, c.model-count.ensures.0)) in
-    let q = ap (λ (j : ℕ). g (stmt_in a.source.now.file.bytes.now a.source.now.file.sections (j + loop.i))) c.model-first.ensures.0 in
-    at_most_add _ _ _ _ (g (stmt_in a.source.now.file.bytes.now a.source.now.file.sections (c.model-first.result + loop.i))) loop.invariant c.stmt_instances-total.ensures ∙ ap (at_most a.most) (omega (arith, r, q))
+    let inv = loop.invariant in
+    let r = run_next a.source.now.file.bytes.now a.source.now.file.sections a.source.now.file.opened a.m p.0 g inv.0 loop.q (omega (arith, inv.1, c.model-first.ensures.0)) (omega (arith, c.loop-q-test.true, inv.1, c.model-count.ensures.0)) in
+    (inv.0 + 1, omega (arith, inv.1), at_most_add _ _ _ _ (g (stmt_in a.source.now.file.bytes.now a.source.now.file.sections loop.q)) inv.2 c.stmt_instances-total.ensures ∙ ap (at_most a.most) (omega (arith, r)))
 
 pub instances-returns : goal.instances-returns
 instances-returns t c = let a = c.args in
     let p = c.requires in
-    c.loop-i.invariant ∙ ap (at_most a.most) (ap (λ (z : ℕ). 1 + z) (run_end a.source.now.file.bytes.now a.source.now.file.sections a.source.now.file.opened a.m p.0 (called_instances (file_in a.source.now.file.bytes.now a.source.now.file.sections) (a.k - 1)) c.loop-i.i (omega (arith, c.model-count.ensures.0))) ∙ sym (instances_more (file_in a.source.now.file.bytes.now a.source.now.file.sections) a.k a.m c.if-k-eq0.false))
+    c.loop-q.invariant.2 ∙ ap (at_most a.most) (ap (λ (z : ℕ). 1 + z) (run_end a.source.now.file.bytes.now a.source.now.file.sections a.source.now.file.opened a.m p.0 (called_instances (file_in a.source.now.file.bytes.now a.source.now.file.sections) (a.k - 1)) c.loop-q.invariant.0 (omega (arith, c.loop-q-test.false, c.loop-q.invariant.1, c.model-count.ensures.0))) ∙ sym (instances_more (file_in a.source.now.file.bytes.now a.source.now.file.sections) a.k a.m c.if-k-eq0.false))
 
 pub stmt_instances-instances-requires : goal.stmt_instances-instances-requires
 unfolding place_as

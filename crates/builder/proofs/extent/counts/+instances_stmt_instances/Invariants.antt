@@ -1,6 +1,6 @@
 -- `instances` and `stmt_instances` meet their contracts. The loop's invariant: the total is that of the statements passed, at most the most. The measure goes by the depth.
 use mathlib.Core.Path.{◌≡◌}
-use Prim.Native.Nat.{◌+◌, ◌-◌, ◌*◌}
+use Prim.Native.Nat.{ℕ, ◌+◌, ◌-◌, ◌*◌}
 use lib.ListN.{take}
 use Rattle.functions.specs.Lists.{sum_of}
 use Rattle.ast.specs.Opens.{file_in}
@@ -15,5 +15,5 @@ decreases-instances l = 2 * l.k
 abbrev pub decreases-stmt_instances : goal.decreases-stmt_instances
 decreases-stmt_instances l = 2 * l.k + 1
 
-abbrev pub invariant-instances-loop-i : goal.invariant-instances-loop-i
-invariant-instances-loop-i l = l.total ≡ at_most l.most (1 + sum_of (called_instances (file_in l.source.file.bytes.now l.source.file.sections) (l.k - 1)) (take l.i (model_at (file_in l.source.file.bytes.now l.source.file.sections) l.m).stmts))
+abbrev pub invariant-instances-loop-q : goal.invariant-instances-loop-q
+invariant-instances-loop-q l = (i : ℕ) × (l.q ≡ l.first + i) × (l.total ≡ at_most l.most (1 + sum_of (called_instances (file_in l.source.file.bytes.now l.source.file.sections) (l.k - 1)) (take i (model_at (file_in l.source.file.bytes.now l.source.file.sections) l.m).stmts)))

@@ -1,4 +1,5 @@
 use mathlib.Core.Path.{refl, sym, ◌∙◌}
+use Prim.Native.Nat.{◌+◌}
 use native.Mathlib.Omega.{arith}
 use borrow.Author.Tests.{eqb-true}
 use Rattle.ast.specs.Rows.{levels_of}
@@ -13,27 +14,28 @@ pub write_flats-returns-then-k-eq0 : goal.write_flats-returns-then-k-eq0
 write_flats-returns-then-k-eq0 t c = let a = c.args in
     (nothing_put a.done a.out.now _ (flat_zero (file_in a.source.now.file.bytes.now a.source.now.file.sections) (levels_of (contents_in a.source.now.file.bytes.now a.source.now.file.sections).nodes a.rows.now a.level) a.k a.m c.if-k-eq0.true), (refl, refl, c.requires.1.fit))
 
-pub write_flats-loop-i-init : goal.write_flats-loop-i-init
-write_flats-loop-i-init t c = let a = c.args in
-    writing_start a.source.now.file.bytes.now a.source.now.file.sections a.k a.m a.rows.now a.level a.out.now a.done c.if-k-eq0.false c.requires.1.fit c.requires.2
+pub write_flats-loop-q-init : goal.write_flats-loop-q-init
+write_flats-loop-q-init t c = let a = c.args in
+    (0, omega arith, writing_start a.source.now.file.bytes.now a.source.now.file.sections a.k a.m a.rows.now a.level a.out.now a.done c.if-k-eq0.false c.requires.1.fit c.requires.2)
 
 pub write_flats-write_stmt-total-requires : goal.write_flats-write_stmt-total-requires
 write_flats-write_stmt-total-requires t c = let a = c.args in
     let if1 = c.if-k-eq0 in
     let model2 = c.model-count in
-    let loop = c.loop-i in
+    let loop = c.loop-q in
     let p = c.requires in
-    let v = loop.invariant in
-    (omega (arith, c.decreases, if1.false), (omega (arith, (model_is a.source.now.file.bytes.now a.source.now.file.sections a.source.now.file.opened a.m p.0).stmts_within, c.model-first.ensures.0, model2.ensures.0), record { deep = omega (arith, p.1.deep, if1.false); long = omega (arith, p.1.long, v.long, if1.false); fit = v.fit }, writing_room a.source.now.file.bytes.now a.source.now.file.sections a.k a.m a.rows.now a.level a.out.now a.done a.source.now.file.opened p.0 _ _ _ _ loop.invariant _ (omega (arith, c.loop-i-test.true, model2.ensures.0)) c.model-first.ensures.0))
+    let v = loop.invariant.2 in
+    (omega (arith, c.decreases, if1.false), (omega (arith, (model_is a.source.now.file.bytes.now a.source.now.file.sections a.source.now.file.opened a.m p.0).stmts_within, c.model-first.ensures.0, model2.ensures.0), record { deep = omega (arith, p.1.deep, if1.false); long = omega (arith, p.1.long, v.long, if1.false); fit = v.fit }, writing_room a.source.now.file.bytes.now a.source.now.file.sections a.k a.m a.rows.now a.level a.out.now a.done a.source.now.file.opened p.0 _ _ _ _ v _ (omega (arith, c.loop-q-test.true, loop.invariant.1, model2.ensures.0)) (omega (arith, loop.invariant.1, c.model-first.ensures.0))))
 
-pub write_flats-loop-i-preserved : goal.write_flats-loop-i-preserved
-write_flats-loop-i-preserved t c = let a = c.args in
-    writing_step a.source.now.file.bytes.now a.source.now.file.sections a.k a.m a.rows.now a.level a.out.now a.done a.source.now.file.opened c.requires.0 _ _ _ _ c.loop-i.invariant _ (omega (arith, c.loop-i-test.true, c.model-count.ensures.0)) c.model-first.ensures.0 _ _ _ c.write_stmt-total.ensures
+pub write_flats-loop-q-preserved : goal.write_flats-loop-q-preserved
+write_flats-loop-q-preserved t c = let a = c.args in
+    let inv = c.loop-q.invariant in
+    (inv.0 + 1, omega (arith, inv.1), writing_step a.source.now.file.bytes.now a.source.now.file.sections a.k a.m a.rows.now a.level a.out.now a.done a.source.now.file.opened c.requires.0 _ _ _ _ inv.2 _ (omega (arith, c.loop-q-test.true, inv.1, c.model-count.ensures.0)) (omega (arith, inv.1, c.model-first.ensures.0)) _ _ _ c.write_stmt-total.ensures)
 
 pub write_flats-returns : goal.write_flats-returns
 write_flats-returns t c = let a = c.args in
-    let v = c.loop-i.invariant in
-    (writing_end a.source.now.file.bytes.now a.source.now.file.sections a.k a.m a.rows.now a.level a.out.now a.done a.source.now.file.opened c.requires.0 _ _ _ _ c.loop-i.invariant (omega (arith, c.model-count.ensures.0)), (v.long, v.kept, v.fit))
+    let v = c.loop-q.invariant.2 in
+    (writing_end a.source.now.file.bytes.now a.source.now.file.sections a.k a.m a.rows.now a.level a.out.now a.done a.source.now.file.opened c.requires.0 _ _ _ _ v (omega (arith, c.loop-q-test.false, c.loop-q.invariant.1, c.model-count.ensures.0)), (v.long, v.kept, v.fit))
 
 pub write_stmt-find_replacements-requires : goal.write_stmt-find_replacements-requires
 unfolding place_as

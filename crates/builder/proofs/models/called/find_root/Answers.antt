@@ -22,7 +22,7 @@ position-requires-clause-callable c = let a = c.args in
     grind (serving, below)
 
 pub returns : goal.returns
-unfolding root_of model_at
+unfolding root_of model_at text_of
 returns c = let a = c.args in
     let long = models_long a.file.now.bytes.now a.file.now.sections in
     first_over (λ m. same_text a.root.now (text_of (file_in a.file.now.bytes.now a.file.now.sections).names (word_of (model_record a.file.now.bytes.now a.file.now.sections m) 0))) (is_root_name a.file.now.bytes.now a.file.now.sections a.root.now) no_model a.file.now.sections.counts.models (file_in a.file.now.bytes.now a.file.now.sections).models (omega arith) refl

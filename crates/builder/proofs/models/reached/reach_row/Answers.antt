@@ -1,25 +1,29 @@
+use Prim.Native.Nat.{◌+◌}
+use native.Mathlib.Omega.{arith}
 use Rattle.ast.specs.Opens.{file_in}
 use Rattle.builder.proofs.laws.Runs.{stmts_below}
 use Rattle.builder.proofs.laws.Rounds.{rowed_none, row_more, row_done}
 use Rattle.builder.proofs.models.reached.reach_row.Goals as goal
 
-pub loop-i-init : goal.loop-i-init
-loop-i-init c = let a = c.args in
+pub loop-q-init : goal.loop-q-init
+loop-q-init c = let a = c.args in
     let p = c.requires in
-    rowed_none (file_in a.source.now.file.bytes.now a.source.now.file.sections) a.source.now.file.sections.counts.models a.old.now a.source.now.file.opened.laid.within.models a.a p.1 a.new.now p.2
+    (0, omega arith, rowed_none (file_in a.source.now.file.bytes.now a.source.now.file.sections) a.source.now.file.sections.counts.models a.old.now a.source.now.file.opened.laid.within.models a.a p.1 a.new.now p.2)
 
 pub add_called-requires : goal.add_called-requires
 add_called-requires c = let a = c.args in
     let p = c.requires in
-    (p.0, c.loop-i.invariant.size, stmts_below a.source.now.file.bytes.now a.source.now.file.sections a.source.now.file.opened a.a p.1 c.model-first.result c.model-count.result c.loop-i.i c.model-first.ensures.0 c.model-count.ensures.0 c.loop-i-test.true, p.1)
+    (p.0, c.loop-q.invariant.2.size, stmts_below a.source.now.file.bytes.now a.source.now.file.sections a.source.now.file.opened a.a p.1 c.model-first.result c.model-count.result c.loop-q.q c.model-first.ensures.0 c.model-count.ensures.0 c.loop-q-test.true, p.1)
 
-pub loop-i-preserved : goal.loop-i-preserved
-loop-i-preserved c = let a = c.args in
+pub loop-q-preserved : goal.loop-q-preserved
+loop-q-preserved c = let a = c.args in
     let p = c.requires in
-    let loop = c.loop-i in
-    row_more a.source.now.file.bytes.now a.source.now.file.sections a.source.now.file.opened a.old.now a.a p.1 c.model-first.result c.model-count.result loop.i c.model-first.ensures.0 c.model-count.ensures.0 loop.new _ c.loop-i-test.true c.add_called.ensures loop.invariant
+    let loop = c.loop-q in
+    let inv = loop.invariant in
+    (inv.0 + 1, omega (arith, inv.1), row_more a.source.now.file.bytes.now a.source.now.file.sections a.source.now.file.opened a.old.now a.a p.1 c.model-first.result c.model-count.result loop.q inv.0 inv.1 c.model-first.ensures.0 c.model-count.ensures.0 loop.new _ c.loop-q-test.true c.add_called.ensures inv.2)
 
 pub returns : goal.returns
 returns c = let a = c.args in
     let p = c.requires in
-    row_done a.source.now.file.bytes.now a.source.now.file.sections a.source.now.file.opened a.old.now a.a p.1 c.model-first.result c.model-count.result c.loop-i.i c.model-first.ensures.0 c.model-count.ensures.0 c.loop-i.new c.loop-i-test.false c.loop-i.invariant
+    let inv = c.loop-q.invariant in
+    row_done a.source.now.file.bytes.now a.source.now.file.sections a.source.now.file.opened a.old.now a.a p.1 c.model-first.result c.model-count.result c.loop-q.q inv.0 inv.1 c.model-first.ensures.0 c.model-count.ensures.0 c.loop-q.new c.loop-q-test.false inv.2

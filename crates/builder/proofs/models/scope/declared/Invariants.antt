@@ -1,3 +1,5 @@
+use mathlib.Core.Path.{◌≡◌}
+use Prim.Native.Nat.{ℕ, ◌+◌}
 use mathlib.Core.List.{[], ◌∷◌}
 use lib.ListN.{take}
 use Rattle.ast.specs.Opens.{file_in}
@@ -7,5 +9,5 @@ use Rattle.definitions.specs.Flatten.{model_at}
 use Rattle.builder.specs.Tables.{Marks}
 use Rattle.builder.proofs.models.scope.declared.Given as goal
 
-abbrev pub invariant-loop-i : goal.invariant-loop-i
-invariant-loop-i l = Marks l.source.file.sections.counts.names (declare (file_in l.source.file.bytes.now l.source.file.sections).names (time_name (file_in l.source.file.bytes.now l.source.file.sections).names ∷ []) (take l.i (model_at (file_in l.source.file.bytes.now l.source.file.sections) l.m).unknowns)) l.out
+abbrev pub invariant-loop-u : goal.invariant-loop-u
+invariant-loop-u l = (i : ℕ) × (l.u ≡ l.first + i) × Marks l.source.file.sections.counts.names (declare (file_in l.source.file.bytes.now l.source.file.sections).names (time_name (file_in l.source.file.bytes.now l.source.file.sections).names ∷ []) (take i (model_at (file_in l.source.file.bytes.now l.source.file.sections) l.m).unknowns)) l.out

@@ -1,3 +1,5 @@
+use mathlib.Core.Path.{◌≡◌}
+use Prim.Native.Nat.{ℕ, ◌+◌}
 use lib.ListN.{take}
 use Rattle.ast.specs.Opens.{file_in}
 use Rattle.definitions.specs.Variables.{variable_names}
@@ -5,5 +7,5 @@ use Rattle.definitions.specs.Flatten.{model_at}
 use Rattle.builder.proofs.laws.ScopeTables.{Counted}
 use Rattle.builder.proofs.models.scope.model_vars.Given as goal
 
-abbrev pub invariant-loop-i : goal.invariant-loop-i
-invariant-loop-i l = Counted l.source.file.sections.counts.names (variable_names (file_in l.source.file.bytes.now l.source.file.sections).names (model_at (file_in l.source.file.bytes.now l.source.file.sections) l.m).unknowns) (take l.i (model_at (file_in l.source.file.bytes.now l.source.file.sections) l.m).unknowns) l.out
+abbrev pub invariant-loop-u : goal.invariant-loop-u
+invariant-loop-u l = (i : ℕ) × (l.u ≡ l.first + i) × Counted l.source.file.sections.counts.names (variable_names (file_in l.source.file.bytes.now l.source.file.sections).names (model_at (file_in l.source.file.bytes.now l.source.file.sections) l.m).unknowns) (take i (model_at (file_in l.source.file.bytes.now l.source.file.sections) l.m).unknowns) l.out

@@ -11,7 +11,7 @@ time_round-next-requires c = let a = c.args in
 
 pub take_marks-requires : goal.take_marks-requires
 take_marks-requires c = let a = c.args in
-    (deps_stay a.z a.area.now c.requires.0 c.loop.counter c.loop.area c.loop.invariant, omega arith, c.time_round-next.ensures)
+    (deps_stay a.z a.area.now c.requires.0 c.loop.counter c.loop.area c.loop.invariant, omega arith)
 
 pub returns-then-not-take_marks : goal.returns-then-not-take_marks
 returns-then-not-take_marks c = let loop = c.loop in

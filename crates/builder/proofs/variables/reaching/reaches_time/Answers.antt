@@ -1,43 +1,37 @@
-use mathlib.Core.Path.{◌≡◌, sym, ◌∙◌}
-use Prim.Native.Nat.{◌+◌}
-use native.Mathlib.Omega.{arith}
-use mathlib.Core.Bool.{◌||◌}
-use borrow.Author.Tests.{ne_eqb}
-use lib.ListN.{drop, get_or}
-use Rattle.functions.specs.Lists.{any}
+use mathlib.Core.Path.{◌≡◌, refl, ◌∙◌}
+use Prim.Native.Nat.{ℕ, ◌+◌, ◌≤◌, ◌<◌}
+use borrow.Author.Rules.{rules}
+use borrow.Author.Tests.{tests}
+use lib.ListN.{take, drop, get_or}
+use Rattle.std.proofs.iter.Serving.{serving}
+use Rattle.ast.specs.Words.{words}
+use Rattle.area.specs.Sections.{deps_at}
 use Rattle.builder.specs.Reaching.{leads}
-use Rattle.builder.specs.Areas.{deps_seen, marks_seen}
-use Rattle.builder.proofs.laws.TimeRounds.{dep_read, dep_below, any_on, any_out}
+use Rattle.builder.specs.Areas.{marks_seen}
+use Rattle.builder.proofs.laws.Ranges.{any_numbers}
+use Rattle.builder.proofs.laws.TimeRounds.{run_within, dep_below, any_dep}
 use Rattle.builder.proofs.variables.reaching.reaches_time.Goals as goal
-use Rattle.builder.proofs.variables.reaching.reaches_time.Goals.{After-dep_word-d}
 
--- what was read is the dependent that the loop is at
-is_dep : (c : After-dep_word-d) → c.dep_word-d.result ≡ get_or (deps_seen c.args.area.now c.args.v) c.loop-i.i 0
-is_dep c = let a = c.args in
+pub any-requires-clause-callable : goal.any-requires-clause-callable
+any-requires-clause-callable c = let a = c.args in
     let p = c.requires in
-    dep_read a.area.now.sizes a.area.now.bytes.now p.0 a.v p.1 c.loop-i.i c.deps_at-at.result c.var-first.result c.dep_word-d.result (omega (arith, c.var-count.ensures)) c.deps_at-at.ensures c.var-first.ensures c.dep_word-d.ensures.0
-
--- the answer is that of this dependent and of those behind it
-passed : (c : After-dep_word-d)
-    → (let marks = marks_seen c.args.area.now in let deps = deps_seen c.args.area.now c.args.v in any (leads marks) deps ≡ (leads marks c.dep_word-d.result || any (leads marks) (drop (c.loop-i.i + 1) deps)))
-passed c = let a = c.args in
-    let p = c.requires in
-    c.loop-i.invariant ∙ any_on a.area.now.sizes a.area.now.bytes.now p.0 a.v p.1 c.loop-i.i c.dep_word-d.result (omega (arith, c.var-count.ensures)) (is_dep c) (leads (marks_seen a.area.now))
-
-pub var-requires : goal.var-requires
-var-requires c = let a = c.args in
-    let p = c.requires in
-    (p.0.small, omega (arith, p.0.long), dep_below a.area.now.sizes a.area.now.bytes.now p.0 a.v p.1 c.loop-i.i c.dep_word-d.result (omega (arith, c.var-count.ensures)) (is_dep (goal.at.var-requires c).After-dep_word-d), omega arith)
-
-pub returns-then-var-eq1 : goal.returns-then-var-eq1
-unfolding leads
-returns-then-var-eq1 c = sym (passed (goal.at.returns-then-var-eq1 c).After-dep_word-d ∙ rw (← c.var.ensures, c.if-var-eq1.true))
-
-pub loop-i-preserved : goal.loop-i-preserved
-unfolding leads
-loop-i-preserved c = passed (goal.at.loop-i-preserved c).After-dep_word-d ∙ rw (← c.var.ensures, ne_eqb c.var.result 1 c.if-var-eq1.false)
+    let z = a.area.now.sizes in
+    let b = a.area.now.bytes.now in
+    let f = c.var-first.result in
+    let n = c.var-count.result in
+    let long = p.0.long in
+    let small = p.0.small in
+    let within = run_within z b p.0 a.v p.1 f n c.var-first.ensures c.var-count.ensures in
+    let below : (at k r : ℕ) → at ≡ deps_at z → f ≤ k → k < f + n → r ≡ get_or (take z.deps (words (drop at b))) k 0 → r < z.vars = dep_below z b p.0 a.v p.1 f n c.var-first.ensures c.var-count.ensures in
+    grind (serving, long, small, within, below)
 
 pub returns : goal.returns
+unfolding leads
 returns c = let a = c.args in
     let p = c.requires in
-    sym (c.loop-i.invariant ∙ any_out a.area.now.sizes a.area.now.bytes.now p.0 a.v p.1 (leads (marks_seen a.area.now)) c.loop-i.i (omega (arith, c.var-count.ensures)))
+    let z = a.area.now.sizes in
+    let b = a.area.now.bytes.now in
+    let f = c.var-first.result in
+    let n = c.var-count.result in
+    any_numbers f _ n refl (λ (k : ℕ). leads (marks_seen a.area.now) (get_or (take z.deps (words (drop (deps_at z) b))) k 0)) refl c.any.ensures.ran (λ k w q x. search (rules, tests))
+    ∙ any_dep z b p.0 a.v p.1 f n c.var-first.ensures c.var-count.ensures (leads (marks_seen a.area.now))

@@ -1,5 +1,5 @@
 use mathlib.Core.Path.{◌≡◌}
-use Prim.Native.Nat.{◌<◌}
+use Prim.Native.Nat.{◌+◌, ◌<◌}
 use native.Mathlib.Omega.{arith}
 use lib.ListN.{length, get_or}
 use Rattle.builder.specs.VariableTables.{unknown_in, kept_by}
@@ -8,9 +8,9 @@ use Rattle.builder.proofs.laws.PutWords.{numbered, runs_first, runs_room, runs_n
 use Rattle.builder.proofs.variables.roster.put_unknown_deps.Goals as goal
 use Rattle.builder.proofs.variables.roster.put_unknown_deps.Goals.{After-dep}
 
-pub loop-i-init : goal.loop-i-init
+pub loop-d-init : goal.loop-d-init
 unfolding kept_by numbered
-loop-i-init c = runs_first _ _ _ _ c.requires.2
+loop-d-init c = (0, omega arith, runs_first _ _ _ _ c.requires.2)
 
 pub dep-requires : goal.dep-requires
 dep-requires c = let a = c.args in
@@ -18,11 +18,11 @@ dep-requires c = let a = c.args in
     omega (arith, deps_within a.file.now.bytes.now a.file.now.sections c.args.file.now.opened a.u p.0 _ _ c.unknown-first.ensures.0 c.unknown-count.ensures.0)
 
 -- what was read is the dependent that the loop is at, a name
-dep_here : (c : After-dep) → (let deps = (unknown_in c.args.file.now.bytes.now c.args.file.now.sections c.args.u).deps in (c.loop-i.i < length deps) × (c.dep.result ≡ get_or deps c.loop-i.i 0) × (c.dep.result < c.args.file.now.sections.counts.names))
+dep_here : (c : After-dep) → (let deps = (unknown_in c.args.file.now.bytes.now c.args.file.now.sections c.args.u).deps in (c.loop-d.invariant.0 < length deps) × (c.dep.result ≡ get_or deps c.loop-d.invariant.0 0) × (c.dep.result < c.args.file.now.sections.counts.names))
 dep_here c = let a = c.args in
     let p = c.requires in
-    let (is, name) = deps_at_lem a.file.now.bytes.now a.file.now.sections c.args.file.now.opened a.u p.0 _ _ c.unknown-first.ensures.0 c.unknown-count.ensures.0 c.loop-i.i c.dep.result (omega arith) c.dep.ensures in
-    (omega (arith, deps_count a.file.now.bytes.now a.file.now.sections c.args.file.now.opened a.u p.0 _ _ c.unknown-first.ensures.0 c.unknown-count.ensures.0), is, name)
+    let (is, name) = deps_at_lem a.file.now.bytes.now a.file.now.sections c.args.file.now.opened a.u p.0 _ _ c.unknown-first.ensures.0 c.unknown-count.ensures.0 c.loop-d.invariant.0 _ c.dep.result c.loop-d.invariant.1 (omega (arith, c.loop-d-test.true, c.loop-d.invariant.1)) c.dep.ensures in
+    (omega (arith, c.loop-d-test.true, c.loop-d.invariant.1, deps_count a.file.now.bytes.now a.file.now.sections c.args.file.now.opened a.u p.0 _ _ c.unknown-first.ensures.0 c.unknown-count.ensures.0), is, name)
 
 pub offset_bounds-numbers-dep : goal.offset_bounds-numbers-dep
 offset_bounds-numbers-dep c = omega (arith, (dep_here (goal.at.offset_bounds-numbers-dep c).After-dep).2, c.args.file.now.opened.laid.within.names)
@@ -33,16 +33,17 @@ bounds-numbers-dep c = omega (arith, (dep_here (goal.at.bounds-numbers-dep c).Af
 pub put_dep-total-requires : goal.put_dep-total-requires
 unfolding kept_by numbered
 put_dep-total-requires c = let d = dep_here (goal.at.put_dep-total-requires c).After-dep in
-    runs_room _ _ _ _ c.requires.2 _ _ _ c.loop-i.invariant 0 _ d.0 d.1
+    runs_room _ _ _ _ c.requires.2 _ _ _ c.loop-d.invariant.2 0 _ d.0 d.1
 
-pub loop-i-preserved : goal.loop-i-preserved
+pub loop-d-preserved : goal.loop-d-preserved
 unfolding kept_by numbered
-loop-i-preserved c = let d = dep_here (goal.at.loop-i-preserved c).After-dep in
+loop-d-preserved c = let d = dep_here (goal.at.loop-d-preserved c).After-dep in
     let put = c.put_dep-total.ensures in
-    runs_next _ _ _ _ c.requires.2 _ _ _ c.loop-i.invariant 0 _ _ _ d.0 d.1 put.0 put.1
+    let inv = c.loop-d.invariant in
+    (inv.0 + 1, omega (arith, inv.1), runs_next _ _ _ _ c.requires.2 _ _ _ inv.2 0 _ _ _ d.0 d.1 put.0 put.1)
 
 pub returns : goal.returns
 unfolding kept_by numbered
 returns c = let a = c.args in
     let p = c.requires in
-    runs_last _ _ _ _ p.2 _ _ _ c.loop-i.invariant (omega (arith, deps_count a.file.now.bytes.now a.file.now.sections c.args.file.now.opened a.u p.0 _ _ c.unknown-first.ensures.0 c.unknown-count.ensures.0))
+    runs_last _ _ _ _ p.2 _ _ _ c.loop-d.invariant.2 (omega (arith, c.loop-d-test.false, c.loop-d.invariant.1, deps_count a.file.now.bytes.now a.file.now.sections c.args.file.now.opened a.u p.0 _ _ c.unknown-first.ensures.0 c.unknown-count.ensures.0))

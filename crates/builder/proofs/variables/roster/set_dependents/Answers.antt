@@ -7,25 +7,25 @@ use Rattle.builder.specs.VariableTables.{unknowns_in, unknown_in, roster_in, kep
 use Rattle.builder.proofs.laws.OpenUnknowns.{no_unknown, unknown_deps_below, run_within, run_count, run_unknown}
 use Rattle.builder.proofs.laws.PutWords.{of_named, named_kept, runs_first, runs_room, runs_next, runs_last}
 use Rattle.builder.proofs.variables.roster.set_dependents.Goals as goal
-use Rattle.builder.proofs.variables.roster.set_dependents.Goals.{In-loop-i}
+use Rattle.builder.proofs.variables.roster.set_dependents.Goals.{In-loop-u}
 
-pub loop-i-init : goal.loop-i-init
+pub loop-u-init : goal.loop-u-init
 unfolding kept_deps of_named
-loop-i-init c = runs_first (of_named _ _) _ _ _ c.requires.1
+loop-u-init c = (0, omega arith, runs_first (of_named _ _) _ _ _ c.requires.1)
 
 -- the unknown that the loop is at: it is one of the model's, and its dependents that are kept
-within : (c : In-loop-i) → c.model-first.result + c.loop-i.i < c.args.file.now.sections.counts.unknowns
+within : (c : In-loop-u) → c.loop-u.u < c.args.file.now.sections.counts.unknowns
 within c = let a = c.args in
     let p = c.requires.0 in
     omega (arith, run_within a.file.now.bytes.now a.file.now.sections p.opened a.m p.model _ _ c.model-first.ensures.0 c.model-count.ensures.0)
 
-listed : (c : In-loop-i) → (let us = unknowns_in c.args.file.now.bytes.now c.args.file.now.sections c.args.m in (c.loop-i.i < length us) × (unknown_in c.args.file.now.bytes.now c.args.file.now.sections (c.model-first.result + c.loop-i.i) ≡ get_or us c.loop-i.i no_unknown))
+listed : (c : In-loop-u) → (let us = unknowns_in c.args.file.now.bytes.now c.args.file.now.sections c.args.m in (c.loop-u.invariant.0 < length us) × (unknown_in c.args.file.now.bytes.now c.args.file.now.sections c.loop-u.u ≡ get_or us c.loop-u.invariant.0 no_unknown))
 listed c = let a = c.args in
     let p = c.requires.0 in
-    (omega (arith, run_count a.file.now.bytes.now a.file.now.sections p.opened a.m p.model _ _ c.model-first.ensures.0 c.model-count.ensures.0), sym (run_unknown a.file.now.bytes.now a.file.now.sections p.opened a.m p.model _ _ c.model-first.ensures.0 c.model-count.ensures.0 c.loop-i.i (omega arith)))
+    (omega (arith, c.loop-u-test.true, c.loop-u.invariant.1, run_count a.file.now.bytes.now a.file.now.sections p.opened a.m p.model _ _ c.model-first.ensures.0 c.model-count.ensures.0), sym (run_unknown a.file.now.bytes.now a.file.now.sections p.opened a.m p.model _ _ c.model-first.ensures.0 c.model-count.ensures.0 c.loop-u.invariant.0 _ c.loop-u.invariant.1 (omega (arith, c.loop-u-test.true, c.loop-u.invariant.1))))
 
-kept : (c : In-loop-i)
-    → (let u = unknown_in c.args.file.now.bytes.now c.args.file.now.sections (c.model-first.result + c.loop-i.i) in kept_named c.args.numbers.now c.args.name u ≡ of_named (roster_in c.args.file.now.bytes.now c.args.file.now.sections c.args.m) c.args.name u)
+kept : (c : In-loop-u)
+    → (let u = unknown_in c.args.file.now.bytes.now c.args.file.now.sections c.loop-u.u in kept_named c.args.numbers.now c.args.name u ≡ of_named (roster_in c.args.file.now.bytes.now c.args.file.now.sections c.args.m) c.args.name u)
 kept c = let a = c.args in
     let p = c.requires.0 in
     named_kept (roster_in a.file.now.bytes.now a.file.now.sections a.m) a.numbers.now a.name _ p.numbered (λ j h. omega (arith, unknown_deps_below a.file.now.bytes.now a.file.now.sections p.opened _ (within c) j h, p.opened.laid.within.names))
@@ -33,19 +33,20 @@ kept c = let a = c.args in
 pub put_named_deps-total-requires : goal.put_named_deps-total-requires
 unfolding kept_deps of_named
 put_named_deps-total-requires c = let p = c.requires in
-    let v = (goal.at.put_named_deps-total-requires c).In-loop-i in
+    let v = (goal.at.put_named_deps-total-requires c).In-loop-u in
     let l = listed v in
-    (within v, p.0.long, rw (kept v) (runs_room _ _ _ _ p.1 _ _ _ c.loop-i.invariant no_unknown _ l.0 l.1))
+    (within v, p.0.long, rw (kept v) (runs_room _ _ _ _ p.1 _ _ _ c.loop-u.invariant.2 no_unknown _ l.0 l.1))
 
-pub loop-i-preserved : goal.loop-i-preserved
+pub loop-u-preserved : goal.loop-u-preserved
 unfolding kept_deps of_named
-loop-i-preserved c = let v = (goal.at.loop-i-preserved c).In-loop-i in
+loop-u-preserved c = let v = (goal.at.loop-u-preserved c).In-loop-u in
     let l = listed v in
     let put = c.put_named_deps-total.ensures in
-    runs_next _ _ _ _ c.requires.1 _ _ _ c.loop-i.invariant no_unknown _ _ _ l.0 l.1 (rw (kept v) at put.0) (rw (kept v) at put.1)
+    let inv = c.loop-u.invariant in
+    (inv.0 + 1, omega (arith, inv.1), runs_next _ _ _ _ c.requires.1 _ _ _ inv.2 no_unknown _ _ _ l.0 l.1 (rw (kept v) at put.0) (rw (kept v) at put.1))
 
 pub returns : goal.returns
 unfolding kept_deps of_named
 returns c = let a = c.args in
     let p = c.requires in
-    runs_last _ _ _ _ p.1 _ _ _ c.loop-i.invariant (omega (arith, run_count a.file.now.bytes.now a.file.now.sections p.0.opened a.m p.0.model _ _ c.model-first.ensures.0 c.model-count.ensures.0))
+    runs_last _ _ _ _ p.1 _ _ _ c.loop-u.invariant.2 (omega (arith, c.loop-u-test.false, c.loop-u.invariant.1, run_count a.file.now.bytes.now a.file.now.sections p.0.opened a.m p.0.model _ _ c.model-first.ensures.0 c.model-count.ensures.0))
