@@ -3,3 +3,4 @@ pub mod SectionsKept
 pub mod Parts
 pub mod VarsWritten
 pub mod Listings
+pub mod HandedOut

@@ -1,5 +1,5 @@
 -- Errors listed in an area: all are counted, the first 256 are listed, four words each.
-use Rattle.std.specs.Prelude.{◌≡◌, Option, None, Some, cond, List, [], ◌∷◌, ℕ, ◌+◌, ◌*◌, ◌^◌, ◌<◌, ltb, length}
+use Rattle.std.specs.Prelude.{◌≡◌, Option, None, Some, cond, List, [], ◌∷◌, ℕ, ◌+◌, ◌*◌, ltb, length}
 use Rattle.ast.specs.Tree.{Span}
 use Rattle.ast.specs.Words.{bytes_of}
 use Rattle.ast.specs.Bytes.{put}
@@ -11,7 +11,6 @@ use Rattle.definitions.specs.Answer.{error_words}
 use Rattle.area.specs.declared.errors.ErrorKind.{ErrorKind}
 use Rattle.area.specs.declared.errors.ErrorKind.TheVariants.{UnknownDomain, ReservedName, SubmodelMissing, PositionalAfterKeyword, NameNotFound, CountAgainstTable, KeywordInBuiltIn, CountAgainstVariable, NoSuchDependent, PositionalAfterNamed, CallNotFound, WrongStart, RateInvalid, Underdetermined, Overdetermined, NoInitialCondition, AlgebraicInitialCondition}
 use Rattle.area.specs.declared.errors.Found.{Found}
-use Rattle.area.specs.declared.errors.Errors.{Errors}
 
 abbrev pub spanned : ℕ → ℕ → Span
 spanned a b = record { from = a; to = b }
@@ -32,14 +31,6 @@ listed d n (e ∷ es) = listed (put_error d n e) (n + 1) es
 -- From n errors in the area d, the errors es lead to r errors in the area d'.
 abbrev pub Lists : List ℕ → ℕ → List definitions.Error → ℕ → List ℕ → Type 0
 Lists d n es r d' = (r ≡ n + length es) × (d' ≡ listed d n es)
-
--- From the list e, the errors es lead to the list e'.
-abbrev pub Listed : Errors → List definitions.Error → Errors → Type 0
-Listed e es e' = Lists e.bytes e.count es e'.count e'.bytes
-
--- The errors es behind those of the list e can be counted.
-abbrev pub RoomFor : Errors → List definitions.Error → Type 0
-RoomFor e es = e.count + length es < 2 ^ 40
 
 -- a kind's number
 abbrev pub kind_number : ErrorKind → ℕ

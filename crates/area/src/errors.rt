@@ -1,4 +1,9 @@
 // What is found wrong, and the list of it.
+ghost use Rattle.std.specs.Prelude.{◌≡◌, [], ◌∷◌, ◌*◌, ◌^◌, min, ◌≤◌, ◌<◌, length};
+ghost use Rattle.definitions.specs.Numbers.{most_listed, error_length};
+ghost use Rattle.definitions.specs.Variables.{error};
+ghost use Rattle.area.specs.Listing.{spanned, list_length, Lists};
+
 use super::layout::{ERROR_BYTES, ERRORS_BYTES, MOST_LISTED};
 use ast::words::put_record;
 
@@ -43,29 +48,59 @@ pub struct Found {
     pub name: u32,
 }
 
-// The list of errors, apart from the area until it is whole: all are counted, the first 256 are listed, four words
-// each: kind, span, name plus 1 or 0.
-// As bytes, since they go into the area by one copy; the count goes on beyond those that are listed.
-#[derive(Drop)]
-pub struct Errors {
-    pub bytes: [u8; ERRORS_BYTES],
-    pub count: usize,
+// The bytes of a list without errors, at its most.
+pub fn no_errors() -> [u8; ERRORS_BYTES]
+    ensures { length result ≡ list_length }
+{
+    [0u8; ERRORS_BYTES]
 }
 
-impl Errors {
-    ghost use Rattle.std.specs.Prelude.{◌≡◌, [], ◌∷◌, ◌*◌, ◌^◌, min, ◌≤◌, ◌<◌, length};
-    ghost use Rattle.definitions.specs.Numbers.{most_listed, error_length};
-    ghost use Rattle.area.specs.Listing.{list_length, Listed, error_as, found_as};
+// Lists an error, its kind by any number, behind `count` of them, and gives their new number.
+pub fn put_error(out: &mut [u8], count: usize, kind: u32, from: u32, to: u32, name: u32) -> usize
+    requires { (list_length ≤ length out.old)
+        × (count < 2 ^ 40) }
+    ensures { Lists out.old count (error kind (spanned from to) name ∷ []) result out.new }
+{
+    let counted = count + 1;
+    if count >= MOST_LISTED {
+        return counted;
+    }
+    put_record(&mut out[ERROR_BYTES * count..], &[kind, from, to, name]);
+    counted
+}
 
-    // None.
-    pub fn new() -> Errors
+// The bytes of those among `count` errors that are listed.
+// A length and no slice: the answer's end is reckoned by it too.
+pub fn errors_length(count: usize) -> usize
+    ensures { (result ≡ 4 * error_length * min count most_listed)
+        × (result ≤ list_length) }
+{
+    ERROR_BYTES * count.min(MOST_LISTED)
+}
+
+// The list of errors, apart from the area until it is whole: all are counted, the first 256 are listed, four words
+// each: kind, span, name plus 1 or 0.
+// As bytes, since they go into the area by one copy, and lent, so that whoever asks for the list says where it stands;
+// the count goes on beyond those that are listed.
+#[derive(Drop)]
+pub struct Errors<'a> {
+    pub bytes: &'a mut [u8],
+    pub count: usize,
+    pub ghost long: { list_length ≤ length bytes.now },
+}
+
+impl<'a> Errors<'a> {
+    ghost use Rattle.area.specs.Listing.{error_as, found_as};
+    ghost use Rattle.area.specs.LentList.{Listed};
+
+    // None, in lent bytes.
+    pub fn new(bytes: &'a mut [u8]) -> Errors<'a>
+        requires { list_length ≤ length bytes.old }
         ensures { (result.count ≡ 0)
-            × (length result.bytes ≡ list_length) }
+            × (result.bytes.now ≡ bytes.old)
+            × (result.bytes.ghost_name ≡ bytes.entry.ghost_name) }
     {
-        Errors {
-            bytes: [0u8; ERRORS_BYTES],
-            count: 0,
-        }
+        Errors { bytes, count: 0 }
     }
 
     // Lists an error behind the others.
@@ -73,14 +108,7 @@ impl Errors {
         requires { self.old.count < 2 ^ 40 }
         ensures { Listed self.old (error_as e ∷ []) self.new }
     {
-        let before = self.count;
-        self.count += 1;
-        if before >= MOST_LISTED {
-            return;
-        }
-        let bytes: &mut [u8] = &mut self.bytes;
-        let at = ERROR_BYTES * before;
-        put_record(&mut bytes[at..], &[e.kind as u32, e.from, e.to, e.name]);
+        self.count = put_error(self.bytes, self.count, e.kind as u32, e.from, e.to, e.name);
     }
 
     // Lists what is found behind the others. Both arms stand here, as the definition has them (`found_as`).
@@ -95,11 +123,10 @@ impl Errors {
     }
 
     // How many bytes those take that are listed.
-    // A length and no slice: the answer's end is reckoned by it too.
     pub fn length(&self) -> usize
         ensures { (result ≡ 4 * error_length * min self.now.count most_listed)
             × (result ≤ list_length) }
     {
-        ERROR_BYTES * self.count.min(MOST_LISTED)
+        errors_length(self.count)
     }
 }

@@ -115,23 +115,44 @@ impl TryFrom<u32> for Fate {
     }
 }
 
-// Words and their bytes: a bound is a float of two words.
+// Words and their bytes: a word is below WORD, and a bound is a float of two words.
+pub const WORD: usize = 4294967296;
+
 pub const WORD_BYTES: usize = 4;
 
 pub const FLOAT_BYTES: usize = 8;
 
-// Bytes within the header: the counts of nodes, statements and errors, and time's bounds.
+// Bytes within the header: the counts, and time's bounds.
 pub const NODES_AT: usize = 4 * HEADER_NODES;
 
 pub const STMTS_AT: usize = 4 * HEADER_STMTS;
 
+pub const VARS_AT: usize = 4 * HEADER_VARS;
+
+pub const DEPS_AT: usize = 4 * HEADER_DEPS;
+
 pub const ERRORS_AT: usize = 4 * HEADER_ERRORS;
+
+pub const INSTANCES_AT: usize = 4 * HEADER_INSTANCES;
 
 pub const TIME_AT: usize = 24;
 
-// Bytes within a record: the fate and its variable in a statement's, the bounds in a variable's.
+// Bytes within a record: the fate and its variable in a statement's, the bounds in a variable's, the span and the name
+// in an error's.
 pub const FATE_AT: usize = 4 * STMT_FATE;
 
 pub const VARIABLE_AT: usize = 4 * STMT_VARIABLE;
 
 pub const BOUNDS_AT: usize = 32;
+
+pub const ERROR_FROM_AT: usize = 4 * ERROR_FROM;
+
+pub const ERROR_TO_AT: usize = 4 * ERROR_TO;
+
+pub const ERROR_NAME_AT: usize = 4 * ERROR_NAME;
+
+// The refusal of an area that is shorter than the answer.
+pub const SHORT_AREA: u32 = 1;
+
+// The weight of the bytes used in what a build tells: they stand in the high 32 bits.
+pub const HIGH: u64 = 4294967296;

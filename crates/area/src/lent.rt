@@ -6,7 +6,7 @@ ghost use Rattle.definitions.specs.Numbers.{most_listed, error_length};
 ghost use Rattle.area.specs.Sections.{Small, errors_at};
 ghost use Rattle.area.specs.Listing.{list_length};
 
-use super::errors::Errors;
+use super::errors::errors_length;
 use super::sections::{Sizes, errors_at};
 
 // Zeros from a place to the end; nothing where the place is beyond it.
@@ -30,13 +30,14 @@ pub fn copy(own: &[u8], n: usize, area: &mut [u8])
     area[..n].copy_from_slice(&own[..n]);
 }
 
-// Copies the errors that are listed to their section.
-pub fn put_errors(area: &mut [u8], z: Sizes, errors: &Errors)
+// Copies the errors that are listed, of `count` in all, to their section.
+pub fn put_errors(area: &mut [u8], z: Sizes, errors: &[u8], count: usize)
     requires { Small z
-        × (errors_at z + list_length ≤ length area.old) }
+        × (errors_at z + list_length ≤ length area.old)
+        × (list_length ≤ length errors.now) }
     ensures { area.new ≡ put area.old (errors_at z)
-        (take (4 * error_length * min errors.now.count most_listed) errors.now.bytes) }
+        (take (4 * error_length * min count most_listed) errors.now) }
 {
     let at = errors_at(z);
-    copy(&errors.bytes, errors.length(), &mut area[at..]);
+    copy(errors, errors_length(count), &mut area[at..]);
 }

@@ -11,6 +11,7 @@ use Rattle.definitions.specs.Numbers.{most_names, stmt_length, call_kind, equati
 use Rattle.definitions.specs.Variables.{Error, error, Bounds, at, time_index}
 use Rattle.definitions.specs.Check.{Scope, lookup}
 use Rattle.definitions.specs.Roles.{Start, arg_at, number_in, Role, starts, rates, free, takes_rate}
+use Rattle.definitions.specs.Allocate.{is_rate_of, is_free}
 use Rattle.area.specs.Fields.{stmt_kind, stmt_name, stmt_left, stmt_right, stmt_span, var_name, var_state, var_time_index, var_timed}
 use Rattle.area.specs.Sections.{Small, nodes_end, stmts_at, deps_at, area_nodes, area_stmts, area_stmt, area_vars, column}
 use Rattle.area.specs.declared.sections.Sizes.{Sizes}
@@ -120,6 +121,18 @@ unfoldable pub role_as : code.Role → Role
 role_as Neither = free
 role_as (Initial v) = starts v
 role_as (Rate v) = rates v
+
+-- Whether a role is an initial condition of v,
+unfoldable pub is_start_of : ℕ → Role → Bool
+is_start_of v (starts u) = eqb v u
+is_start_of v (rates u) = false
+is_start_of v free = false
+
+-- and whether two are the same.
+unfoldable pub is_role : Role → Role → Bool
+is_role (starts v) other = is_start_of v other
+is_role (rates v) other = is_rate_of v other
+is_role free other = is_free other
 
 unfoldable pub start_role_by : Float → Option Start → Role
 start_role_by lower none = free

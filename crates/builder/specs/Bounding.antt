@@ -1,5 +1,5 @@
 -- Bounds in floats, as the code works them out by an unknown's domain, and in bits; and the unknown that declares a name last.
-use Rattle.std.specs.Prelude.{ℕ, ◌^◌, ◌<◌, ◌≡◌, Bool, false, cond, List, [], get_or, Float, Option, None, Some, IfSome}
+use Rattle.std.specs.Prelude.{ℕ, ◌^◌, ◌<◌, ◌≡◌, Bool, false, cond, eqb, List, [], get_or, Float, Option, None, Some, IfSome}
 use Rattle.std.specs.Float.{binary64}
 use Rattle.std.specs.Float.Ieee.{is_nan, to_bits}
 use Rattle.ast.specs.Words.{float_from}
@@ -14,7 +14,7 @@ use Rattle.definitions.specs.Variables.{Bounds, from_zero, unbounded, domain_bou
 use Rattle.definitions.specs.Flatten.{model_at}
 use Rattle.builder.specs.declared.names.Class.{Class}
 use Rattle.builder.specs.declared.names.Class.TheVariants.{Time}
-use Rattle.builder.specs.Tables.{non_negative_class}
+use Rattle.builder.specs.Tables.{class_number, non_negative}
 
 -- from 0 to infinity, or unbounded
 unfoldable pub bounds_from : Bool → Bounds
@@ -34,7 +34,7 @@ pub record Floating (b : Bounds) (x : declared.Bounds) : Type 0 where
 unfoldable pub case_bounds : Domain → Bool → List Class → declared.Bounds
 case_bounds domain.None time classes = floats (bounds_from time)
 case_bounds (domain.Span l u) time classes = record { lower = l; upper = u }
-case_bounds (domain.Named n) time classes = floats (bounds_from (non_negative_class (get_or classes n Time)))
+case_bounds (domain.Named n) time classes = floats (bounds_from (eqb (class_number (get_or classes n Time)) non_negative))
 
 -- a domain's name is one of k
 unfoldable pub NamedBelow : ℕ → Domain → Type 0

@@ -21,14 +21,14 @@ module _ (c : Checked) where
   nodes_checked = nodes_seen c.nodes
 
   abbrev pub scope_checked : Scope
-  scope_checked = scope_seen c.tables.now.source.now.file c.model
+  scope_checked = scope_seen c.tables.now.names.file c.model
 
   -- Node i of them is an expression; a call; a run of arguments stands among them.
   abbrev pub ExprOf : ℕ → Type 0
-  ExprOf i = ExprIn c.tables.now.source.now.file.sections.counts.names c.nodes.bytes.now c.nodes.nodes i
+  ExprOf i = ExprIn c.tables.now.names.file.sections.counts.names c.nodes.bytes.now c.nodes.nodes i
 
   abbrev pub CallOf : ℕ → Type 0
-  CallOf i = CallIn c.tables.now.source.now.file.sections.counts.names c.nodes.bytes.now c.nodes.nodes i
+  CallOf i = CallIn c.tables.now.names.file.sections.counts.names c.nodes.bytes.now c.nodes.nodes i
 
   abbrev pub ArgsOf : Run → Type 0
-  ArgsOf r = ArgsIn c.tables.now.source.now.file.sections.counts.names c.nodes.bytes.now c.nodes.nodes r
+  ArgsOf r = ArgsIn c.tables.now.names.file.sections.counts.names c.nodes.bytes.now c.nodes.nodes r

@@ -1,7 +1,7 @@
 -- The tables that the code works out of an open file, by number, and what each entry says.
-use Rattle.std.specs.Prelude.{ℕ, zero, suc, ◌+◌, ◌*◌, ◌<◌, ◌≡◌, Bool, true, false, cond, not, ◌&&◌, eqb, List, [], ◌∷◌, ◌++◌, length, get_or}
+use Rattle.std.specs.Prelude.{ℕ, zero, suc, ◌+◌, ◌*◌, ◌<◌, ◌≡◌, Bool, cond, not, ◌&&◌, eqb, List, [], ◌∷◌, ◌++◌, length, get_or}
 use Rattle.std.proofs.Math.Option.{Option, none, some}
-use Rattle.functions.specs.Lists.{text, same_text, one_of, any, plus_one, reaches, flag, member, sum_of}
+use Rattle.functions.specs.Lists.{text, same_text, any, plus_one, reaches, flag, member, sum_of}
 use Rattle.functions.specs.declared.Rule.{Rule}
 use Rattle.functions.specs.Rules.{rule_of}
 use Rattle.ast.specs.Tree.{Stmt, own, submodel, File}
@@ -9,40 +9,68 @@ use Rattle.ast.specs.Records.{stmt_of}
 use Rattle.ast.specs.Opens.{contents_in, file_in}
 use Rattle.ast.specs.declared.sections.Sections.{Sections}
 use Rattle.definitions.specs.Numbers.{most_names, most_models}
-use Rattle.definitions.specs.Names.{text_of, reserved, built_ins}
+use Rattle.definitions.specs.Names.{text_of}
 use Rattle.definitions.specs.Variables.{at}
 use Rattle.definitions.specs.Check.{Scope, lookup}
 use Rattle.definitions.specs.Flatten.{model_named, submodels}
 use Rattle.definitions.specs.Roles.{Role}
 use Rattle.definitions.specs.Allocate.{is_rate_of}
 use Rattle.builder.specs.declared.names.Class.{Class}
-use Rattle.builder.specs.declared.names.Class.TheVariants.{Time, Reserved, NonNegative, Real, BuiltIn, Other}
+use Rattle.builder.specs.declared.names.Class.TheVariants as classes
 
--- ---- classes of names
+-- ---- classes of names: the place of a text among those that decide something, or 18
 
--- The class of a name's text: t's is its own, ahead of the other reserved names.
-unfoldable pub class_of : List ℕ → Class
-class_of x =
-    cond (same_text x (text "t")) Time
-    (cond (one_of x reserved) Reserved
-    (cond (same_text x (text "NonNegative")) NonNegative
-    (cond (same_text x (text "R")) Real
-    (cond (one_of x built_ins) BuiltIn Other))))
+unfoldable pub deciding : List (List ℕ)
+deciding = text "t" ∷ text "u" ∷ text "dudt" ∷ text "F" ∷ text "G" ∷ text "input" ∷ text "NonNegative" ∷ text "R" ∷ text "sin" ∷ text "cos" ∷ text "tan" ∷ text "pow" ∷ text "exp" ∷ text "log" ∷ text "sqrt" ∷ text "abs" ∷ text "interp1d" ∷ text "piecewise" ∷ []
 
--- whether names of a class are reserved
-unfoldable pub reserved_class : Class → Bool
-reserved_class Time = true
-reserved_class Reserved = true
-reserved_class c = false
+unfoldable pub class_from : ℕ → List (List ℕ) → List ℕ → ℕ
+class_from i [] x = i
+class_from i (y ∷ ys) x = cond (same_text x y) i (class_from (i + 1) ys x)
 
--- whether it is the class of the domain that begins at 0
-unfoldable pub non_negative_class : Class → Bool
-non_negative_class NonNegative = true
-non_negative_class c = false
+unfoldable pub class_of : List ℕ → ℕ
+class_of x = class_from 0 deciding x
+
+-- of t, the last reserved name, NonNegative, the first built-in function, and every text that decides nothing
+abbrev pub time_class : ℕ
+time_class = 0
+
+abbrev pub last_reserved : ℕ
+last_reserved = 5
+
+abbrev pub non_negative : ℕ
+non_negative = 6
+
+abbrev pub first_built_in : ℕ
+first_built_in = 8
+
+abbrev pub other_class : ℕ
+other_class = 18
+
+-- the number of each class
+abbrev pub class_number : Class → ℕ
+class_number classes.Time = time_class
+class_number classes.U = 1
+class_number classes.Dudt = 2
+class_number classes.F = 3
+class_number classes.G = 4
+class_number classes.Input = last_reserved
+class_number classes.NonNegative = non_negative
+class_number classes.Real = 7
+class_number classes.Sin = first_built_in
+class_number classes.Cos = 9
+class_number classes.Tan = 10
+class_number classes.Pow = 11
+class_number classes.Exp = 12
+class_number classes.Log = 13
+class_number classes.Sqrt = 14
+class_number classes.Abs = 15
+class_number classes.Interp1d = 16
+class_number classes.Piecewise = 17
+class_number classes.Other = other_class
 
 -- the class of each name
 pub record Classes (names : List (List ℕ)) (table : List Class) : Type 0 where
-  pub class : (n : ℕ) (d : Class) → n < length names → get_or table n d ≡ class_of (text_of names n)
+  pub class : (n : ℕ) (d : Class) → n < length names → class_number (get_or table n d) ≡ class_of (text_of names n)
 
 -- A table of n entries that are all 0.
 pub record Blank (n : ℕ) (table : List ℕ) : Type 0 where

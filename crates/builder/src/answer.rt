@@ -20,7 +20,7 @@ use crate::source::Source;
 use crate::variables::bounds::time_bounds;
 use crate::variables::laid::lay_vars;
 use crate::variables::records::write_header;
-use area::errors::Errors;
+use area::errors::{errors_length, no_errors};
 use area::layout::VAR_NAME;
 use area::lent::put_errors;
 use area::records::Area;
@@ -39,12 +39,12 @@ fn finish(source: &Source, area: &mut [u8], numbers: &[u16], root: Root, left: L
         × (result ≤ most_bytes) }
 {
     let sizes = root.sizes;
-    let mut errors = Errors::new();
+    let mut errors = no_errors();
     let read = Area { bytes: area, sizes };
-    all_errors(source, &read, numbers, root, left, &mut errors);
-    put_errors(area, sizes, &errors);
-    write_header(&source.file, root, area, errors.count);
-    errors_at(sizes) + errors.length()
+    let count = all_errors(source, &read, numbers, root, left, &mut errors);
+    put_errors(area, sizes, &errors, count);
+    write_header(&source.file, root, area, count);
+    errors_at(sizes) + errors_length(count)
 }
 
 // Writes fates, what each variable holds, errors and header, and gives the bytes used.
@@ -101,11 +101,12 @@ pub fn fill(
         × (used_in result ≤ most_bytes) }
 {
     let mut numbers = no_marks();
-    lay_flats(source, rows, m, area, extent.nodes);
-    let sizes = lay_vars(source, m, area, extent.nodes, extent.stmts, &mut numbers);
+    lay_flats(&source.calls(), rows, m, area, extent.nodes);
+    let names = source.names();
+    let sizes = lay_vars(&names, m, area, extent.nodes, extent.stmts, &mut numbers);
     let read = Area { bytes: area, sizes };
     let name = read.var(0, VAR_NAME) as usize;
-    let time = time_bounds(source, m, name);
+    let time = time_bounds(&names, m, name);
     let root = Root {
         model: m,
         instances: extent.instances,

@@ -1,6 +1,7 @@
 // Why a model is not built, and why a build gives no answer.
 ghost use Rattle.std.specs.Prelude.{◌≡◌};
 
+use area::layout::SHORT_AREA;
 use ast::open;
 
 // The refusals by the number that the caller is told.
@@ -24,9 +25,6 @@ impl Refusal {
         self as u32
     }
 }
-
-// The refusal of an area that is shorter than the answer.
-const SHORT_AREA: u32 = 1;
 
 // Why a build gives no answer: the area is shorter than it, the file is refused, or the model.
 #[derive(Clone, Copy, Debug, PartialEq, Eq)]

@@ -5,8 +5,7 @@ ghost use Rattle.std.specs.Prelude.{◌≡◌, length};
 ghost use Rattle.definitions.specs.Build as definition;
 ghost use Rattle.definitions.specs.Build.{told, result_area};
 
-// The weight of the bytes used, which stand in the high 32 bits.
-const HIGH: u64 = 4294967296;
+use area::layout::HIGH;
 
 // The number in the low 32 bits, 0 or a refusal's, and the bytes used in the high ones.
 #[unsafe(no_mangle)]

@@ -8,6 +8,10 @@ use Rattle.std.specs.Str.Pattern.{FindsText}
 abbrev pub IsCut : List ℕ → List ℕ → List ℕ → Type 0
 IsCut mark text front = (found : Option (ℕ × ℕ)) × FindsText mark text found × (front ≡ option_map_or (λ p. take p.0 text) found text)
 
+-- what is written of what failed and of words
+abbrev pub line_of : List ℕ → List ℕ → List ℕ
+line_of what words = what ++ (codes ": " ++ words)
+
 -- a line: what failed, and an error's text up to the number that stands behind its words
 abbrev pub IsLine : List ℕ → List ℕ → Type 0
-IsLine what line = (text words : List ℕ) × IsCut (codes " (os error ") text words × (line ≡ what ++ (codes ": " ++ words))
+IsLine what line = (text words : List ℕ) × IsCut (codes " (os error ") text words × (line ≡ line_of what words)

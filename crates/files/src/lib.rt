@@ -3,11 +3,12 @@
 
 ghost use Rattle.std.specs.Prelude.{◌≡◌, ◌<◌, ◌≤◌, ◌++◌, IfOk, take, length, string_bytes, codes};
 ghost use Rattle.std.specs.Io.KnownBytes.{Consumes, IsAtEnd};
-ghost use Rattle.files.specs.Said.{IsCut, IsLine};
+ghost use Rattle.files.specs.Said.{IsCut, IsLine, line_of};
 
-use std::alloc::AllocError;
-use std::io;
+use std::alloc::{AllocError, Allocator};
+use std::fmt::{Display, Formatter};
 use std::io::Read;
+use std::{fmt, io};
 
 // Reads until the buffer is full or the file ends, and gives how many bytes it put at the buffer's start.
 // A length and no slice: a short one says that the file ended.
@@ -39,13 +40,38 @@ fn words_of(said: &str) -> &str
     }
 }
 
+// What failed, and the words of its error. It is no text yet: the words alone take memory, and the line is written as it
+// is printed.
+#[derive(Drop)]
+pub struct FailedLine<'a, A: Allocator> {
+    pub what: &'a str,
+    pub words: String<A>,
+}
+
+impl<A: Allocator> Display for FailedLine<'_, A> {
+    ghost use Rattle.std.specs.Prelude.{Some};
+    ghost use Rattle.files.specs.Said.{line_of};
+
+    ghost output = { λ failure. Some (line_of failure.what.now (string_bytes failure.words)) };
+
+    fn fmt<W: fmt::Write>(&self, f: &mut Formatter<W>) -> fmt::Result {
+        let (what, words) = (self.what, &self.words);
+        write!(f, "{what}: {words}")
+    }
+}
+
 // The line that says what failed, and why.
-pub fn failure<R: Alloc>(rt: &R, what: &str, error: io::Error) -> Result<String<R::A>, AllocError>
-    ensures { IfOk result (λ line. IsLine what.now (string_bytes line)) }
+pub fn failure<'a, R: Alloc>(
+    rt: &R,
+    what: &'a str,
+    error: io::Error,
+) -> Result<FailedLine<'a, R::A>, AllocError>
+    ensures { IfOk result (λ line. IsLine what.now (line_of line.what.now (string_bytes line.words))) }
 {
-    let said = format!(in rt.alloc(); "{error}")?;
-    let words = words_of(said.as_str());
-    format!(in rt.alloc(); "{what}: {words}")
+    let mut words = format!(in rt.alloc(); "{error}")?;
+    let end = words_of(words.as_str()).len();
+    words.truncate(end);
+    Ok(FailedLine { what, words })
 }
 
 #[cfg(test)]
@@ -63,7 +89,8 @@ mod tests {
             (of_the_system, "a.tree: No such file or directory"),
             (of_our_own, "a.tree: not UTF-8 text"),
         ] {
-            let line = failure(&rt, "a.tree", error)?;
+            let failure = failure(&rt, "a.tree", error)?;
+            let line = format!(in rt.alloc(); "{failure}")?;
             if line.as_str() != said {
                 return Err(Fail::new(line));
             }

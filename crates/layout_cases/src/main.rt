@@ -7,6 +7,12 @@ use ast::open::{Refusal, open};
 use cases::{judge, next_head, next_part};
 use std::io;
 
+// More cases than any list has: what stands behind so many is not read.
+const MOST_CASES: u64 = 100000;
+
+// What is compared with the recorded verdict of a file that has none: no opening answers it.
+const NO_VERDICT: u32 = 1;
+
 // What opening a file answers: the refusal's number, or 0.
 // By number, as verdicts are recorded: read as a refusal, a word that is none's would pass for an opened file.
 fn number(refusal: Option<Refusal>) -> u32 {
@@ -37,14 +43,16 @@ impl Verdicts {
     }
 }
 
-// A file that is not all there or longer than the buffer has no verdict, and is wrong.
+// A file that is not all there or longer than the buffer has no verdict.
 fn main(rt: HostRuntime) -> io::Result<()> {
     let mut found = Verdicts::default();
+    let mut left = MOST_CASES;
     let tally = judge(&mut rt.stdin(), |input| {
+        left = left.checked_sub(1)?;
         let [length, _, recorded, _]: [u32; 4] = next_head(input)?;
         let mut buffer = [0; 65536];
         let Some(file) = next_part(input, length, &mut buffer) else {
-            return Some(false);
+            return Some(NO_VERDICT == recorded);
         };
         let refusal = open(file).err();
         found.count(refusal);

@@ -12,7 +12,7 @@ use Rattle.std.proofs.lemmas.List.{length-map, get_or-map, drop_all}
 use Rattle.std.proofs.lemmas.List.Edits.{map_over_more}
 use Rattle.positions.specs.declared.Place.{Place}
 use Rattle.positions.specs.Positions.{place_of}
-use Rattle.positions.specs.Pieces.{starts, placed, Taken, Standing, OfText}
+use Rattle.positions.specs.Pieces.{EndOf, starts, placed, Taken, Standing, OfText}
 
 -- an entry with the place of its start in the text t
 abbrev pub seen : List ℕ → Entry → Entry
@@ -73,3 +73,5 @@ pub texts : {e : End} {ss : List ℕ} {es : List Entry} → Standing e ss es →
 texts s = record { text = s.text; placed = s.placed }
 
 -- The end of no text and its table.
+pub stands_first : {ss : List ℕ} {es : List Entry} (e : End) → EndOf e [] → es ≡ placed [] ss → Standing e ss es
+stands_first e g p = record { text = []; is_end = g; placed = p }

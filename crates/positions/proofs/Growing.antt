@@ -2,14 +2,15 @@
 use mathlib.Core.Path.{◌≡◌, refl, sym, ap, ap₂, ◌∙◌}
 use mathlib.Core.Bool.{Bool, true, false}
 use mathlib.Core.Logic.{◌≢◌}
-use mathlib.Core.List.{List, [], ◌∷◌, ◌++◌, append_assoc}
+use mathlib.Core.List.{List, [], ◌∷◌, ◌++◌, append_assoc, append-nil}
 use Rattle.std.specs.Prelude.{Option, None, Some}
 use Prim.Native.Nat.{ℕ, suc, ◌+◌, ◌≤◌, ◌<◌}
 use native.Mathlib.Omega.{arith}
+use native.Mathlib.Numerals.{add-one}
 use borrow.Author.Tests.{le-leb, lt-leb, eq-eqb, ne_eqb}
 use lib.Dec.{eqb}
-use lib.ListN.{length, take, drop, length-append, length-take, take-append-drop}
-use lib.Seq.{take-append-le, take-length, take_all}
+use lib.ListN.{length, take, drop, get_or, length-append, length-take, take-append-drop}
+use lib.Seq.{take-append-le, take-length, take_all, take-suc}
 use Rattle.functions.specs.Lists.{times, flag}
 use Rattle.positions.specs.declared.End.{End}
 use Rattle.positions.specs.declared.Place.{Place}
@@ -136,6 +137,27 @@ module _ (e : End) (b : ℕ) (r : End) (size : r.size ≡ e.size + 1) where
               column = rw l (omega (arith, g.column, column_other t b n));
             };
       }
+
+-- ---- the end, several bytes on
+
+pub passed_none : (e : End) → Passed e [] e
+passed_none e = record { size = omega arith; is_end = λ t g. rw append-nil g }
+
+-- One byte more of the list u.
+pub passed_more : (e f r : End) (u : List ℕ) (n : ℕ) → n < length u → Passed e (take n u) f → Passed f (get_or u n 0 ∷ []) r → Passed e (take (n + 1) u) r
+passed_more e f r u n h x y =
+    let b = get_or u n 0 ∷ [] in
+    let w : take (n + 1) u ≡ take n u ++ b = rw add-one (take-suc u n 0 h) in
+    record {
+      size = omega (arith, x.size, y.size, ap length w, length-append (take n u) b);
+      is_end = λ t g.
+          let z : (t ++ take n u) ++ b ≡ t ++ take (n + 1) u = append_assoc t (take n u) b ∙ ap (λ (z : List ℕ). t ++ z) (sym w) in
+          rw z at (y.is_end (t ++ take n u) (x.is_end t g));
+    }
+
+-- The first bytes of a list, as many as it has, are the list.
+pub passed_all : (e r : End) (u : List ℕ) → Passed e (take (length u) u) r → Passed e u r
+passed_all e r u h = rw (take-length u) at h
 
 -- ---- a start and a piece
 

@@ -26,6 +26,10 @@ Found e b start old r = (t : List ℕ) → EndOf e t → old ≡ place_of t star
 abbrev pub starts : List Entry → List ℕ
 starts es = map (λ x. x.start) es
 
+-- their places
+abbrev pub places : List Entry → List (Option Place)
+places es = map (λ x. x.place) es
+
 -- The table of the text t: its starts, each with its place in the text.
 unfoldable pub placed : List ℕ → List ℕ → List Entry
 placed t ss = map (λ s. record { start = s; place = place_of t s }) ss

@@ -7,14 +7,15 @@ use std::{fs, io};
 
 // What failed, and why.
 #[derive(Clone, Copy)]
-pub struct Failed<'a> {
-    pub what: &'a str,
-    pub why: Error,
+pub enum Failed<'a> {
+    // A tree file is longer than any: it is said without memory being asked for.
+    TooLong(&'a str),
+    By(&'a str, Error),
 }
 
 impl Failed<'_> {
     pub fn new(what: &str, why: Error) -> Failed<'_> {
-        Failed { what, why }
+        Failed::By(what, why)
     }
 }
 
@@ -25,11 +26,15 @@ pub fn name(path: &[u8]) -> Result<&str, Failed<'_>> {
 }
 
 // Reads a tree file into a buffer that is longer than any.
-pub fn read_tree<'a, R: Files>(rt: &R, path: &str, buffer: &'a mut [u8]) -> io::Result<&'a [u8]> {
-    let mut file = fs::open(rt, path)?;
-    let n = read_full(&mut file, buffer)?;
+pub fn read_tree<'a, 'b, R: Files>(
+    rt: &R,
+    path: &'a str,
+    buffer: &'b mut [u8],
+) -> Result<&'b [u8], Failed<'a>> {
+    let mut file = fs::open(rt, path).map_err(|why| Failed::new(path, why))?;
+    let n = read_full(&mut file, buffer).map_err(|why| Failed::new(path, why))?;
     if n == buffer.len() {
-        return Err(Error::new(ErrorKind::FileTooLarge, "longer than any tree file"));
+        return Err(Failed::TooLong(path));
     }
     Ok(&buffer[..n])
 }

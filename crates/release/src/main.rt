@@ -32,13 +32,14 @@ fn release<'a, R: Env + Files>(
     root: &'a mut [u8],
     to: &'a mut [u8],
 ) -> Result<Line, Failed<'a>> {
+    // Both are made first: behind a call they would be set to 0 a second time.
+    let mut buffer = [0; FILE];
+    let mut area = [0; AREA];
     let from = argument(rt, 1, from).map_err(|why| Failed::new("release: TREEFILE", why))?;
     let root = argument(rt, 2, root).map_err(|why| Failed::new("release: ROOT", why))?;
     let to = argument(rt, 3, to).map_err(|why| Failed::new("release: AREAFILE", why))?;
     let from = name(from)?;
-    let mut buffer = [0; FILE];
-    let file = read_tree(rt, from, &mut buffer).map_err(|why| Failed::new(from, why))?;
-    let mut area = [0; AREA];
+    let file = read_tree(rt, from, &mut buffer)?;
     let used = match build(file, root, &mut area) {
         Ok(used) => used,
         Err(refused) => return Ok(Line::Refused(refused)),
@@ -61,6 +62,7 @@ fn main(rt: HostRuntime) -> io::Result<()> {
     let mut to = [0; 4096];
     match release(&rt, &mut from, &mut root, &mut to) {
         Ok(line) => rt.println(line),
-        Err(Failed { what, why }) => rt.eprintln(failure(&rt, what, why)?),
+        Err(Failed::TooLong(path)) => eprintln!(rt; "{path}: longer than any tree file"),
+        Err(Failed::By(what, why)) => rt.eprintln(failure(&rt, what, why)?),
     }
 }

@@ -14,6 +14,9 @@ use std::io::Read;
 // Longer than any answer.
 const LONG: usize = 56000;
 
+// More cases than any list has: what stands behind so many is not read.
+const MOST_CASES: u64 = 100000;
+
 // A file and a root name, and what is recorded of their build: a refusal's number or 0, and these bytes.
 // The number is the case's word as it stands: a Result with a slice in it, in a struct, is more than the borrow check
 // covers.
@@ -70,7 +73,9 @@ fn is_right(input: &mut impl Read, [files, roots, number, used]: [u32; 4]) -> Op
 }
 
 fn main(rt: HostRuntime) -> io::Result<()> {
+    let mut left = MOST_CASES;
     let Tally { cases, wrong } = judge(&mut rt.stdin(), |input| {
+        left = left.checked_sub(1)?;
         let head = next_head(input)?;
         Some(is_right(input, head) == Some(true))
     });

@@ -48,7 +48,7 @@ no_line area text h = rw h refl
 -- ---- what is put at the front of a buffer
 
 -- The bytes that are put there are in it,
-front_counts : (d d' e : List ℕ) (r : ℕ) → r ≡ length e → d' ≡ front d e → IsPrefixLen r d'
+pub front_counts : (d d' e : List ℕ) (r : ℕ) → r ≡ length e → d' ≡ front d e → IsPrefixLen r d'
 unfolding front
 front_counts d d' e r l g = let w : r ≤ length d' = rw g (rw length-append (omega arith)) in (w, sym (length-take-le r d' w))
 
@@ -60,5 +60,5 @@ pub printed : (area : List ℕ) (es es' es'' : List Entry) (s : Sections) → ke
 printed area es es' es'' s keeps is noted x d d' r l g =
     let rs = records_in s.errors area in
     let are : rs ≡ listed_errors plain area = ap (λ (z : Sections). records_in z.errors area) is ∙ errors_are area in
-    let e : tabled_lines es'' rs ≡ each (error_line x.text) rs = unfold front in rw (x.placed, noted) (tabled_are x.text _ rs) in
+    let e : tabled_lines es'' rs ≡ each (error_line x.text) rs = unfold front in rw (x.placed, noted.starts) (tabled_are x.text _ rs) in
     (front_counts d d' (tabled_lines es'' rs) r l g, record { text = x.text; are = rw (l, g) (take_front d (tabled_lines es'' rs)) ∙ e ∙ ap (each (error_line x.text)) are ∙ sym (lines_are area x.text keeps) })

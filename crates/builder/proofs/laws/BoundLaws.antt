@@ -37,7 +37,7 @@ use Rattle.builder.specs.declared.names.Class.TheVariants.{Time}
 use Rattle.builder.specs.Tables.{Classes}
 use Rattle.builder.specs.Bounding.{bounds_from, floats, Floating, case_bounds, NamedBelow, unknown_bounds, declared_bounds, LastDeclared, bound_bits, bounds_bits, NanDeclared}
 use Rattle.builder.proofs.laws.Domains.{domain_formed, coded, says_coded}
-use Rattle.builder.proofs.laws.Classes.{class_from_zero, class_non_negative}
+use Rattle.builder.proofs.laws.Classes.{class_non_negative}
 use Rattle.builder.proofs.laws.Open.{model_record, unknown_record, names_long}
 use Rattle.builder.proofs.laws.OpenRecords.{unknown_is, model_is}
 use Rattle.builder.proofs.laws.Ranges.{downward}
@@ -85,7 +85,7 @@ module _ (texts : List (List ℕ)) (classes : List Class) (t : Classes texts cla
   unfolding case_bounds domain_bounds bounds_from floats
   case_floats unstated h = refl
   case_floats (range l u) h = refl
-  case_floats (named m) h = rw (← class_from_zero (get_or classes m Time), class_non_negative t m h) refl
+  case_floats (named m) h = rw (t.class m Time h, class_non_negative texts m) refl
 
   case_small : (d : Domain) → DomainFormed (length texts) d → ((domain_bounds texts n d).lower < 2 ^ 64) × ((domain_bounds texts n d).upper < 2 ^ 64)
   unfolding domain_bounds bounds_from
@@ -242,7 +242,7 @@ module _ (f : List ℕ) (s : Sections) (o : Open f s) (m : ℕ) (h : m < s.count
   decided_all i e b =
       sym (ap (last_bounds (file_in f s).names name b) (take_all i (model_at (file_in f s) m).unknowns (omega (arith, (model_is f s o m h).unknowns_long))))
 
-  decided_none : DecidedBy 0 → LastDeclared f s m name None
+  pub decided_none : DecidedBy 0 → LastDeclared f s m name None
   unfolding declared_bounds
   decided_none d = record { within = tt; bounds = λ b. d b ∙ last_none (file_in f s).names name b }
 
@@ -264,11 +264,11 @@ module _ (f : List ℕ) (s : Sections) (o : Open f s) (m : ℕ) (h : m < s.count
           ≡ cond (eqb (suc last.name) name) (domain_bounds (file_in f s).names last.name last.domain) (last_bounds (file_in f s).names name b (take n (model_at (file_in f s) m).unknowns))
       decided_here b = d b ∙ ap (last_bounds (file_in f s).names name b) one_more ∙ last_behind (file_in f s).names name b (take n (model_at (file_in f s) m).unknowns) last
 
-      decided_found : eqb (word_of (unknown_record f s (first + n)) 0 + 1) name ≡ true → LastDeclared f s m name (Some (first + n))
+      pub decided_found : eqb (word_of (unknown_record f s (first + n)) 0 + 1) name ≡ true → LastDeclared f s m name (Some (first + n))
       unfolding declared_bounds unknown_bounds last unknown_of
       decided_found t = let z = rw add-one at t in record { within = omega (arith, (model_is f s o m h).unknowns_within); bounds = λ b. decided_here b ∙ rw z refl }
 
-      decided_next : eqb (word_of (unknown_record f s (first + n)) 0 + 1) name ≡ false → DecidedBy n
+      pub decided_next : eqb (word_of (unknown_record f s (first + n)) 0 + 1) name ≡ false → DecidedBy n
       unfolding last unknown_of
       decided_next t b = let z = rw add-one at t in decided_here b ∙ rw z refl
 

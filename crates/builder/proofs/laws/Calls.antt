@@ -1,13 +1,13 @@
 -- The errors of a call and of a name, by what the tables of a scope hold.
 use mathlib.Core.Path.{◌≡◌, refl, sym, ap, ◌∙◌}
-use mathlib.Core.Bool.{Bool, true, false, cond, not}
+use mathlib.Core.Bool.{Bool, true, false, cond, not, ◌&&◌}
 use mathlib.Core.List.{List, [], ◌∷◌, ◌++◌}
 use mathlib.Core.Option.{Option, none, some}
 use Prim.Native.Nat.{ℕ, suc, ◌+◌, ◌≤◌, ◌<◌}
 use native.Mathlib.Omega.{arith}
 use native.Mathlib.Numerals.{add-one}
 use borrow.Author.Tests.{ltb-true, eqb-true, eqb-false, eq-eqb, ne_eqb}
-use lib.Dec.{eqb}
+use lib.Dec.{eqb, leb, ltb}
 use lib.ListN.{length, get_or, length-map}
 use Rattle.functions.specs.Lists.{unless, is_some}
 use Rattle.functions.specs.Rules.{allows, rule_of, takes}
@@ -29,13 +29,12 @@ use Rattle.definitions.specs.Variables.{error, at}
 use Rattle.definitions.specs.Check.{Scope, lookup, count_fits, keyword_errors, dependent_errors, variable_errors, call_errors, expr_errors}
 use Rattle.definitions.specs.Flatten.{scope_of}
 use Rattle.builder.specs.declared.names.Class.{Class}
-use Rattle.builder.specs.declared.names.Class.TheVariants.{Time, BuiltIn}
-use Rattle.builder.specs.contracts.names.ClassPartialEq.TheImpl.{ghosts}
-use Rattle.builder.specs.Tables.{entry_of}
+use Rattle.builder.specs.declared.names.Class.TheVariants.{Time}
+use Rattle.builder.specs.Tables.{class_number, entry_of}
 use Rattle.builder.specs.declared.errors.check.Run.{Run}
 use Rattle.builder.specs.Checking.{scope_in, args_in, run_of, kept_names, dependents_at, variable_at, call_at, name_absent, ExprIn, CallIn, ArgsIn, Scoped, Against}
 use Rattle.area.proofs.Listings.{Joins}
-use Rattle.builder.proofs.laws.Classes.{class_built_in}
+use Rattle.builder.proofs.laws.Classes.{entry_built_in}
 use Rattle.builder.proofs.laws.Checks.{node_here}
 
 -- ---- entries of tables
@@ -161,11 +160,11 @@ module _ {f : List ℕ} {s : Sections} {m : ℕ} {cs : List Class} {rs : List Ru
       let h : name_at nodes' i < length scope'.names = omega (arith, call_name q) in
       rw ex (g.rules.rule _ One h)
 
-  built_in_here : ghosts.eq (get_or cs x Time) BuiltIn ≡ is_built_in scope'.names (name_at nodes' i)
+  built_in_here : (leb 8 (class_number (get_or cs x Time)) && ltb (class_number (get_or cs x Time)) 18) ≡ is_built_in scope'.names (name_at nodes' i)
   built_in_here =
       let l = length_names f s m in
       let h : name_at nodes' i < length scope'.names = omega (arith, call_name q) in
-      rw ex (class_built_in g.classes _ h)
+      rw ex (entry_built_in g.classes _ h)
 
   module _ (t : Bool) (r : Run) (et : t ≡ allows (get_or rs x One) r.args) (er : r ≡ run_of nodes' i) where
     allowed : allows_count scope'.names (name_at nodes' i) (count (args_in nodes' (run_of nodes' i))) ≡ t
@@ -178,7 +177,7 @@ module _ {f : List ℕ} {s : Sections} {m : ℕ} {cs : List Class} {rs : List Ru
     unfolding call_errors
     call_first = record { is = rw (allowed, ex, add-one) refl }
 
-    module _ (y : Bool) (ey : y ≡ ghosts.eq (get_or cs x Time) BuiltIn) where
+    module _ (y : Bool) (ey : y ≡ (leb 8 (class_number (get_or cs x Time)) && ltb (class_number (get_or cs x Time)) 18)) where
       built : is_built_in scope'.names (name_at nodes' i) ≡ y
       built = sym (ey ∙ built_in_here)
 

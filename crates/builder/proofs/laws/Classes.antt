@@ -1,22 +1,50 @@
--- Classes of names: the chain of texts that the code goes over, and what a text's class decides.
+-- Classes of names: the table of texts that the code goes over, and what a text's class decides.
 use mathlib.Core.Path.{◌≡◌, refl, sym, ◌∙◌, ap}
-use mathlib.Core.List.{List, [], ◌∷◌}
-use mathlib.Core.Bool.{Bool, true, false, cond, not, ◌||◌}
-use Prim.Native.Nat.{ℕ, ◌<◌}
+use mathlib.Core.List.{List, [], ◌∷◌, map}
+use mathlib.Core.Bool.{Bool, true, false, cond, ◌&&◌, ◌||◌}
+use Prim.Native.Nat.{ℕ, suc, ◌+◌, ◌<◌}
+use native.Mathlib.Omega.{arith}
+use borrow.Author.Tests.{eqb-true}
+use denote.Ref.{Bor}
+use lib.Dec.{eqb, leb, ltb}
 use lib.ListN.{length, get_or}
 use Rattle.functions.specs.Lists.{text, same_text, one_of, all}
-use Rattle.functions.proofs.Lists.{clash, and_both}
+use Rattle.functions.specs.Tables.{value_among}
+use Rattle.functions.proofs.Lists.{clash, and_both, every}
 use Rattle.functions.proofs.Texts.{same_text_equal, equal_same_text}
 use Rattle.definitions.specs.Names.{text_of, spells, reserved, built_ins, is_time, is_reserved, is_built_in, is_non_negative, is_real}
 use Rattle.builder.specs.declared.names.Class.{Class}
-use Rattle.builder.specs.declared.names.Class.TheVariants.{Time, Reserved, NonNegative, Real, BuiltIn, Other}
+use Rattle.builder.specs.declared.names.Class.TheVariants.{Time, NonNegative, Real}
+use Rattle.builder.specs.declared.names.Class.TheVariants as classes
 use Rattle.builder.specs.contracts.names.ClassPartialEq.TheImpl.{ghosts}
-use Rattle.builder.specs.Tables.{class_of, reserved_class, non_negative_class, Classes}
+use Rattle.builder.specs.Tables.{deciding, class_from, class_of, class_number, Classes}
 
--- a choice between equals
-either : {A : Type 0} (b : Bool) (v : A) → cond b v v ≡ v
-either true v = refl
-either false v = refl
+-- ---- the class by a table of texts
+
+-- the texts of a table of pairs
+abbrev texts : List (Bor (List ℕ) × Class) → List (List ℕ)
+texts ps = map (λ p. p.0.now) ps
+
+-- its classes are numbered from i on, and the class of every other text comes behind the last
+unfoldable pub numbered : Class → ℕ → List (Bor (List ℕ) × Class) → Bool
+numbered o i [] = eqb (class_number o) i
+numbered o i ((y, k) ∷ ps) = eqb (class_number k) i && numbered o (i + 1) ps
+
+-- then the number of a text's class is its place
+pub class_among : (x : List ℕ) (o : Class) (i : ℕ) (ps : List (Bor (List ℕ) × Class)) → numbered o i ps ≡ true → class_number (value_among o ps x) ≡ class_from i (texts ps) x
+unfolding numbered value_among class_from
+class_among x o i [] h = eqb-true _ _ h
+class_among x o i ((y, k) ∷ ps) h = let (a, b) = and_both (eqb (class_number k) i) _ h in go (same_text x y.now) (eqb-true _ _ a) (class_among x o (i + 1) ps b)
+  where
+    go : (d : Bool) → class_number k ≡ i → class_number (value_among o ps x) ≡ class_from (i + 1) (texts ps) x → class_number (cond d k (value_among o ps x)) ≡ cond d i (class_from (i + 1) (texts ps) x)
+    go true e r = e
+    go false e r = r
+
+length_deciding : length deciding ≡ 18
+unfolding deciding
+length_deciding = refl
+
+-- ---- what a class decides
 
 -- comparing goes both ways
 same_text_sym : (x y : List ℕ) → same_text x y ≡ same_text y x
@@ -28,179 +56,189 @@ same_text_sym x y = go (same_text x y) (same_text y x) refl refl
     go false true e g = let q : same_text x y ≡ true = ap (λ (z : List ℕ). same_text x z) (same_text_equal y x g) ∙ equal_same_text x in clash (cc)
     go false false e g = refl
 
-module _ (x : List ℕ) where
-  -- ---- the class by a chain over the texts
+-- a text that is none of some is none of a part of them
+none_of : (x : List ℕ) (ys zs : List (List ℕ)) → all (λ z. one_of z ys) zs ≡ true → one_of x ys ≡ false → one_of x zs ≡ false
+unfolding all one_of
+none_of x ys [] h n = refl
+none_of x ys (z ∷ zs) h n = let (a, b) = and_both (one_of z ys) _ h in go (same_text x z) refl a (none_of x ys zs b n)
+  where
+    go : (d : Bool) → same_text x z ≡ d → one_of z ys ≡ true → one_of x zs ≡ false → same_text x z || one_of x zs ≡ false
+    go true e a r = let q : one_of x ys ≡ true = ap (λ (w : List ℕ). one_of w ys) (same_text_equal x z e) ∙ a in clash (cc)
+    go false e a r = rw e r
 
-  -- c at each of some texts, and o at none of them
-  unfoldable pub along : List (List ℕ) → Class → Class → Class
-  along [] c o = o
-  along (y ∷ ys) c o = cond (same_text x y) c (along ys c o)
+-- both true or both false
+unfoldable pub agree : Bool → Bool → Bool
+agree true b = b
+agree false true = false
+agree false false = true
 
-  along_is : (ys : List (List ℕ)) (c o : Class) → cond (one_of x ys) c o ≡ along ys c o
-  unfolding one_of along
-  along_is [] c o = refl
-  along_is (y ∷ ys) c o = go (same_text x y) (along_is ys c o)
+agree_equal : (a b : Bool) → agree a b ≡ true → a ≡ b
+unfolding agree
+agree_equal true b h = sym h
+agree_equal false true h = clash (cc)
+agree_equal false false h = refl
+
+-- A test of the class is the test whether the text is one of some, where both agree at each text that decides something and these are among them.
+module _ (p : ℕ → Bool) (zs : List (List ℕ)) where
+  abbrev pub agrees : ℕ → List ℕ → Bool
+  agrees k y = agree (p k) (one_of y zs)
+
+  from_law : (x : List ℕ) (ys : List (List ℕ)) (i : ℕ) → every agrees i ys ≡ true → (one_of x ys ≡ false → p (i + length ys) ≡ one_of x zs) → p (class_from i ys x) ≡ one_of x zs
+  unfolding every class_from one_of
+  from_law x [] i h k = let z : i + 0 ≡ i = omega arith in rw z at (k refl)
+  from_law x (y ∷ ys) i h k =
+      let (a, b) = and_both (agrees i y) _ h in
+      let z : i + 1 + length ys ≡ i + suc (length ys) = omega arith in
+      go (same_text x y) refl (agree_equal _ _ a) (λ n. from_law x ys (i + 1) b (λ e. ap p z ∙ k (rw (n, e) refl)))
     where
-      go : (b : Bool) → cond (one_of x ys) c o ≡ along ys c o → cond (b || one_of x ys) c o ≡ cond b c (along ys c o)
-      go true e = refl
-      go false e = e
+      go : (d : Bool) → same_text x y ≡ d → p i ≡ one_of y zs → (same_text x y ≡ false → p (class_from (i + 1) ys x) ≡ one_of x zs) → p (cond (same_text x y) i (class_from (i + 1) ys x)) ≡ one_of x zs
+      go true e a r = rw e (a ∙ ap (λ (w : List ℕ). one_of w zs) (sym (same_text_equal x y e)))
+      go false e a r = rw e (r e)
 
-  -- the reserved names behind t
-  abbrev pub others : List (List ℕ)
-  others = text "u" ∷ text "dudt" ∷ text "F" ∷ text "G" ∷ text "input" ∷ []
-
-  -- behind t they are all that is left of the reserved names
-  behind_time : (o : Class) → cond (same_text x (text "t")) Time (cond (one_of x reserved) Reserved o) ≡ cond (same_text x (text "t")) Time (cond (one_of x others) Reserved o)
-  unfolding one_of reserved
-  behind_time o = go (same_text x (text "t")) refl
-    where
-      go : (d : Bool) → same_text x (text "t") ≡ d → cond d Time (cond (one_of x reserved) Reserved o) ≡ cond d Time (cond (one_of x others) Reserved o)
-      go true e = refl
-      go false e = rw e refl
-
-  -- the class, text after text
-  pub class_along : class_of x ≡ cond (same_text x (text "t")) Time (along others Reserved (cond (same_text x (text "NonNegative")) NonNegative (cond (same_text x (text "R")) Real (along built_ins BuiltIn Other))))
+  pub class_law : every agrees 0 deciding ≡ true → all (λ z. one_of z deciding) zs ≡ true → p 18 ≡ false → (x : List ℕ) → p (class_of x) ≡ one_of x zs
   unfolding class_of
-  class_along = rw (← along_is others, ← along_is built_ins) (behind_time _)
+  class_law h g e x =
+      let z : 0 + length deciding ≡ 18 = omega (arith, length_deciding) in
+      from_law x deciding 0 h (λ n. ap p z ∙ e ∙ sym (none_of x deciding zs g n))
 
-  -- ---- a test of the class
+or_none : (b : Bool) → b || false ≡ b
+or_none true = refl
+or_none false = refl
 
-  -- by each of its cases
-  abbrev by_case : (Class → Bool) → Bool
-  by_case p = cond (same_text x (text "t")) (p Time) (cond (one_of x reserved) (p Reserved) (cond (same_text x (text "NonNegative")) (p NonNegative) (cond (same_text x (text "R")) (p Real) (cond (one_of x built_ins) (p BuiltIn) (p Other)))))
+-- one text
+one_text : (x y : List ℕ) → one_of x (y ∷ []) ≡ same_text y x
+unfolding one_of
+one_text x y = or_none (same_text x y) ∙ same_text_sym x y
 
-  tested : (p : Class → Bool) → p (class_of x) ≡ by_case p
-  unfolding class_of
-  tested p = go (same_text x (text "t")) (one_of x reserved) (same_text x (text "NonNegative")) (same_text x (text "R")) (one_of x built_ins)
-    where
-      go : (t r n l b : Bool) → p (cond t Time (cond r Reserved (cond n NonNegative (cond l Real (cond b BuiltIn Other))))) ≡ cond t (p Time) (cond r (p Reserved) (cond n (p NonNegative) (cond l (p Real) (cond b (p BuiltIn) (p Other)))))
-      go true r n l b = refl
-      go false true n l b = refl
-      go false false true l b = refl
-      go false false false true b = refl
-      go false false false false true = refl
-      go false false false false false = refl
+-- the tests on a class, and the texts that each asks for
 
-  -- a text that is one of some is what each of them is
-  passes : (p : List ℕ → Bool) (ys : List (List ℕ)) → all p ys ≡ true → one_of x ys ≡ true → p x ≡ true
-  unfolding all one_of
-  passes p [] h e = clash (cc)
-  passes p (y ∷ ys) h e = let (a, b) = and_both (p y) _ h in go (same_text x y) refl a (passes p ys b) e
-    where
-      go : (d : Bool) → same_text x y ≡ d → p y ≡ true → (one_of x ys ≡ true → p x ≡ true) → d || one_of x ys ≡ true → p x ≡ true
-      go true q a r z = ap p (same_text_equal x y q) ∙ a
-      go false q a r z = r z
+abbrev Agreed : (ℕ → Bool) → List (List ℕ) → Type 0
+Agreed p zs = (every (agrees p zs) 0 deciding ≡ true) × (all (λ z. one_of z deciding) zs ≡ true) × (p 18 ≡ false)
 
-  -- the test is whether the text is one of some, where it holds at each of them, and fails at a text that is none
-  decides : (p : Class → Bool) (ys : List (List ℕ)) → all (λ y. p (class_of y)) ys ≡ true → (one_of x ys ≡ false → by_case p ≡ false) → p (class_of x) ≡ one_of x ys
-  decides p ys h g = go (one_of x ys) refl
-    where
-      go : (d : Bool) → one_of x ys ≡ d → p (class_of x) ≡ d
-      go true e = passes (λ y. p (class_of y)) ys h e
-      go false e = tested p ∙ g e
+time_agrees : Agreed (λ k. eqb k 0) (text "t" ∷ [])
+unfolding every agree deciding one_of same_text text all
+time_agrees = (refl, refl, refl)
 
-  -- the same of one text
-  decides_one : (p : Class → Bool) (y : List ℕ) → p (class_of y) ≡ true → (same_text x y ≡ false → by_case p ≡ false) → p (class_of x) ≡ same_text y x
-  decides_one p y h g = go (same_text x y) refl ∙ same_text_sym x y
-    where
-      go : (d : Bool) → same_text x y ≡ d → p (class_of x) ≡ d
-      go true e = ap (λ (z : List ℕ). p (class_of z)) (same_text_equal x y e) ∙ h
-      go false e = tested p ∙ g e
+reserved_agrees : Agreed (λ k. leb k 5) reserved
+unfolding every agree deciding one_of same_text text all reserved
+reserved_agrees = (refl, refl, refl)
 
--- ---- the tests on a class, at the texts that each asks for
+built_in_agrees : Agreed (λ k. leb 8 k && ltb k 18) built_ins
+unfolding every agree deciding one_of same_text text all built_ins
+built_in_agrees = (refl, refl, refl)
 
-time_holds : ghosts.eq (class_of (text "t")) Time ≡ true
-unfolding class_of same_text text
-time_holds = refl
+non_negative_agrees : Agreed (λ k. eqb k 6) (text "NonNegative" ∷ [])
+unfolding every agree deciding one_of same_text text all
+non_negative_agrees = (refl, refl, refl)
 
-non_negative_holds : ghosts.eq (class_of (text "NonNegative")) NonNegative ≡ true
-unfolding class_of one_of same_text text reserved
-non_negative_holds = refl
+real_agrees : Agreed (λ k. eqb k 7) (text "R" ∷ [])
+unfolding every agree deciding one_of same_text text all
+real_agrees = (refl, refl, refl)
 
-real_holds : ghosts.eq (class_of (text "R")) Real ≡ true
-unfolding class_of one_of same_text text reserved
-real_holds = refl
+-- the class of a name's text decides what the text does
+module _ (names : List (List ℕ)) (n : ℕ) where
+  of_class : (p : ℕ → Bool) (zs : List (List ℕ)) → Agreed p zs → p (class_of (text_of names n)) ≡ one_of (text_of names n) zs
+  of_class p zs a = class_law p zs a.0 a.1 a.2 (text_of names n)
 
-time_reserved : one_of (text "t") reserved ≡ true
-unfolding one_of same_text text reserved
-time_reserved = refl
+  pub class_time : eqb (class_of (text_of names n)) 0 ≡ is_time names n
+  unfolding is_time spells
+  class_time = of_class _ _ time_agrees ∙ one_text (text_of names n) (text "t")
 
-reserved_holds : all (λ y. reserved_class (class_of y)) reserved ≡ true
-unfolding all class_of one_of same_text text reserved reserved_class
-reserved_holds = refl
+  pub class_reserved : leb (class_of (text_of names n)) 5 ≡ is_reserved names n
+  unfolding is_reserved
+  class_reserved = of_class _ _ reserved_agrees
 
-built_in_holds : all (λ y. ghosts.eq (class_of y) BuiltIn) built_ins ≡ true
-unfolding all class_of one_of same_text text reserved built_ins
-built_in_holds = refl
+  pub class_built_in : (leb 8 (class_of (text_of names n)) && ltb (class_of (text_of names n)) 18) ≡ is_built_in names n
+  unfolding is_built_in
+  class_built_in = of_class _ _ built_in_agrees
 
-module _ (x : List ℕ) where
-  text_time : ghosts.eq (class_of x) Time ≡ same_text (text "t") x
-  text_time = decides_one x (λ k. ghosts.eq k Time) (text "t") time_holds (λ e. rw e (simp either refl))
+  pub class_non_negative : eqb (class_of (text_of names n)) 6 ≡ is_non_negative names n
+  unfolding is_non_negative spells
+  class_non_negative = of_class _ _ non_negative_agrees ∙ one_text (text_of names n) (text "NonNegative")
 
-  text_non_negative : ghosts.eq (class_of x) NonNegative ≡ same_text (text "NonNegative") x
-  text_non_negative = decides_one x (λ k. ghosts.eq k NonNegative) (text "NonNegative") non_negative_holds (λ e. rw e (simp either refl))
+  pub class_real : eqb (class_of (text_of names n)) 7 ≡ is_real names n
+  unfolding is_real spells
+  class_real = of_class _ _ real_agrees ∙ one_text (text_of names n) (text "R")
 
-  text_real : ghosts.eq (class_of x) Real ≡ same_text (text "R") x
-  text_real = decides_one x (λ k. ghosts.eq k Real) (text "R") real_holds (λ e. rw e (simp either refl))
+-- ---- the tests in code, by the number of a class
 
-  -- t is reserved
-  not_time : one_of x reserved ≡ false → same_text x (text "t") ≡ false
-  not_time e = go (same_text x (text "t")) refl
-    where
-      go : (d : Bool) → same_text x (text "t") ≡ d → d ≡ false
-      go true q = sym time_reserved ∙ ap (λ (z : List ℕ). one_of z reserved) (sym (same_text_equal x (text "t") q)) ∙ e
-      go false q = refl
+pub time_number : (k : Class) → ghosts.eq k Time ≡ eqb (class_number k) 0
+time_number classes.Time = refl
+time_number classes.U = refl
+time_number classes.Dudt = refl
+time_number classes.F = refl
+time_number classes.G = refl
+time_number classes.Input = refl
+time_number classes.NonNegative = refl
+time_number classes.Real = refl
+time_number classes.Sin = refl
+time_number classes.Cos = refl
+time_number classes.Tan = refl
+time_number classes.Pow = refl
+time_number classes.Exp = refl
+time_number classes.Log = refl
+time_number classes.Sqrt = refl
+time_number classes.Abs = refl
+time_number classes.Interp1d = refl
+time_number classes.Piecewise = refl
+time_number classes.Other = refl
 
-  text_reserved : reserved_class (class_of x) ≡ one_of x reserved
-  unfolding reserved_class
-  text_reserved = decides x reserved_class reserved reserved_holds (λ e. rw (e, not_time e) (simp either refl))
+pub non_negative_number : (k : Class) → ghosts.eq k NonNegative ≡ eqb (class_number k) 6
+non_negative_number classes.Time = refl
+non_negative_number classes.U = refl
+non_negative_number classes.Dudt = refl
+non_negative_number classes.F = refl
+non_negative_number classes.G = refl
+non_negative_number classes.Input = refl
+non_negative_number classes.NonNegative = refl
+non_negative_number classes.Real = refl
+non_negative_number classes.Sin = refl
+non_negative_number classes.Cos = refl
+non_negative_number classes.Tan = refl
+non_negative_number classes.Pow = refl
+non_negative_number classes.Exp = refl
+non_negative_number classes.Log = refl
+non_negative_number classes.Sqrt = refl
+non_negative_number classes.Abs = refl
+non_negative_number classes.Interp1d = refl
+non_negative_number classes.Piecewise = refl
+non_negative_number classes.Other = refl
 
-  text_built_in : ghosts.eq (class_of x) BuiltIn ≡ one_of x built_ins
-  text_built_in = decides x (λ k. ghosts.eq k BuiltIn) built_ins built_in_holds (λ e. rw e (simp either refl))
+pub real_number : (k : Class) → ghosts.eq k Real ≡ eqb (class_number k) 7
+real_number classes.Time = refl
+real_number classes.U = refl
+real_number classes.Dudt = refl
+real_number classes.F = refl
+real_number classes.G = refl
+real_number classes.Input = refl
+real_number classes.NonNegative = refl
+real_number classes.Real = refl
+real_number classes.Sin = refl
+real_number classes.Cos = refl
+real_number classes.Tan = refl
+real_number classes.Pow = refl
+real_number classes.Exp = refl
+real_number classes.Log = refl
+real_number classes.Sqrt = refl
+real_number classes.Abs = refl
+real_number classes.Interp1d = refl
+real_number classes.Piecewise = refl
+real_number classes.Other = refl
 
 -- ---- name n, by the table of classes
 
--- whether a class is that of the domain that begins at 0
-pub class_from_zero : (c : Class) → ghosts.eq c NonNegative ≡ non_negative_class c
-unfolding non_negative_class
-class_from_zero Time = refl
-class_from_zero Reserved = refl
-class_from_zero NonNegative = refl
-class_from_zero Real = refl
-class_from_zero BuiltIn = refl
-class_from_zero Other = refl
-
--- a class is not Reserved where it is t's or that of no reserved name
-usable : (c : Class) → not (ghosts.eq c Reserved) ≡ (ghosts.eq c Time || not (reserved_class c))
-unfolding reserved_class
-usable Time = refl
-usable Reserved = refl
-usable NonNegative = refl
-usable Real = refl
-usable BuiltIn = refl
-usable Other = refl
-
 module _ {names : List (List ℕ)} {cs : List Class} (h : Classes names cs) (n : ℕ) (l : n < length names) where
-  pub class_time : ghosts.eq (get_or cs n Time) Time ≡ is_time names n
-  unfolding is_time spells
-  class_time = rw (h.class n Time l) (text_time (text_of names n))
+  pub entry_time : ghosts.eq (get_or cs n Time) Time ≡ is_time names n
+  entry_time = time_number (get_or cs n Time) ∙ rw (h.class n Time l) (class_time names n)
 
-  pub class_reserved : reserved_class (get_or cs n Time) ≡ is_reserved names n
-  unfolding is_reserved
-  class_reserved = rw (h.class n Time l) (text_reserved (text_of names n))
+  pub entry_reserved : leb (class_number (get_or cs n Time)) 5 ≡ is_reserved names n
+  entry_reserved = rw (h.class n Time l) (class_reserved names n)
 
-  pub class_built_in : ghosts.eq (get_or cs n Time) BuiltIn ≡ is_built_in names n
-  unfolding is_built_in
-  class_built_in = rw (h.class n Time l) (text_built_in (text_of names n))
+  pub entry_built_in : (leb 8 (class_number (get_or cs n Time)) && ltb (class_number (get_or cs n Time)) 18) ≡ is_built_in names n
+  entry_built_in = rw (h.class n Time l) (class_built_in names n)
 
-  pub class_non_negative : ghosts.eq (get_or cs n Time) NonNegative ≡ is_non_negative names n
-  unfolding is_non_negative spells
-  class_non_negative = rw (h.class n Time l) (text_non_negative (text_of names n))
+  pub entry_non_negative : ghosts.eq (get_or cs n Time) NonNegative ≡ is_non_negative names n
+  entry_non_negative = non_negative_number (get_or cs n Time) ∙ rw (h.class n Time l) (class_non_negative names n)
 
-  pub class_real : ghosts.eq (get_or cs n Time) Real ≡ is_real names n
-  unfolding is_real spells
-  class_real = rw (h.class n Time l) (text_real (text_of names n))
-
-  -- t, or a name that is not reserved
-  pub class_usable : not (ghosts.eq (get_or cs n Time) Reserved) ≡ (is_time names n || not (is_reserved names n))
-  class_usable = usable (get_or cs n Time) ∙ rw (class_time, class_reserved) refl
+  pub entry_real : ghosts.eq (get_or cs n Time) Real ≡ is_real names n
+  entry_real = real_number (get_or cs n Time) ∙ rw (h.class n Time l) (class_real names n)

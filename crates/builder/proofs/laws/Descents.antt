@@ -52,7 +52,7 @@ readable f s o rows level r i j e h =
     record { ready = ready f s o rows r.fit; deep = r.deep; long = r.long; within = rw e h.0; expr = rw (e, nodes_from_lem f s o) h.1 }
 
 -- a call of model m, known by its number
-calls_model : (f : List ℕ) (s : Sections) → Open f s → (m call j : ℕ) → m < s.counts.models → call ≡ j
+pub calls_model : (f : List ℕ) (s : Sections) → Open f s → (m call j : ℕ) → m < s.counts.models → call ≡ j
     → (j < s.counts.nodes) × (kind_at (contents_in f s).nodes j ≡ 5) → ModelCall f s m call
 calls_model f s o m call j l e h = record { opened = o; model = l; within = rw e h.0; kind = rw e h.1 }
 
@@ -63,7 +63,7 @@ expr_at_lem f s i j e h = record { within = rw e h.0; expr = rw e h.1 }
 pub kept_at : (a b : List ℕ) (n j : ℕ) → take n a ≡ take n b → j < n → get_or a j 0 ≡ get_or b j 0
 kept_at a b n j e h = sym (get_or-take n a j 0 h) ∙ ap (λ (x : List ℕ). get_or x j 0) e ∙ get_or-take n b j 0 h
 
-kept_less : (a b : List ℕ) (n m : ℕ) → m ≤ n → take n a ≡ take n b → take m a ≡ take m b
+pub kept_less : (a b : List ℕ) (n m : ℕ) → m ≤ n → take n a ≡ take n b → take m a ≡ take m b
 kept_less a b n m h e = sym (take-take m n a h) ∙ ap (take m) e ∙ take-take m n b h
 
 module _ (ns : List (List ℕ)) (rows rows' : List ℕ) (level : ℕ) (kept : take (256 * level) rows' ≡ take (256 * level) rows) where
@@ -155,14 +155,14 @@ module _ (f : List ℕ) (s : Sections) (o : Open f s) (q : ℕ) (l : q < s.count
 
   module _ (c : ℕ) (e : called_by file (stmt_of ns (get_or (contents_in f s).stmts q [])) ≡ some c) where
     -- its model's flattened statements, one level deeper
-    brought : (sub : ℕ → List Flat) → map (through_flat levels) (stmt_flats file sub (stmt_of ns (get_or (contents_in f s).stmts q [])))
+    pub brought : (sub : ℕ → List Flat) → map (through_flat levels) (stmt_flats file sub (stmt_of ns (get_or (contents_in f s).stmts q [])))
         ≡ map (through_flat (replacements (model_at file c).unknowns (args_before ns top (op_at ns top) (size_at ns top - 1)) ∷ levels)) (sub c)
     brought sub =
         ap (λ x. map (through_flat levels) (stmt_flats file sub x)) (stmt_submodel ns (get_or (contents_in f s).stmts q []) k)
         ∙ flats_found file sub levels _ _ _ _ c (sym (called_named f s o q k) ∙ e)
 
     -- read with a new row
-    deeper : (rows rows' : List ℕ) (level d call : ℕ) → levels ≡ levels_of ns rows level → call ≡ right_top (get_or (contents_in f s).stmts q [])
+    pub deeper : (rows rows' : List ℕ) (level d call : ℕ) → levels ≡ levels_of ns rows level → call ≡ right_top (get_or (contents_in f s).stmts q [])
         → take (256 * level) rows' ≡ take (256 * level) rows
         → ((n : ℕ) → by_table ns (take 256 (drop (256 * level) rows')) n ≡ replacements (model_at file c).unknowns (args_before ns call (op_at ns call) (size_at ns call - 1)) n)
         → map (through_flat (levels_of ns rows' (level + 1))) (flatten file d c) ≡ map (through_flat levels) (stmt_flats file (λ j. flatten file d j) (stmt_of ns (get_or (contents_in f s).stmts q [])))

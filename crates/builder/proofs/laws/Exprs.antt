@@ -6,7 +6,7 @@ use native.Mathlib.Omega.{arith}
 use Rattle.ast.specs.Nodes.{kind_at, size_at, tree_at}
 use Rattle.ast.specs.NodesIn.{nodes_in}
 use Rattle.ast.specs.declared.sections.Nodes.{Nodes}
-use Rattle.ast.proofs.Fitting.{two_below}
+use Rattle.ast.proofs.Fitting.{expr_kind, two_below}
 use Rattle.ast.proofs.Trees.{tree_number, tree_binary, tree_unary, tree_call}
 use Rattle.definitions.specs.Check.{Scope, expr_errors, args_errors}
 use Rattle.builder.specs.declared.errors.check.Run.{Run}
@@ -68,6 +68,12 @@ module _ {names : ℕ} {b : List ℕ} {ns : Nodes} {i : ℕ} (q : ExprIn names b
       pub binary_errors : (v : Scope) → Joins (expr_errors v (tree_at N i)) (expr_errors v (tree_at N (i - 1 - z))) (expr_errors v (tree_at N (i - 1)))
       unfolding expr_errors
       binary_errors v = record { is = rw ez (ap (expr_errors v) (tree_binary _ _ _ q.formed.pass i q.within q.expr h)) }
+
+  -- what is of none of the other kinds is a call
+  pub left_kind : (kind_at N i ≡ 1 → ⊥) → (kind_at N i ≡ 2 → ⊥) → (kind_at N i ≡ 3 → ⊥) → (kind_at N i ≡ 4 → ⊥) → kind_at N i ≡ 5
+  left_kind n₁ n₂ n₃ n₄ =
+      let b = expr_kind _ _ q.expr in
+      omega (arith, b.0, b.1)
 
   module _ (h : kind_at N i ≡ 5) where
     -- a call

@@ -1,13 +1,13 @@
 -- How the errors of a model go on, in the code's terms: those of an unknown, of a run, of the arguments of a submodel statement and of a statement.
 use mathlib.Core.Path.{◌≡◌, refl, sym, ap, ◌∙◌}
-use mathlib.Core.Bool.{Bool, true, false, not, ◌||◌, or_comm}
+use mathlib.Core.Bool.{Bool, true, false, not, ◌||◌}
 use mathlib.Core.List.{List, [], ◌∷◌, ◌++◌, append-nil}
 use mathlib.Core.Option.{none, some}
-use Prim.Native.Nat.{ℕ, zero, suc, ◌+◌, ◌-◌, ◌^◌, ◌≤◌, ◌<◌}
+use Prim.Native.Nat.{ℕ, zero, suc, ◌+◌, ◌-◌, ◌≤◌, ◌<◌}
 use native.Mathlib.Omega.{arith}
 use native.Mathlib.Numerals.{add-one, sub-one}
 use borrow.Author.Tests.{eqb-true, eqb-false, ne_eqb}
-use lib.Dec.{eqb}
+use lib.Dec.{eqb, leb}
 use lib.Ieee.{Float}
 use lib.ListN.{length, take, drop, get_or, take-append-drop}
 use lib.Seq.{take-suc, take_all}
@@ -26,21 +26,21 @@ use Rattle.ast.specs.declared.sections.Sections.{Sections}
 use Rattle.ast.specs.declared.numbers.Domain as declared_domain
 use Rattle.ast.specs.declared.numbers.Domain.TheVariants as is
 use Rattle.ast.proofs.Encodes.{each_append}
-use Rattle.definitions.specs.Names.{is_time, is_reserved}
 use Rattle.definitions.specs.Variables.{Error, error, domain_errors, unknown_errors}
 use Rattle.definitions.specs.Check.{Scope, has_keyword, expr_errors, flat_errors}
 use Rattle.definitions.specs.Flatten.{model_named, model_at, scope_of, order_errors, sub_errors, stmt_errors, errors_of}
 use Rattle.builder.specs.declared.names.Class.{Class}
-use Rattle.builder.specs.declared.names.Class.TheVariants.{Time, Reserved, NonNegative, Real}
+use Rattle.builder.specs.declared.names.Class.TheVariants.{Time, NonNegative, Real}
 use Rattle.builder.specs.contracts.names.ClassPartialEq.TheImpl.{ghosts}
-use Rattle.builder.specs.Tables.{called_by}
-use Rattle.area.specs.Listing.{Lists}
+use Rattle.builder.specs.Tables.{class_number, called_by}
+use Rattle.area.specs.LentList.{Listed, RoomFor}
+use Rattle.area.specs.declared.errors.Errors.{Errors}
 use Rattle.builder.specs.declared.errors.check.Run.{Run}
 use Rattle.builder.specs.Checking.{args_in, before_last, run_of, unknown_in, stmt_in, missing_at, UnknownIn, ExprIn, CallIn, ArgsIn}
 use Rattle.builder.proofs.laws.Domains.{domain_formed, coded, says_coded, coded_named}
-use Rattle.builder.proofs.laws.Classes.{class_usable, class_non_negative, class_real}
+use Rattle.builder.proofs.laws.Classes.{entry_time, entry_reserved, entry_non_negative, entry_real}
 use Rattle.builder.proofs.laws.OpenRecords.{long, model_is, unknown_is, stmt_is}
-use Rattle.area.proofs.Listings.{Joins, lists_none, lists_then, room_first, room_then}
+use Rattle.area.proofs.Listings.{Joins, room_first, none_listed, listed_then, listed_room}
 use Rattle.builder.proofs.laws.Checks.{open_formed, args_are}
 use Rattle.builder.proofs.laws.Calls.{call_small}
 use Rattle.builder.proofs.laws.OpenStmts.{nodes_from_lem}
@@ -95,8 +95,8 @@ module _ {f : List ℕ} {s : Sections} {cs : List Class} {u : ℕ} (q : UnknownI
           → domain_errors (file_in f s).names (unknown_in f s u).span (unknown_in f s u).domain ≡ unless (a || b) (error 1 (span_of_unknown record_u) (n + 1))
       unfolding unknown_of domain_errors
       domain_named a b ea eb =
-          let e₁ = class_non_negative q.classes n (named_lem n domain_below) in
-          let e₂ = class_real q.classes n (named_lem n domain_below) in
+          let e₁ = entry_non_negative q.classes n (named_lem n domain_below) in
+          let e₂ = entry_real q.classes n (named_lem n domain_below) in
           rw (is_named_lem, ea, eb, e₁, e₂, add-one) refl
 
   -- its name
@@ -107,13 +107,13 @@ module _ {f : List ℕ} {s : Sections} {cs : List Class} {u : ℕ} (q : UnknownI
     pub unknown_small : x < 256
     unknown_small = omega (arith, unknown_below, q.opened.laid.within.names)
 
-    pub unknown_more : (a : Bool) → a ≡ not (ghosts.eq (get_or cs x Time) Reserved)
-        → Joins (unknown_errors (file_in f s).names (unknown_in f s u)) (domain_errors (file_in f s).names (unknown_in f s u).span (unknown_in f s u).domain) (unless a (error 2 (span_of_unknown record_u) (x + 1)))
+    pub unknown_more : (a b : Bool) → a ≡ leb (class_number (get_or cs x Time)) 5 → b ≡ ghosts.eq (get_or cs x Time) Time
+        → Joins (unknown_errors (file_in f s).names (unknown_in f s u)) (domain_errors (file_in f s).names (unknown_in f s u).span (unknown_in f s u).domain) (unless (not a || b) (error 2 (span_of_unknown record_u) (x + 1)))
     unfolding unknown_errors unknown_of
-    unknown_more a ea =
-        let e₁ = class_usable q.classes x (named_lem x unknown_below) in
-        let e₂ = or_comm (is_time (file_in f s).names x) (not (is_reserved (file_in f s).names x)) in
-        record { is = rw (ea, e₁, e₂, add-one, ex) refl }
+    unknown_more a b ea eb =
+        let e₁ = entry_reserved q.classes x (named_lem x unknown_below) in
+        let e₂ = entry_time q.classes x (named_lem x unknown_below) in
+        record { is = rw (ea, eb, e₁, e₂, add-one, ex) refl }
 
 -- ---- the errors of a run, element by element
 
@@ -122,9 +122,9 @@ module _ {A : Type 0} (g : A → List Error) (xs : List A) where
   each_split i = record { is = sym (ap (each g) (take-append-drop i xs)) ∙ each_append g (take i xs) (drop i xs) }
 
   -- none yet
-  pub run_begins : (d : List ℕ) (n : ℕ) → Lists d n (each g (take 0 xs)) n d
+  pub run_begins : (e : Errors) → Listed e (each g (take 0 xs)) e
   unfolding each
-  run_begins d n = lists_none d n
+  run_begins e = none_listed e
 
   -- the element at place i is x
   module _ (x : A) (i : ℕ) (h : i < length xs) (e : get_or xs i x ≡ x) where
@@ -137,15 +137,15 @@ module _ {A : Type 0} (g : A → List Error) (xs : List A) where
     each_next = record { is = rw (add-one, take-suc xs i x) (each_append g (take i xs) (get_or xs i x ∷ []) ∙ rw (append-nil, e) refl) }
 
     -- where all can be counted, so can its own behind those before it
-    pub run_room : (d d' : List ℕ) (n r : ℕ) → n + length (each g xs) < 2 ^ 40 → Lists d n (each g (take i xs)) r d' → r + length (g x) < 2 ^ 40
-    run_room d d' n r m p = room_first each_here r (room_then (each_split i) d d' n r m p)
+    pub run_room : {a b : Errors} → RoomFor a (each g xs) → Listed a (each g (take i xs)) b → RoomFor b (g x)
+    run_room {a} {b} m p = room_first each_here b.count (listed_room (each_split i) m p)
 
-    pub run_goes : (d d' d'' : List ℕ) (n r r' : ℕ) → Lists d n (each g (take i xs)) r d' → Lists d' r (g x) r' d'' → Lists d n (each g (take (i + 1) xs)) r' d''
-    run_goes d d' d'' n r r' p t = lists_then each_next d d' d'' n r r' p t
+    pub run_goes : {a b c : Errors} → Listed a (each g (take i xs)) b → Listed b (g x) c → Listed a (each g (take (i + 1) xs)) c
+    run_goes p t = listed_then each_next p t
 
   -- all of them
-  pub run_ends : (i : ℕ) → length xs ≤ i → (d d' : List ℕ) (n r : ℕ) → Lists d n (each g (take i xs)) r d' → Lists d n (each g xs) r d'
-  run_ends i h d d' n r p = let t : take i xs ≡ xs = take_all i xs h in rw t at p
+  pub run_ends : (i : ℕ) → length xs ≤ i → {a b : Errors} → Listed a (each g (take i xs)) b → Listed a (each g xs) b
+  run_ends i h p = let t : take i xs ≡ xs = take_all i xs h in rw t at p
 
 -- of a model's unknowns and statements; the first one's number and the count are those of its record
 module _ (f : List ℕ) (s : Sections) (o : Open f s) (m : ℕ) (h : m < s.counts.models) (first count k i : ℕ) (ek : k ≡ first + i) where

@@ -1,17 +1,20 @@
--- An open file by number: how many records each section has, and its models by their records.
-use mathlib.Core.Path.{◌≡◌, ap}
+-- An open file by number: how many records each section has, its models by their records, and the text of a name.
+use mathlib.Core.Path.{◌≡◌, sym, ◌∙◌, ap}
 use mathlib.Core.List.{List, [], map}
-use Prim.Native.Nat.{ℕ, ◌<◌}
-use lib.ListN.{length, get_or, length-map}
+use Prim.Native.Nat.{ℕ, ◌+◌, ◌-◌, ◌≤◌, ◌<◌}
+use lib.ListN.{length, take, drop, get_or, length-map, get_or-map}
 use native.Mathlib.Omega.{arith}
 use Rattle.ast.specs.Words.{word_of}
-use Rattle.ast.specs.Records.{unknown_of, stmt_of, model_of}
+use Rattle.ast.specs.Records.{text_of_name, unknown_of, stmt_of, model_of}
 use Rattle.ast.specs.File.{names_at, unknowns_at, stmts_at, models_at, contents_of, file_of}
 use Rattle.ast.specs.declared.sections.Sections.{Sections}
-use Rattle.ast.specs.Opens.{contents_in, file_in}
+use Rattle.ast.specs.Opens.{Open, contents_in, file_in}
 use Rattle.ast.specs.Tree.{Model}
 use Rattle.ast.proofs.Fields.{length_section}
-use Rattle.ast.proofs.Files.{model_at_lem}
+use Rattle.ast.proofs.Files.{parts, model_at_lem}
+use Rattle.ast.proofs.Opened.{ranges}
+use Rattle.ast.proofs.Texts.{name_in, part_name}
+use Rattle.definitions.specs.Names.{text_of}
 use Rattle.definitions.specs.Flatten.{no_model, model_at}
 
 -- ---- how many records each section has
@@ -61,3 +64,19 @@ module _ (f : List ℕ) (s : Sections) where
     pub model_name_is : (model_at (file_in f s) m).name ≡ word_of (model_record m) 0
     unfolding model_of
     model_name_is = ap (λ (x : Model). x.name) model_by_record
+
+  -- ---- names
+
+  module _ (o : Open f s) where
+    -- name n lies in the text
+    pub name_within : (n : ℕ) → n < s.counts.names → word_of (get_or (contents_in f s).names n []) 0 + word_of (get_or (contents_in f s).names n []) 1 ≤ s.counts.text
+    unfolding contents_of
+    name_within n h = name_in s.counts.text s.counts.names (names_at s.counts) f (parts (contents_in f s) o.fits).names n h
+
+    -- its text is a part of the file
+    pub name_part : (n a l : ℕ) → n < s.counts.names → a ≡ word_of (get_or (contents_in f s).names n []) 0 → l ≡ word_of (get_or (contents_in f s).names n []) 1
+        → take (a + l - a) (drop a f) ≡ text_of (file_in f s).names n
+    unfolding contents_of file_of text_of text_of_name word_of
+    name_part n a l h p q =
+        part_name f s.counts.text (ranges f s o).text (get_or (contents_in f s).names n []) a l p q (name_within n h)
+        ∙ sym (get_or-map (text_of_name (contents_in f s).text) (contents_in f s).names n [])

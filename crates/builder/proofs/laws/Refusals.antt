@@ -17,15 +17,15 @@ use Rattle.ast.proofs.Fitting.{last_arg}
 use Rattle.ast.proofs.Trees.{args_more, args_none}
 use Rattle.ast.proofs.Sizes.{count_before}
 use Rattle.builder.specs.declared.names.Class.{Class}
-use Rattle.builder.specs.declared.names.Class.TheVariants.{Time, Reserved}
+use Rattle.builder.specs.declared.names.Class.TheVariants.{Time}
 use Rattle.builder.specs.contracts.names.ClassPartialEq.TheImpl.{ghosts}
 use Rattle.definitions.specs.Flatten.{args_beyond, model_at, submodels, reached, any_reached, lists_itself, stmt_beyond, sub_beyond}
-use Rattle.builder.specs.Tables.{Classes, called_by, Reaching}
+use Rattle.builder.specs.Tables.{class_number, Classes, called_by, Reaching}
 use Rattle.ast.specs.Words.{word_of}
 use Rattle.ast.specs.Records.{unknown_of, right_top, stmt_of}
 use Rattle.ast.specs.Opens.{Open, contents_in, file_in}
 use Rattle.ast.specs.declared.sections.Sections.{Sections}
-use Rattle.builder.proofs.laws.Classes.{class_usable}
+use Rattle.builder.proofs.laws.Classes.{entry_time, entry_reserved}
 use Rattle.builder.proofs.laws.OpenRecords.{long, passes, model_is, unknown_is}
 use Rattle.builder.proofs.laws.Calling.{call_is, called_below}
 use Rattle.builder.proofs.laws.Rounds.{reaching_flag}
@@ -66,19 +66,25 @@ module _ (f : List ℕ) (s : Sections) (o : Open f s) (t : List ℕ) (h : Reachi
   unfolding reached
   reached_flag a b ha hb = reaching_flag (file_in f s) _ _ t h a b ha hb ∙ ap (λ (k : ℕ). reaches (submodels (file_in f s)) k a b) (sym (long f s o).file_models)
 
+  -- whether a is reached from itself
+  pub itself_flag : (a : ℕ) → a < s.counts.models → eqb (get_or t (33 * a) 0) 1 ≡ reached (file_in f s) a a
+  itself_flag a ha =
+      let e : 33 * a ≡ 32 * a + a = omega arith in
+      ap (λ (k : ℕ). eqb (get_or t k 0) 1) e ∙ reached_flag a a ha ha
+
 -- ---- an unknown that lists itself, by the table of classes
 
 -- by its record's words
 pub lists_itself_is : (f : List ℕ) (s : Sections) → Open f s → (t : List Class) → Classes (file_in f s).names t → (u : ℕ) → u < s.counts.unknowns
     → (name : ℕ) → name ≡ word_of (get_or (contents_in f s).unknowns u []) 0
-    → (not (ghosts.eq (get_or t name Time) Reserved) && member name (unknown_of (contents_in f s).deps (get_or (contents_in f s).unknowns u [])).deps)
+    → ((ghosts.eq (get_or t name Time) Time || not (leb (class_number (get_or t name Time)) 5)) && member name (unknown_of (contents_in f s).deps (get_or (contents_in f s).unknowns u [])).deps)
     ≡ lists_itself (file_in f s) (unknown_of (contents_in f s).deps (get_or (contents_in f s).unknowns u []))
 unfolding lists_itself unknown_of
 lists_itself_is f s o t h u l name en =
     let r = get_or (contents_in f s).unknowns u [] in
     let names = (file_in f s).names in
     let b : word_of r 0 < length names = omega (arith, (unknown_is f s o u l).name_below, (long f s o).file_names) in
-    rw (en, class_usable h (word_of r 0) b) refl
+    rw (en, entry_time h (word_of r 0) b, entry_reserved h (word_of r 0) b) refl
 
 -- ---- positional arguments beyond, from the last argument down
 
@@ -138,7 +144,7 @@ module _ (f : File) where
 module _ (f : List ℕ) (s : Sections) (o : Open f s) (q : ℕ) (l : q < s.counts.stmts) (c : ℕ)
     (e : called_by (file_in f s) (stmt_of (contents_in f s).nodes (get_or (contents_in f s).stmts q [])) ≡ some c) where
   -- statement q, by the model that it calls and the arguments of its call
-  too_many_is : stmt_beyond (file_in f s) (stmt_of (contents_in f s).nodes (get_or (contents_in f s).stmts q []))
+  pub too_many_is : stmt_beyond (file_in f s) (stmt_of (contents_in f s).nodes (get_or (contents_in f s).stmts q []))
       ≡ args_beyond (length (model_at (file_in f s) c).unknowns)
       (args_before (contents_in f s).nodes (right_top (get_or (contents_in f s).stmts q [])) (op_at (contents_in f s).nodes (right_top (get_or (contents_in f s).stmts q []))) (size_at (contents_in f s).nodes (right_top (get_or (contents_in f s).stmts q [])) - 1))
   too_many_is =

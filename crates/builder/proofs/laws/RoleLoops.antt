@@ -1,4 +1,4 @@
--- The code's roles of statements: whether a rate equation of a variable is among them, how many are neither, and the states that none goes to.
+-- The code's roles of statements: whether one is among them, how many are neither, and the states that none goes to.
 use mathlib.Core.Path.{◌≡◌, refl, sym}
 use mathlib.Core.Bool.{Bool, true, false, cond}
 use mathlib.Core.List.{List, [], ◌∷◌, ◌++◌, map, append-nil}
@@ -14,23 +14,29 @@ use Rattle.definitions.specs.Allocate.{is_rate_of, is_free, left_count}
 use Rattle.builder.specs.declared.allocation.roles.Role.{Role}
 use Rattle.builder.specs.declared.allocation.roles.Role.TheVariants.{Neither, Initial, Rate}
 use Rattle.builder.specs.contracts.allocation.roles.RolePartialEq.TheImpl.{ghosts}
-use Rattle.builder.specs.Allocating.{role_as}
+use Rattle.builder.specs.Allocating.{role_as, is_start_of, is_role}
 use Rattle.builder.specs.Tables.{lacks_in, lacking_in}
 use Rattle.builder.proofs.laws.FateLaws.{eqb_turn}
 
 -- ---- among the roles
 
--- a rate equation of v
-is_rate : (v : ℕ) (r : Role) → ghosts.eq r (Rate v) ≡ is_rate_of v (role_as r)
-unfolding is_rate_of role_as
-is_rate v Neither = refl
-is_rate v (Initial u) = refl
-is_rate v (Rate u) = eqb_turn u v
+-- one of them
+is_same : (x r : Role) → ghosts.eq r x ≡ is_role (role_as x) (role_as r)
+unfolding is_role is_start_of is_rate_of is_free role_as
+is_same Neither Neither = refl
+is_same Neither (Initial u) = refl
+is_same Neither (Rate u) = refl
+is_same (Initial v) Neither = refl
+is_same (Initial v) (Initial u) = eqb_turn u v
+is_same (Initial v) (Rate u) = refl
+is_same (Rate v) Neither = refl
+is_same (Rate v) (Initial u) = refl
+is_same (Rate v) (Rate u) = eqb_turn u v
 
-pub any_rate : (v : ℕ) (rs : List Role) → list_any (λ r. ghosts.eq r (Rate v)) rs ≡ any (is_rate_of v) (map role_as rs)
+pub any_role : (x : Role) (rs : List Role) → list_any (λ r. ghosts.eq r x) rs ≡ any (is_role (role_as x)) (map role_as rs)
 unfolding any
-any_rate v [] = refl
-any_rate v (r ∷ rs) = rw (is_rate v r, any_rate v rs) refl
+any_role x [] = refl
+any_role x (r ∷ rs) = rw (is_same x r, any_role x rs) refl
 
 -- how many are neither
 pub neither_count : (rs : List Role) → count_by (λ r. ghosts.eq r Neither) rs ≡ left_count (map role_as rs)

@@ -7,7 +7,7 @@ use Prim.Native.Nat.{ℕ, suc, ◌+◌, ◌≤◌, ◌<◌}
 use native.Mathlib.Numerals.{add-one}
 use native.Mathlib.Omega.{arith}
 use borrow.Author.Tests.{eqb-true, eqb-false, eq-eqb, ne_eqb}
-use lib.Dec.{eqb}
+use lib.Dec.{eqb, leb}
 use lib.ListN.{length, drop, get_or, set, length-append, length-set}
 use lib.Seq.{get_or-set_same, get_or-set_other}
 use Rattle.std.specs.Prelude.{Option, None, Some}
@@ -25,12 +25,12 @@ use Rattle.definitions.specs.Variables as vars
 use Rattle.definitions.specs.Variables.{number_of, variable_names}
 use Rattle.builder.specs.declared.names.Class.{Class}
 use Rattle.builder.specs.declared.names.Class.TheVariants.{Time}
-use Rattle.builder.specs.Tables.{reserved_class, Classes, Blank}
+use Rattle.builder.specs.Tables.{class_number, Classes, Blank}
 use Rattle.builder.specs.VariableTables.{declare_one, Listing, unknowns_in, roster_in, RosterRoom}
 use Rattle.builder.specs.Allocating.{names_in}
 use Rattle.builder.specs.Root.{VarsRoom}
 use Rattle.builder.specs.Starting.{place_as}
-use Rattle.builder.proofs.laws.Classes.{class_reserved}
+use Rattle.builder.proofs.laws.Classes.{entry_reserved}
 use Rattle.definitions.proofs.Counts.{or_false}
 use Rattle.builder.proofs.laws.OpenUnknowns.{no_unknown}
 use Rattle.builder.proofs.laws.Open.{names_long}
@@ -254,5 +254,5 @@ pub roster_last : (f : List ℕ) (s : Sections) (m i : ℕ) (names numbers : Lis
 roster_last f s m i names numbers k e h = rw (e, declare_done (file_in f s).names names (unknowns_in f s m) i h) k
 
 -- whether a name is reserved, by the classes of an open file's names
-pub reserved_in : (f : List ℕ) (s : Sections) (classes : List Class) → Open f s → Classes (file_in f s).names classes → (n : ℕ) → n < s.counts.names → reserved_class (get_or classes n Time) ≡ is_reserved (file_in f s).names n
-reserved_in f s classes o h n l = class_reserved h n (omega (arith, names_long f s))
+pub reserved_in : (f : List ℕ) (s : Sections) (classes : List Class) → Open f s → Classes (file_in f s).names classes → (n : ℕ) → n < s.counts.names → leb (class_number (get_or classes n Time)) 5 ≡ is_reserved (file_in f s).names n
+reserved_in f s classes o h n l = entry_reserved h n (omega (arith, names_long f s))

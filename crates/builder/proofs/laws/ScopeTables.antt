@@ -8,7 +8,7 @@ use native.Mathlib.Omega.{arith}
 use native.Mathlib.Decide.{ℕ_discrete}
 use native.Mathlib.Numerals.{add-one}
 use borrow.Author.Tests.{eqb-true, eq-eqb, ne_eqb}
-use lib.Dec.{eqb}
+use lib.Dec.{eqb, leb}
 use lib.ListN.{length, take, drop, get_or, set, length-set, length-append}
 use lib.Seq.{take-suc, take_all, get_or-set_same, get_or-set_other}
 use Rattle.functions.specs.Lists.{any, place_from, place, plus_one, text, same_text, member, flag, each, sum_of, to_list}
@@ -26,9 +26,9 @@ use Rattle.definitions.specs.Flatten.{model_at, scope_of}
 use Rattle.builder.specs.declared.names.Class.{Class}
 use Rattle.builder.specs.declared.names.Class.TheVariants.{Time}
 use Rattle.builder.specs.contracts.names.ClassPartialEq.TheImpl.{ghosts}
-use Rattle.builder.specs.Tables.{reserved_class, Classes, Marks, kept_in, entry_of, VarsOf}
+use Rattle.builder.specs.Tables.{class_number, Classes, Marks, kept_in, entry_of, VarsOf}
 use Rattle.builder.specs.Checking.{scope_in, unknown_in}
-use Rattle.builder.proofs.laws.Classes.{class_time, class_reserved}
+use Rattle.builder.proofs.laws.Classes.{entry_time, entry_reserved}
 use Rattle.builder.proofs.laws.PutWords.{each_fits, of_named}
 use Rattle.definitions.proofs.ListLaws.{any_append, place_below}
 
@@ -36,7 +36,7 @@ use Rattle.definitions.proofs.ListLaws.{any_append, place_below}
 
 pub time_test : (names : List (List ℕ)) (cs : List Class) → Classes names cs → (n : ℕ) → n < length names → same_text (text "t") (get_or names n []) ≡ ghosts.eq (get_or cs n Time) Time
 unfolding is_time spells text_of
-time_test names cs h n l = sym (class_time h n l)
+time_test names cs h n l = sym (entry_time h n l)
 
 -- ---- the names of variables, one unknown more
 
@@ -50,7 +50,7 @@ module _ (names : List (List ℕ)) where
   declare_last (w ∷ us) vs u = declare_last us _ u
 
   -- a reserved name adds none
-  more_reserved : (vs : List ℕ) (u : Unknown) → is_reserved names u.name ≡ true → one_more vs u ≡ vs
+  pub more_reserved : (vs : List ℕ) (u : Unknown) → is_reserved names u.name ≡ true → one_more vs u ≡ vs
   more_reserved vs u e = rw e refl
 
   -- another is one of them
@@ -67,7 +67,7 @@ module _ (names : List (List ℕ)) where
       go false q = any_append (eqb y) vs (suc u.name ∷ []) ∙ ap (λ (x : Bool). any (eqb y) vs || x) (or-false (eqb y (suc u.name)))
 
   -- the marks, with its name
-  marks_more : (n : ℕ) (vs t : List ℕ) (u : Unknown) → u.name < n → n ≤ 256 → is_reserved names u.name ≡ false → Marks n vs t → Marks n (one_more vs u) (set t u.name 1)
+  pub marks_more : (n : ℕ) (vs t : List ℕ) (u : Unknown) → u.name < n → n ≤ 256 → is_reserved names u.name ≡ false → Marks n vs t → Marks n (one_more vs u) (set t u.name 1)
   unfolding flag
   marks_more n vs t u l w e m = record { long = simp length-set m.long; mark = λ k h. rw (more_member (suc k) vs u e) (go k h (ℕ_discrete k u.name)) }
     where
@@ -114,12 +114,12 @@ module _ (n x : ℕ) (t : List ℕ) (long : length t ≡ 256) (e : (k : ℕ) →
 -- ---- marks with the unknown at place i, u, whose name is x
 
 module _ (names : List (List ℕ)) (cs : List Class) (h : Classes names cs) (us : List Unknown) (vs : List ℕ) (u : Unknown) (i : ℕ) (l : i < length us) (e : get_or us i u ≡ u)
-    (n x : ℕ) (b : Bool) (t : List ℕ) (en : length names ≡ n) (ex : x ≡ u.name) (lx : x < n) (eb : b ≡ reserved_class (get_or cs x Time)) (m : Marks n (declare names vs (take i us)) t) where
+    (n x : ℕ) (b : Bool) (t : List ℕ) (en : length names ≡ n) (ex : x ≡ u.name) (lx : x < n) (eb : b ≡ leb (class_number (get_or cs x Time)) 5) (m : Marks n (declare names vs (take i us)) t) where
   declare_next : declare names vs (take (i + 1) us) ≡ one_more names (declare names vs (take i us)) u
   declare_next = rw (add-one, take-suc us i u, e) (declare_last names (take i us) vs u)
 
   reserved_is : is_reserved names u.name ≡ b
-  reserved_is = ap (is_reserved names) (sym ex) ∙ sym (class_reserved h x (omega (arith, en, lx))) ∙ sym eb
+  reserved_is = ap (is_reserved names) (sym ex) ∙ sym (entry_reserved h x (omega (arith, en, lx))) ∙ sym eb
 
   -- its name is reserved, or it is not
   pub marks_kept : b ≡ true → Marks n (declare names vs (take (i + 1) us)) t

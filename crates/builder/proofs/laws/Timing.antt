@@ -77,13 +77,13 @@ module _ (bytes : List ℕ) (first end : ℕ) (order : first ≤ end) (room : 4 
         take-suc (words_from bytes first end) n 0 (omega (arith, length_from bytes first end order room)) ∙ ap (λ (x : ℕ). before n ++ x ∷ []) w
 
     -- the last of the words up to it is t
-    time_found : eqb (word_at bytes (4 * (first + n))) 0 ≡ true → last_time 0 none (before (suc n)) ≡ some n
+    pub time_found : eqb (word_at bytes (4 * (first + n))) 0 ≡ true → last_time 0 none (before (suc n)) ≡ some n
     time_found e =
         let l : length (before n) ≡ n = length-take-le n (words_from bytes first end) (omega (arith, length_from bytes first end order room)) in
         ap (last_time 0 none) (last_word ∙ ap (λ (w : ℕ). before n ++ w ∷ []) (eqb-true (word_at bytes (4 * (first + n))) 0 e)) ∙ time_behind (before n) 0 none ∙ ap some (omega (arith, l))
 
     -- or is not
-    time_passed : eqb (word_at bytes (4 * (first + n))) 0 ≡ false → last_time 0 none (before (suc n)) ≡ last_time 0 none (before n)
+    pub time_passed : eqb (word_at bytes (4 * (first + n))) 0 ≡ false → last_time 0 none (before (suc n)) ≡ last_time 0 none (before n)
     time_passed e = ap (last_time 0 none) last_word ∙ not_zero (before n) (word_at bytes (4 * (first + n))) (eqb-false (word_at bytes (4 * (first + n))) 0 e)
 
   -- the last t of the first n words

@@ -78,7 +78,7 @@ module _ (f : List ℕ) (s : Sections) (m : ℕ) (z : Sizes) (b : List ℕ) (v d
     abbrev b₁ : List ℕ
     b₁ = take q b ++ (ys ++ drop (length b - q) (drop q b))
 
-    next_put : b₁ ≡ put b (deps_at z + 4 * done) (bytes_of (at (scope_at (file_in f s) m).vars v).deps)
+    pub next_put : b₁ ≡ put b (deps_at z + 4 * done) (bytes_of (at (scope_at (file_in f s) m).vars v).deps)
     next_put =
         lent_behind b (bytes_of (kept_deps (roster_in f s m) (unknowns_in f s m) name)) ys q (4 * done) h.1
         ∙ ap₂ (λ (k : ℕ) (ws : List ℕ). put b (k + 4 * done) (bytes_of ws)) d (next_kept name e)
@@ -128,7 +128,7 @@ pub record Written (vs : List Variable) (z : Sizes) (b : List ℕ) (v done : ℕ
 
 module _ (vs : List Variable) (z : Sizes) (b : List ℕ) (vars : z.vars ≡ length vs) (few : length (each ds vs) ≤ 1024) (room : deps_at z + 4096 ≤ length b) where
   -- none yet
-  written_none : Written vs z b 0 0 b
+  pub written_none : Written vs z b 0 0 b
   unfolding each encode bytes_of
   written_none = record { count = refl; bytes = sym (put_none (put b (deps_at z) []) (vars_at z) ∙ put_none b (deps_at z)) }
 
@@ -151,7 +151,7 @@ module _ (vs : List Variable) (z : Sizes) (b : List ℕ) (vars : z.vars ≡ leng
     so_far_long = length_put b (bytes_of (each ds (take v vs))) (deps_at z) (omega (arith, deps_long, done_few, room))
 
     -- the length stays
-    written_long : length b' ≡ length b
+    pub written_long : length b' ≡ length b
     unfolding deps_at
     written_long =
         ap length w.bytes
@@ -159,12 +159,12 @@ module _ (vs : List Variable) (z : Sizes) (b : List ℕ) (vars : z.vars ≡ leng
         ∙ so_far_long
 
     -- there is room for the next one's dependents
-    next_few : v < length vs → done + length (at vs v).deps ≤ 1024
+    pub next_few : v < length vs → done + length (at vs v).deps ≤ 1024
     unfolding at
     next_few h = omega (arith, w.count, each_fits ds vs (v + 1), few, ap length (each_take ds vs no_variable v h), length-append (each ds (take v vs)) (get_or vs v no_variable).deps)
 
     -- its record is as it was
-    next_name : v < length vs → get_or (names_in b' z) v 0 ≡ get_or (names_in b z) v 0
+    pub next_name : v < length vs → get_or (names_in b' z) v 0 ≡ get_or (names_in b z) v 0
     unfolding deps_at column word_of
     next_name h =
         let n : vars_at z + v * 48 ≡ vars_at z + 48 * v = omega arith in
@@ -180,7 +180,7 @@ module _ (vs : List Variable) (z : Sizes) (b : List ℕ) (vars : z.vars ≡ leng
         ListN.get_or-map (λ r. get_or r 0 0) (area_vars b' z) v [] ∙ ap (λ (r : List ℕ). get_or r 0 0) r ∙ sym (ListN.get_or-map (λ r. get_or r 0 0) (area_vars b z) v [])
 
     -- one more
-    written_more : v < length vs → (b'' : List ℕ)
+    pub written_more : v < length vs → (b'' : List ℕ)
         → b'' ≡ put (put b' (deps_at z + 4 * done) (bytes_of (at vs v).deps)) (vars_at z + 48 * v) (bytes_of (unheld_words is_time v done (at vs v)))
         → Written vs z b (v + 1) (done + length (at vs v).deps) b''
     unfolding deps_at at bytes_of untimed_records
@@ -206,7 +206,7 @@ module _ (vs : List Variable) (z : Sizes) (b : List ℕ) (vars : z.vars ≡ leng
         more_long = length_put b (bytes_of (each ds (take (v + 1) vs))) (deps_at z) (omega (arith, length_bytes (each ds (take (v + 1) vs)), each_fits ds vs (v + 1), few, room))
 
     -- all of them
-    written_all : length vs ≤ v → (done ≡ length (each ds vs)) × (b' ≡ put (put b (deps_at z) (bytes_of (each ds vs))) (vars_at z) (encode (untimed_records vs)))
+    pub written_all : length vs ≤ v → (done ≡ length (each ds vs)) × (b' ≡ put (put b (deps_at z) (bytes_of (each ds vs))) (vars_at z) (encode (untimed_records vs)))
     unfolding untimed_records
     written_all h =
         let t = take_all v vs h in

@@ -1,5 +1,5 @@
 // The fates of the flattened statements, in words 6 and 7 of their records in the area.
-ghost use Rattle.std.specs.Prelude.{◌≡◌, map, ◌+◌, ◌*◌, ◌≤◌, ◌<◌, length, drop, get_or};
+ghost use Rattle.std.specs.Prelude.{◌≡◌, map, ◌+◌, ◌*◌, ◌≤◌, ◌<◌, length, take, drop, get_or};
 ghost use Rattle.ast.specs.Words.{bytes_of};
 ghost use Rattle.ast.specs.Bytes.{put};
 ghost use Rattle.ast.specs.Encode.{encode};
@@ -36,8 +36,8 @@ fn write_fate<'a>(
     z: Sizes,
     roles: &[Role],
     i: usize,
-    queue: &'a [u16],
-) -> &'a [u16]
+    queue: &'a [u32],
+) -> &'a [u32]
     requires { Small z
         × (vars_at z ≤ length area.old)
         × (i < z.stmts)
@@ -51,33 +51,35 @@ fn write_fate<'a>(
     match roles[i] {
         Role::Neither => {
             if let Some((v, rest)) = queue.split_first() {
-                put_fate(area, z, i, Fate::Held, u32::from(*v));
+                put_fate(area, z, i, Fate::Held, *v);
                 return rest;
             }
             put_fate(area, z, i, Fate::LeftOver, 0);
         }
-        Role::Initial(v) => put_fate(area, z, i, Fate::Initial, u32::from(v)),
+        Role::Initial(v) => put_fate(area, z, i, Fate::Initial, v),
         Role::Rate(v) => {
             if has_rate(&roles[i + 1..], v) {
-                put_fate(area, z, i, Fate::Replaced, u32::from(v));
+                put_fate(area, z, i, Fate::Replaced, v);
             } else {
-                put_fate(area, z, i, Fate::Held, u32::from(v));
+                put_fate(area, z, i, Fate::Held, v);
             }
         }
     }
     queue
 }
 
-// Writes the fates of all statements, those left paired with the queued states in order.
+// Writes the fates of all statements, those left paired with the queued states in order; roles behind theirs are
+// not looked at.
 // By number: a statement's record is written by it, and a rate asks for the roles behind it.
-pub fn write_fates(area: &mut [u8], z: Sizes, roles: &[Role], states: &[u16])
+pub fn write_fates(area: &mut [u8], z: Sizes, roles: &[Role], states: &[u32])
     requires { Small z
         × (vars_at z ≤ length area.old)
-        × (length roles.now ≡ z.stmts) }
+        × (z.stmts ≤ length roles.now) }
     ensures { area.new ≡ put area.old (stmts_at z)
         (encode (fated (area_stmts area.old z)
-        (map fate_pair (fates_of states.now (map role_as roles.now))))) }
+        (map fate_pair (fates_of states.now (take z.stmts (map role_as roles.now)))))) }
 {
+    let roles = &roles[..z.stmts];
     let mut queue = states;
     for i in 0..z.stmts {
         queue = write_fate(area, z, roles, i, queue);

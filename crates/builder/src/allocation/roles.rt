@@ -10,7 +10,8 @@ ghost use Rattle.area.specs.Sections.{Small, nodes_end, vars_at, deps_at};
 ghost use Rattle.area.specs.Views.{nodes_seen, stmt_seen};
 ghost use Rattle.definitions.specs.Numbers.{most_names, wrong_start};
 ghost use Rattle.definitions.specs.Variables.{error};
-ghost use Rattle.area.specs.Listing.{kind_number, error_as, found_as, Listed, RoomFor};
+ghost use Rattle.area.specs.Listing.{kind_number, error_as, found_as};
+ghost use Rattle.area.specs.LentList.{Listed, RoomFor};
 ghost use Rattle.builder.specs.Allocating.{arg_node, start_at, short_by, role_as, start_role_by, found_start, StartFits, role_by, ArgIn, NumberIn, StartIn, entry_by, start_errors_by, rate_errors_by, role_errors_by};
 ghost use Rattle.builder.specs.Areas.{flat_seen, flats_seen, FlattenedSeen, NumberedSeen, indexes_seen, rates_seen};
 
@@ -32,8 +33,8 @@ use ast::numbers::same_number;
 pub enum Role {
     #[default]
     Neither,
-    Initial(u16),
-    Rate(u16),
+    Initial(u32),
+    Rate(u32),
 }
 
 // A left side that is a call by a variable's name: too short to reach the time index, or with a number there: the
@@ -124,7 +125,7 @@ fn start_role(area: &Area, start: Option<Start>, lower: f64) -> Role
         Some(Start::Number(v, arg)) => {
             let bits = area.node_bits(arg - 1, NODE_BITS);
             if same_number(bits, lower) {
-                Role::Initial(v)
+                Role::Initial(u32::from(v))
             } else {
                 Role::Neither
             }
@@ -157,7 +158,7 @@ fn allocate_stmt(area: &Area, numbers: &[u16], lower: f64, i: usize) -> Role
         return start_role(area, start, lower);
     }
     match numbers[area.stmt(i, STMT_NAME)].checked_sub(1) {
-        Some(v) if takes_rate(area, usize::from(v)) => Role::Rate(v),
+        Some(v) if takes_rate(area, usize::from(v)) => Role::Rate(u32::from(v)),
         _ => Role::Neither,
     }
 }

@@ -7,7 +7,8 @@ ghost use Rattle.definitions.specs.Numbers.{most_models, submodel_kind};
 ghost use Rattle.definitions.specs.Variables.{error, domain_errors, unknown_errors};
 ghost use Rattle.definitions.specs.Check.{Scope};
 ghost use Rattle.definitions.specs.Flatten.{model_at, order_errors, errors_of};
-ghost use Rattle.area.specs.Listing.{kind_number, Listed, RoomFor, error_as, found_as};
+ghost use Rattle.area.specs.Listing.{kind_number, error_as, found_as};
+ghost use Rattle.area.specs.LentList.{Listed, RoomFor};
 ghost use Rattle.builder.specs.Checking.{args_in, unknown_in, own_errors, missing_at};
 ghost use Rattle.builder.specs.Checking.{ArgsIn, StmtAt, Scoped};
 ghost use Rattle.builder.specs.Seen.{scope_seen, errors_seen};
@@ -15,8 +16,8 @@ ghost use Rattle.builder.specs.Seen.{scope_seen, errors_seen};
 use crate::errors::check::{Run, before_last, check_expr, found_at, has_keyword, run_of};
 use crate::errors::checked::{Checked, Tables};
 use crate::models::scope::{model_vars, no_marks};
-use crate::names::Class;
-use crate::source::Source;
+use crate::names::{Class, is_reserved};
+use crate::source::{Calls, Classed};
 use area::errors::{ErrorKind, Errors, Found};
 use ast::kinds::StmtKind;
 use ast::layout::{
@@ -59,51 +60,55 @@ fn unknown_error(file: &View, u: usize, passed: bool, kind: ErrorKind, name: usi
 }
 
 // Error 1: an unknown domain.
-fn domain_error(source: &Source, u: usize) -> Option<Found>
-    requires { u < source.now.file.sections.counts.unknowns }
+fn domain_error(names: &Classed, u: usize) -> Option<Found>
+    requires { u < names.now.file.sections.counts.unknowns }
     ensures { found_as result
-        ≡ domain_errors (file_seen source.now.file).names (unknown_in source.now.file.bytes.now source.now.file.sections u).span
-        (unknown_in source.now.file.bytes.now source.now.file.sections u).domain }
+        ≡ domain_errors (file_seen names.now.file).names
+        (unknown_in names.now.file.bytes.now names.now.file.sections u).span
+        (unknown_in names.now.file.bytes.now names.now.file.sections u).domain }
 {
-    match source.file.domain(u) {
+    match names.file.domain(u) {
         Domain::None => None,
         Domain::Span(_, _) => None,
         Domain::Named(n) => {
             let name = n as usize;
-            let class = source.classes[name];
+            let class = names.classes[name];
             let known = (class == Class::NonNegative) | (class == Class::Real);
-            unknown_error(&source.file, u, known, ErrorKind::UnknownDomain, name + 1)
+            unknown_error(&names.file, u, known, ErrorKind::UnknownDomain, name + 1)
         }
     }
 }
 
 // Errors 1 and 2 of unknown u.
-fn unknown_errors(source: &Source, u: usize, errors: &mut Errors)
-    requires { (u < source.now.file.sections.counts.unknowns)
+fn unknown_errors(names: &Classed, u: usize, errors: &mut Errors)
+    requires { (u < names.now.file.sections.counts.unknowns)
         × RoomFor errors.old
-        (unknown_errors (file_seen source.now.file).names (unknown_in source.now.file.bytes.now source.now.file.sections u)) }
+        (unknown_errors (file_seen names.now.file).names
+        (unknown_in names.now.file.bytes.now names.now.file.sections u)) }
     ensures { Listed errors.old
-        (unknown_errors (file_seen source.now.file).names (unknown_in source.now.file.bytes.now source.now.file.sections u)) errors.new }
+        (unknown_errors (file_seen names.now.file).names
+        (unknown_in names.now.file.bytes.now names.now.file.sections u)) errors.new }
 {
-    errors.list(domain_error(source, u));
-    let name = source.file.unknown(u, UNKNOWN_NAME);
-    let class = source.classes[name];
-    let usable = class != Class::Reserved;
-    errors.list(unknown_error(&source.file, u, usable, ErrorKind::ReservedName, name + 1));
+    errors.list(domain_error(names, u));
+    let name = names.file.unknown(u, UNKNOWN_NAME);
+    let class = names.classes[name];
+    let usable = !is_reserved(class) | (class == Class::Time);
+    errors.list(unknown_error(&names.file, u, usable, ErrorKind::ReservedName, name + 1));
 }
 
 // The same of the unknowns of model m.
-fn unknowns_errors(source: &Source, m: usize, errors: &mut Errors)
-    requires { (m < source.now.file.sections.counts.models)
+fn unknowns_errors(names: &Classed, m: usize, errors: &mut Errors)
+    requires { (m < names.now.file.sections.counts.models)
         × RoomFor errors.old
-        (each (unknown_errors (file_seen source.now.file).names) (model_at (file_seen source.now.file) m).unknowns) }
+        (each (unknown_errors (file_seen names.now.file).names) (model_at (file_seen names.now.file) m).unknowns) }
     ensures { Listed errors.old
-        (each (unknown_errors (file_seen source.now.file).names) (model_at (file_seen source.now.file) m).unknowns) errors.new }
+        (each (unknown_errors (file_seen names.now.file).names) (model_at (file_seen names.now.file) m).unknowns)
+        errors.new }
 {
-    let first = source.file.model(m, MODEL_FIRST_UNKNOWN);
-    let unknowns = source.file.model(m, MODEL_UNKNOWNS);
+    let first = names.file.model(m, MODEL_FIRST_UNKNOWN);
+    let unknowns = names.file.model(m, MODEL_UNKNOWNS);
     for u in first..first + unknowns {
-        unknown_errors(source, u, errors);
+        unknown_errors(names, u, errors);
     }
 }
 
@@ -146,13 +151,14 @@ fn missing_error(file: &View, q: usize) -> Found
 
 // The errors of an equation or a rate equation, statement q of model m.
 fn own_errors(tables: &Tables, vars: &[u16; MOST_NAMES], m: usize, q: usize, errors: &mut Errors)
-    requires { Scoped tables.now.source.now.file.bytes.now tables.now.source.now.file.sections m vars.now
-        × (q < tables.now.source.now.file.sections.counts.stmts)
-        × (kind_of_stmt (get_or (contents_seen tables.now.source.now.file).stmts q []) < submodel_kind)
-        × RoomFor errors.old (own_errors tables.now.source.now.file.bytes.now tables.now.source.now.file.sections m q) }
-    ensures { Listed errors.old (own_errors tables.now.source.now.file.bytes.now tables.now.source.now.file.sections m q) errors.new }
+    requires { Scoped tables.now.names.file.bytes.now tables.now.names.file.sections m vars.now
+        × (q < tables.now.names.file.sections.counts.stmts)
+        × (kind_of_stmt (get_or (contents_seen tables.now.names.file).stmts q []) < submodel_kind)
+        × RoomFor errors.old (own_errors tables.now.names.file.bytes.now tables.now.names.file.sections m q) }
+    ensures { Listed errors.old (own_errors tables.now.names.file.bytes.now tables.now.names.file.sections m q)
+        errors.new }
 {
-    let file = &tables.source.file;
+    let file = &tables.names.file;
     let at = Checked {
         nodes: file.nodes(),
         tables,
@@ -171,17 +177,18 @@ fn own_errors(tables: &Tables, vars: &[u16; MOST_NAMES], m: usize, q: usize, err
 // The errors that the submodel statement q brings in: those of the model that it calls, to a depth of k models, and
 // then those of its own arguments. No scope plays a part in them.
 #[cycle(add_submodel_builder_stmt_errors)]
-fn add_submodel(tables: &Tables, k: usize, q: usize, errors: &mut Errors)
-    requires { StmtAt tables.now.source.now.file.sections q k
-        × (kind_of_stmt (get_or (contents_seen tables.now.source.now.file).stmts q []) ≡ submodel_kind)
-        × ((c : Scope) → RoomFor errors.old (errors_seen tables.now.source.now.file k c q)) }
-    ensures { (c : Scope) → Listed errors.old (errors_seen tables.now.source.now.file k c q) errors.new }
+fn add_submodel(calls: &Calls, tables: &Tables, k: usize, q: usize, errors: &mut Errors)
+    requires { StmtAt tables.now.names.file.sections q k
+        × (kind_of_stmt (get_or (contents_seen tables.now.names.file).stmts q []) ≡ submodel_kind)
+        × ((c : Scope) → RoomFor errors.old (errors_seen tables.now.names.file k c q))
+        × (calls.now.file ≡ tables.now.names.file) }
+    ensures { (c : Scope) → Listed errors.old (errors_seen tables.now.names.file k c q) errors.new }
 {
-    let file = &tables.source.file;
-    let Some(c) = tables.source.callee(q) else {
+    let file = &tables.names.file;
+    let Some(c) = calls.callee(q) else {
         return errors.put(missing_error(file, q));
     };
-    builder(tables, k, c, errors);
+    builder(calls, tables, k, c, errors);
     let nodes = file.nodes();
     let run = run_of(&nodes, file.stmt(q, STMT_RIGHT));
     order_errors(&nodes, run, errors);
@@ -189,44 +196,53 @@ fn add_submodel(tables: &Tables, k: usize, q: usize, errors: &mut Errors)
 
 // The errors of the statement at a place.
 #[cycle(add_submodel_builder_stmt_errors)]
-fn stmt_errors(tables: &Tables, vars: &[u16; MOST_NAMES], place: Place, errors: &mut Errors)
-    requires { Scoped tables.now.source.now.file.bytes.now tables.now.source.now.file.sections place.model vars.now
-        × StmtAt tables.now.source.now.file.sections place.stmt place.depth
+fn stmt_errors(
+    calls: &Calls,
+    tables: &Tables,
+    vars: &[u16; MOST_NAMES],
+    place: Place,
+    errors: &mut Errors,
+)
+    requires { Scoped tables.now.names.file.bytes.now tables.now.names.file.sections place.model vars.now
+        × StmtAt tables.now.names.file.sections place.stmt place.depth
         × RoomFor errors.old
-        (errors_seen tables.now.source.now.file place.depth (scope_seen tables.now.source.now.file place.model) place.stmt) }
+        (errors_seen tables.now.names.file place.depth (scope_seen tables.now.names.file place.model) place.stmt)
+        × (calls.now.file ≡ tables.now.names.file) }
     ensures { Listed errors.old
-        (errors_seen tables.now.source.now.file place.depth (scope_seen tables.now.source.now.file place.model) place.stmt) errors.new }
+        (errors_seen tables.now.names.file place.depth (scope_seen tables.now.names.file place.model) place.stmt)
+        errors.new }
 {
     let q = place.stmt;
-    if !tables.source.file.is_stmt(q, StmtKind::Submodel) {
+    if !tables.names.file.is_stmt(q, StmtKind::Submodel) {
         return own_errors(tables, vars, place.model, q, errors);
     }
-    add_submodel(tables, place.depth, q, errors);
+    add_submodel(calls, tables, place.depth, q, errors);
 }
 
 // The errors of model m, to a depth of k models.
 #[cycle(add_submodel_builder_stmt_errors)]
-pub fn builder(tables: &Tables, k: usize, m: usize, errors: &mut Errors)
-    requires { (m < tables.now.source.now.file.sections.counts.models)
+pub fn builder(calls: &Calls, tables: &Tables, k: usize, m: usize, errors: &mut Errors)
+    requires { (m < tables.now.names.file.sections.counts.models)
         × (k ≤ most_models)
-        × RoomFor errors.old (errors_of (file_seen tables.now.source.now.file) k m) }
-    ensures { Listed errors.old (errors_of (file_seen tables.now.source.now.file) k m) errors.new }
+        × RoomFor errors.old (errors_of (file_seen tables.now.names.file) k m)
+        × (calls.now.file ≡ tables.now.names.file) }
+    ensures { Listed errors.old (errors_of (file_seen tables.now.names.file) k m) errors.new }
 {
     if k == 0 {
         return;
     }
-    let source = tables.source;
+    let names = &tables.names;
     let mut vars = no_marks();
-    model_vars(source, m, &mut vars);
-    let first = source.file.model(m, MODEL_FIRST_STMT);
-    let stmts = source.file.model(m, MODEL_STMTS);
-    unknowns_errors(source, m, errors);
+    model_vars(names, m, &mut vars);
+    let first = names.file.model(m, MODEL_FIRST_STMT);
+    let stmts = names.file.model(m, MODEL_STMTS);
+    unknowns_errors(names, m, errors);
     for q in first..first + stmts {
         let place = Place {
             model: m,
             stmt: q,
             depth: k - 1,
         };
-        stmt_errors(tables, &vars, place, errors);
+        stmt_errors(calls, tables, &vars, place, errors);
     }
 }

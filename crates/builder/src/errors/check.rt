@@ -7,14 +7,15 @@ ghost use Rattle.ast.specs.Views.{nodes_seen};
 ghost use Rattle.definitions.specs.Numbers.{most_names};
 ghost use Rattle.definitions.specs.Variables.{error};
 ghost use Rattle.definitions.specs.Check.{lookup, has_keyword, keyword_errors, expr_errors, args_errors};
-ghost use Rattle.area.specs.Listing.{kind_number, Listed, RoomFor, found_as};
+ghost use Rattle.area.specs.Listing.{kind_number, found_as};
+ghost use Rattle.area.specs.LentList.{Listed, RoomFor};
 ghost use Rattle.builder.specs.Checking.{args_in, before_last, run_of, dependents_at};
 ghost use Rattle.builder.specs.Checking.{variable_at, call_at, name_absent, CallIn, ArgsIn};
 ghost use Rattle.builder.specs.Seen.{scope_checked, nodes_checked, ExprOf, CallOf, ArgsOf};
 
 use crate::errors::checked::Checked;
 use crate::models::scope::is_dep_of;
-use crate::names::Class;
+use crate::names::is_built_in;
 use area::errors::{ErrorKind, Errors, Found};
 use ast::kinds::NodeKind;
 use ast::layout::{NODE_FROM, NODE_NAME, NODE_OP, NODE_SIZE, NODE_TO};
@@ -141,7 +142,7 @@ fn arg_errors(at: &Checked, variable: usize, run: Run, errors: &mut Errors)
         return errors.list(found);
     }
     let kept = is_dep_of(
-        &at.tables.source.file,
+        &at.tables.names.file,
         at.vars,
         at.model,
         variable,
@@ -194,7 +195,8 @@ fn call_errors(at: &Checked, i: usize, errors: &mut Errors)
 {
     let name = at.nodes.word(i, NODE_NAME);
     let run = run_of(&at.nodes, i);
-    let allowed = rule_allows(at.tables.rules[name], run.args);
+    let tables = at.tables;
+    let allowed = rule_allows(tables.rules[name], run.args);
     let found = found_at(
         &at.nodes,
         i,
@@ -203,7 +205,7 @@ fn call_errors(at: &Checked, i: usize, errors: &mut Errors)
         name + 1,
     );
     errors.list(found);
-    if at.tables.source.classes[name] == Class::BuiltIn {
+    if is_built_in(tables.names.classes[name]) {
         return keyword_errors(&at.nodes, run, errors);
     }
     variable_errors(at, i, errors);

@@ -12,7 +12,7 @@ ghost use Rattle.builder.specs.Descent.{flat_at, brought_at, RowsAt, RowsKept, O
 ghost use Rattle.builder.specs.Extents.{Counted, Extended};
 
 use crate::flattening::replacements::find_replacements;
-use crate::source::Source;
+use crate::source::Calls;
 use ast::kinds::StmtKind;
 use ast::layout::{MODEL_FIRST_STMT, MODEL_STMTS, MOST_NODES, MOST_STMTS, STMT_LEFT, STMT_RIGHT};
 use ast::subst::measure_expr;
@@ -29,11 +29,11 @@ pub struct FlatExtent {
 
 // The instances of model m, to a depth of k models, at most `most`: 1 for itself plus those of each submodel statement.
 #[cycle(instances_stmt_instances)]
-pub fn instances(source: &Source, k: usize, m: usize, most: usize) -> usize
-    requires { (m < source.now.file.sections.counts.models)
+pub fn instances(calls: &Calls, k: usize, m: usize, most: usize) -> usize
+    requires { (m < calls.now.file.sections.counts.models)
         × (k ≤ most_models)
         × (most ≤ most_instances + 1) }
-    ensures { result ≡ at_most most (Flatten.instances (file_seen source.now.file) k m) }
+    ensures { result ≡ at_most most (Flatten.instances (file_seen calls.now.file) k m) }
 {
     if k == 0 {
         return 0;
@@ -41,27 +41,27 @@ pub fn instances(source: &Source, k: usize, m: usize, most: usize) -> usize
     if most == 0 {
         return 0;
     }
-    let first = source.file.model(m, MODEL_FIRST_STMT);
-    let count = source.file.model(m, MODEL_STMTS);
+    let first = calls.file.model(m, MODEL_FIRST_STMT);
+    let count = calls.file.model(m, MODEL_STMTS);
     let mut total = 1;
     for q in first..first + count {
-        total += stmt_instances(source, k - 1, q, most - total);
+        total += stmt_instances(calls, k - 1, q, most - total);
     }
     total
 }
 
 // Those of the model that statement q calls, if it calls one.
 #[cycle(instances_stmt_instances)]
-fn stmt_instances(source: &Source, k: usize, q: usize, most: usize) -> usize
-    requires { (q < source.now.file.sections.counts.stmts)
+fn stmt_instances(calls: &Calls, k: usize, q: usize, most: usize) -> usize
+    requires { (q < calls.now.file.sections.counts.stmts)
         × (k ≤ most_models)
         × (most ≤ most_instances + 1) }
-    ensures { result ≡ at_most most (sum_of (λ j. Flatten.instances (file_seen source.now.file) k j)
-        (Flatten.stmt_models (file_seen source.now.file)
-        (stmt_of (contents_seen source.now.file).nodes (get_or (contents_seen source.now.file).stmts q [])))) }
+    ensures { result ≡ at_most most (sum_of (λ j. Flatten.instances (file_seen calls.now.file) k j)
+        (Flatten.stmt_models (file_seen calls.now.file)
+        (stmt_of (contents_seen calls.now.file).nodes (get_or (contents_seen calls.now.file).stmts q [])))) }
 {
-    match source.callee(q) {
-        Some(c) => instances(source, k, c, most),
+    match calls.callee(q) {
+        Some(c) => instances(calls, k, c, most),
         None => 0,
     }
 }
@@ -99,27 +99,27 @@ fn own_extent(file: &View, rows: &[u16], level: usize, q: usize, done: FlatExten
 // `write_flats` has the same shape, and stays apart: it has room for all and asks for no limit.
 #[cycle(flat_extent_stmt_extent)]
 pub fn flat_extent(
-    source: &Source,
+    calls: &Calls,
     rows: &mut [u16],
     k: usize,
     m: usize,
     level: usize,
     done: FlatExtent,
 ) -> FlatExtent
-    requires { (m < source.now.file.sections.counts.models)
-        × RowsAt source.now.file.bytes.now source.now.file.sections rows.old (level + k)
+    requires { (m < calls.now.file.sections.counts.models)
+        × RowsAt calls.now.file.bytes.now calls.now.file.sections rows.old (level + k)
         × Counted done }
-    ensures { Extended done (flat_at source.now.file.bytes.now source.now.file.sections rows.old level k m) result
-        × RowsKept source.now.file.bytes.now source.now.file.sections level rows.old rows.new }
+    ensures { Extended done (flat_at calls.now.file.bytes.now calls.now.file.sections rows.old level k m) result
+        × RowsKept calls.now.file.bytes.now calls.now.file.sections level rows.old rows.new }
 {
     if k == 0 {
         return done;
     }
-    let first = source.file.model(m, MODEL_FIRST_STMT);
-    let count = source.file.model(m, MODEL_STMTS);
+    let first = calls.file.model(m, MODEL_FIRST_STMT);
+    let count = calls.file.model(m, MODEL_STMTS);
     let mut total = done;
     for q in first..first + count {
-        total = stmt_extent(source, rows, k - 1, q, level, total);
+        total = stmt_extent(calls, rows, k - 1, q, level, total);
     }
     total
 }
@@ -128,31 +128,31 @@ pub fn flat_extent(
 // mosts.
 #[cycle(flat_extent_stmt_extent)]
 fn stmt_extent(
-    source: &Source,
+    calls: &Calls,
     rows: &mut [u16],
     k: usize,
     q: usize,
     level: usize,
     done: FlatExtent,
 ) -> FlatExtent
-    requires { (q < source.now.file.sections.counts.stmts)
-        × RowsAt source.now.file.bytes.now source.now.file.sections rows.old (level + k + 1)
+    requires { (q < calls.now.file.sections.counts.stmts)
+        × RowsAt calls.now.file.bytes.now calls.now.file.sections rows.old (level + k + 1)
         × Counted done }
-    ensures { Extended done (brought_at source.now.file.bytes.now source.now.file.sections rows.old level
-        (λ j. Flatten.flatten (file_seen source.now.file) k j) q) result
-        × RowsKept source.now.file.bytes.now source.now.file.sections level rows.old rows.new }
+    ensures { Extended done (brought_at calls.now.file.bytes.now calls.now.file.sections rows.old level
+        (λ j. Flatten.flatten (file_seen calls.now.file) k j) q) result
+        × RowsKept calls.now.file.bytes.now calls.now.file.sections level rows.old rows.new }
 {
     if (MOST_STMTS < done.stmts) & (MOST_NODES < done.nodes) {
         return done;
     }
-    if !source.file.is_stmt(q, StmtKind::Submodel) {
-        return own_extent(&source.file, rows, level, q, done);
+    if !calls.file.is_stmt(q, StmtKind::Submodel) {
+        return own_extent(&calls.file, rows, level, q, done);
     }
-    match source.callee(q) {
+    match calls.callee(q) {
         Some(c) if k != 0 => {
-            let call = source.file.stmt(q, STMT_RIGHT);
-            find_replacements(&source.file, c, call, rows, level);
-            flat_extent(source, rows, k, c, level + 1, done)
+            let call = calls.file.stmt(q, STMT_RIGHT);
+            find_replacements(&calls.file, c, call, rows, level);
+            flat_extent(calls, rows, k, c, level + 1, done)
         },
         _ => done,
     }

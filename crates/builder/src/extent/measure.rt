@@ -25,14 +25,15 @@ fn forbidden(source: &Source, m: usize) -> Result<(), Refusal>
     requires { m < source.now.file.sections.counts.models }
     ensures { forbidden_as result ≡ forbidden_of (file_seen source.now.file) m }
 {
-    let table = reach(source);
+    let calls = source.calls();
+    let table = reach(&calls);
     if cyclic(&source.file, &table, m) {
         return Err(Refusal::ModelCycle);
     }
-    if self_listed(source, &table, m) {
+    if self_listed(&source.names(), &table, m) {
         return Err(Refusal::SelfListedUnknown);
     }
-    if overfull(source, &table, m) {
+    if overfull(&calls, &table, m) {
         return Err(Refusal::ArgumentBeyond);
     }
     Ok(())
@@ -46,12 +47,13 @@ fn size(source: &Source, rows: &mut [u16], m: usize) -> Result<Extent, Refusal>
         × RowsAt source.now.file.bytes.now source.now.file.sections rows.new source.now.file.sections.counts.models }
 {
     let k = source.file.sections.counts.models;
-    let i = instances(source, k, m, MOST_INSTANCES + 1);
+    let calls = source.calls();
+    let i = instances(&calls, k, m, MOST_INSTANCES + 1);
     if MOST_INSTANCES < i {
         return Err(Refusal::OverMost);
     }
     let none = FlatExtent { stmts: 0, nodes: 0 };
-    let flat = flat_extent(source, rows, k, m, 0, none);
+    let flat = flat_extent(&calls, rows, k, m, 0, none);
     if (MOST_STMTS < flat.stmts) | (MOST_NODES < flat.nodes) {
         return Err(Refusal::OverMost);
     }

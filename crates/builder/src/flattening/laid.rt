@@ -12,7 +12,7 @@ ghost use Rattle.builder.specs.Root.{flats_of};
 ghost use Rattle.builder.specs.Laying.{Laying};
 
 use crate::flattening::statements::{Written, write_flats};
-use crate::source::Source;
+use crate::source::Calls;
 use area::layout::{HEADER_BYTES, MOST_BYTES};
 use ast::layout::NODE_BYTES;
 
@@ -34,13 +34,13 @@ pub fn blank() -> [u8; MOST_BYTES]
 }
 
 // Writes the nodes, n of them, and the statements' records.
-pub fn lay_flats(source: &Source, rows: &mut [u16], m: usize, area: &mut [u8], n: usize)
-    requires { Laying source.now.file.bytes.now source.now.file.sections rows.old m
-        × (n ≡ sum_of flat_size (flats_of (file_seen source.now.file) m))
+pub fn lay_flats(calls: &Calls, rows: &mut [u16], m: usize, area: &mut [u8], n: usize)
+    requires { Laying calls.now.file.bytes.now calls.now.file.sections rows.old m
+        × (n ≡ sum_of flat_size (flats_of (file_seen calls.now.file) m))
         × (length area.old ≡ most_bytes) }
     ensures { area.new ≡ put (put area.old nodes_at
-        (encode (each flat_nodes (flats_of (file_seen source.now.file) m)))) (nodes_end n)
-        (encode (unfated 0 (flats_of (file_seen source.now.file) m))) }
+        (encode (each flat_nodes (flats_of (file_seen calls.now.file) m)))) (nodes_end n)
+        (encode (unfated 0 (flats_of (file_seen calls.now.file) m))) }
 {
     // no record yet: the first comes behind all nodes
     let none = Written {
@@ -48,9 +48,9 @@ pub fn lay_flats(source: &Source, rows: &mut [u16], m: usize, area: &mut [u8], n
         end: NODE_BYTES * n,
     };
     write_flats(
-        source,
+        calls,
         rows,
-        source.file.sections.counts.models,
+        calls.file.sections.counts.models,
         m,
         0,
         &mut area[HEADER_BYTES..],

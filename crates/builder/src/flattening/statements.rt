@@ -15,7 +15,7 @@ ghost use Rattle.builder.specs.Descent.{flat_at, brought_at, RowsAt, RowsKept, E
 ghost use Rattle.builder.specs.Unfated.{FlatsFit, FlatsPut};
 
 use crate::flattening::replacements::find_replacements;
-use crate::source::Source;
+use crate::source::Calls;
 use area::layout::STMT_BYTES;
 use ast::kinds::StmtKind;
 use ast::layout::{
@@ -115,7 +115,7 @@ fn write_own(
 // Writes model m's flattened statements, whose trees are read at a level, behind those done.
 #[cycle(write_flats_write_stmt)]
 pub fn write_flats(
-    source: &Source,
+    calls: &Calls,
     rows: &mut [u16],
     k: usize,
     m: usize,
@@ -123,22 +123,22 @@ pub fn write_flats(
     out: &mut [u8],
     done: Written,
 ) -> Written
-    requires { (m < source.now.file.sections.counts.models)
-        × RowsAt source.now.file.bytes.now source.now.file.sections rows.old (level + k)
-        × FlatsFit done (flat_at source.now.file.bytes.now source.now.file.sections rows.old level k m)
+    requires { (m < calls.now.file.sections.counts.models)
+        × RowsAt calls.now.file.bytes.now calls.now.file.sections rows.old (level + k)
+        × FlatsFit done (flat_at calls.now.file.bytes.now calls.now.file.sections rows.old level k m)
         (length out.old) }
-    ensures { FlatsPut done out.old (flat_at source.now.file.bytes.now source.now.file.sections rows.old level k m)
+    ensures { FlatsPut done out.old (flat_at calls.now.file.bytes.now calls.now.file.sections rows.old level k m)
         result out.new
-        × RowsKept source.now.file.bytes.now source.now.file.sections level rows.old rows.new }
+        × RowsKept calls.now.file.bytes.now calls.now.file.sections level rows.old rows.new }
 {
     if k == 0 {
         return done;
     }
-    let first = source.file.model(m, MODEL_FIRST_STMT);
-    let count = source.file.model(m, MODEL_STMTS);
+    let first = calls.file.model(m, MODEL_FIRST_STMT);
+    let count = calls.file.model(m, MODEL_STMTS);
     let mut total = done;
     for q in first..first + count {
-        total = write_stmt(source, rows, k - 1, q, level, out, total);
+        total = write_stmt(calls, rows, k - 1, q, level, out, total);
     }
     total
 }
@@ -146,7 +146,7 @@ pub fn write_flats(
 // Writes what statement q brings in.
 #[cycle(write_flats_write_stmt)]
 fn write_stmt(
-    source: &Source,
+    calls: &Calls,
     rows: &mut [u16],
     k: usize,
     q: usize,
@@ -154,22 +154,22 @@ fn write_stmt(
     out: &mut [u8],
     done: Written,
 ) -> Written
-    requires { (q < source.now.file.sections.counts.stmts)
-        × RowsAt source.now.file.bytes.now source.now.file.sections rows.old (level + k + 1)
-        × FlatsFit done (brought_at source.now.file.bytes.now source.now.file.sections rows.old level
-        (λ j. flatten (file_seen source.now.file) k j) q) (length out.old) }
-    ensures { FlatsPut done out.old (brought_at source.now.file.bytes.now source.now.file.sections rows.old level
-        (λ j. flatten (file_seen source.now.file) k j) q) result out.new
-        × RowsKept source.now.file.bytes.now source.now.file.sections level rows.old rows.new }
+    requires { (q < calls.now.file.sections.counts.stmts)
+        × RowsAt calls.now.file.bytes.now calls.now.file.sections rows.old (level + k + 1)
+        × FlatsFit done (brought_at calls.now.file.bytes.now calls.now.file.sections rows.old level
+        (λ j. flatten (file_seen calls.now.file) k j) q) (length out.old) }
+    ensures { FlatsPut done out.old (brought_at calls.now.file.bytes.now calls.now.file.sections rows.old level
+        (λ j. flatten (file_seen calls.now.file) k j) q) result out.new
+        × RowsKept calls.now.file.bytes.now calls.now.file.sections level rows.old rows.new }
 {
-    if !source.file.is_stmt(q, StmtKind::Submodel) {
-        return write_own(&source.file, rows, level, q, out, done);
+    if !calls.file.is_stmt(q, StmtKind::Submodel) {
+        return write_own(&calls.file, rows, level, q, out, done);
     }
-    match source.callee(q) {
+    match calls.callee(q) {
         Some(c) if k != 0 => {
-            let call = source.file.stmt(q, STMT_RIGHT);
-            find_replacements(&source.file, c, call, rows, level);
-            write_flats(source, rows, k, c, level + 1, out, done)
+            let call = calls.file.stmt(q, STMT_RIGHT);
+            find_replacements(&calls.file, c, call, rows, level);
+            write_flats(calls, rows, k, c, level + 1, out, done)
         },
         _ => done,
     }

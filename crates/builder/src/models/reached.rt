@@ -10,9 +10,9 @@ ghost use Rattle.builder.specs.Checking.{unknown_in, stmt_in};
 ghost use Rattle.builder.specs.Rounds.{model_pairs, onward, Added, Stepped, RowsOf};
 
 use crate::models::scope::names_dep;
-use crate::names::Class;
-use crate::numbers::MODEL_PAIRS;
-use crate::source::Source;
+use crate::names::{Class, is_reserved};
+use crate::numbers::{MODEL_PAIRS, NEXT_DIAGONAL};
+use crate::source::{Calls, Classed};
 use ast::layout::{
     MODEL_FIRST_STMT, MODEL_FIRST_UNKNOWN, MODEL_STMTS, MODEL_UNKNOWNS, MOST_MODELS, NODE_NAME,
     NODE_OP, NODE_SIZE, STMT_RIGHT, UNKNOWN_NAME,
@@ -40,57 +40,57 @@ fn add_reached(old: &[u8], models: usize, c: usize, new: &mut [u8], a: usize)
 }
 
 // The same for the model that statement q calls, if it calls one.
-fn add_called(source: &Source, old: &[u8], q: usize, new: &mut [u8], a: usize)
+fn add_called(calls: &Calls, old: &[u8], q: usize, new: &mut [u8], a: usize)
     requires { (length old.now ≡ model_pairs)
         × (length new.old ≡ model_pairs)
-        × (q < source.now.file.sections.counts.stmts)
-        × (a < source.now.file.sections.counts.models) }
-    ensures { Added source.now.file.sections.counts.models a (λ y. any (onward old.now y)
-        (flatten.stmt_models (file_seen source.now.file)
-        (stmt_in source.now.file.bytes.now source.now.file.sections q))) new.old new.new }
+        × (q < calls.now.file.sections.counts.stmts)
+        × (a < calls.now.file.sections.counts.models) }
+    ensures { Added calls.now.file.sections.counts.models a (λ y. any (onward old.now y)
+        (flatten.stmt_models (file_seen calls.now.file)
+        (stmt_in calls.now.file.bytes.now calls.now.file.sections q))) new.old new.new }
 {
-    if let Some(c) = source.callee(q) {
-        add_reached(old, source.file.sections.counts.models, c, new, a);
+    if let Some(c) = calls.callee(q) {
+        add_reached(old, calls.file.sections.counts.models, c, new, a);
     }
 }
 
 // Row a of the next table: what model a's statements add.
 // The tables go as slices with their length as a clause: the new one is filled row by row.
-fn reach_row(source: &Source, old: &[u8], a: usize, new: &mut [u8])
+fn reach_row(calls: &Calls, old: &[u8], a: usize, new: &mut [u8])
     requires { (length old.now ≡ model_pairs)
-        × (a < source.now.file.sections.counts.models)
-        × Stepped (file_seen source.now.file) source.now.file.sections.counts.models old.now a new.old }
-    ensures { Stepped (file_seen source.now.file) source.now.file.sections.counts.models old.now (a + 1)
+        × (a < calls.now.file.sections.counts.models)
+        × Stepped (file_seen calls.now.file) calls.now.file.sections.counts.models old.now a new.old }
+    ensures { Stepped (file_seen calls.now.file) calls.now.file.sections.counts.models old.now (a + 1)
         new.new }
 {
-    let first = source.file.model(a, MODEL_FIRST_STMT);
-    let count = source.file.model(a, MODEL_STMTS);
+    let first = calls.file.model(a, MODEL_FIRST_STMT);
+    let count = calls.file.model(a, MODEL_STMTS);
     for q in first..first + count {
-        add_called(source, old, q, new, a);
+        add_called(calls, old, q, new, a);
     }
 }
 
 // The next table: one step more.
-fn reach_round(source: &Source, old: &[u8]) -> [u8; MODEL_PAIRS]
+fn reach_round(calls: &Calls, old: &[u8]) -> [u8; MODEL_PAIRS]
     requires { length old.now ≡ model_pairs }
-    ensures { Stepped (file_seen source.now.file) source.now.file.sections.counts.models old.now
-        source.now.file.sections.counts.models result }
+    ensures { Stepped (file_seen calls.now.file) calls.now.file.sections.counts.models old.now
+        calls.now.file.sections.counts.models result }
 {
     let mut new = [0u8; MODEL_PAIRS];
-    for a in 0..source.file.sections.counts.models {
-        reach_row(source, old, a, &mut new);
+    for a in 0..calls.file.sections.counts.models {
+        reach_row(calls, old, a, &mut new);
     }
     new
 }
 
 // Whether model b is reached from model a, at 32 a + b: one flat table, since `Reaching` speaks of one list.
 // 0 and 1 and no bools: its `flag` has them so, and whole rows are joined at once (`either`).
-pub fn reach(source: &Source) -> [u8; MODEL_PAIRS]
-    ensures { ReachedIn source.now.file.bytes.now source.now.file.sections result }
+pub fn reach(calls: &Calls) -> [u8; MODEL_PAIRS]
+    ensures { ReachedIn calls.now.file.bytes.now calls.now.file.sections result }
 {
     let mut table = [0u8; MODEL_PAIRS];
-    for _ in 0..source.file.sections.counts.models {
-        table = reach_round(source, &table);
+    for _ in 0..calls.file.sections.counts.models {
+        table = reach_round(calls, &table);
     }
     table
 }
@@ -106,14 +106,15 @@ fn is_reached(file: &View, table: &[u8; MODEL_PAIRS], root: usize, m: usize) -> 
 }
 
 // Whether unknown u, t or unreserved, lists itself.
-fn lists_itself(source: &Source, u: usize) -> bool
-    requires { u < source.now.file.sections.counts.unknowns }
-    ensures { result ≡ flatten.lists_itself (file_seen source.now.file)
-        (unknown_in source.now.file.bytes.now source.now.file.sections u) }
+fn lists_itself(names: &Classed, u: usize) -> bool
+    requires { u < names.now.file.sections.counts.unknowns }
+    ensures { result ≡ flatten.lists_itself (file_seen names.now.file)
+        (unknown_in names.now.file.bytes.now names.now.file.sections u) }
 {
-    let name = source.file.unknown(u, UNKNOWN_NAME);
-    let class = source.classes[name];
-    class != Class::Reserved && names_dep(&source.file, u, name)
+    let name = names.file.unknown(u, UNKNOWN_NAME);
+    let class = names.classes[name];
+    let usable = (class == Class::Time) | !is_reserved(class);
+    usable && names_dep(&names.file, u, name)
 }
 
 // Whether a positional argument of a call has a number that is not below n.
@@ -138,16 +139,16 @@ fn beyond(file: &View, call: usize, n: usize) -> bool
 }
 
 // Whether statement q calls a model with a positional argument whose number is not below the model's count of unknowns.
-fn too_many(source: &Source, q: usize) -> bool
-    requires { q < source.now.file.sections.counts.stmts }
-    ensures { result ≡ flatten.stmt_beyond (file_seen source.now.file)
-        (stmt_in source.now.file.bytes.now source.now.file.sections q) }
+fn too_many(calls: &Calls, q: usize) -> bool
+    requires { q < calls.now.file.sections.counts.stmts }
+    ensures { result ≡ flatten.stmt_beyond (file_seen calls.now.file)
+        (stmt_in calls.now.file.bytes.now calls.now.file.sections q) }
 {
-    let Some(c) = source.callee(q) else {
+    let Some(c) = calls.callee(q) else {
         return false;
     };
-    let call = source.file.stmt(q, STMT_RIGHT);
-    beyond(&source.file, call, source.file.model(c, MODEL_UNKNOWNS))
+    let call = calls.file.stmt(q, STMT_RIGHT);
+    beyond(&calls.file, call, calls.file.model(c, MODEL_UNKNOWNS))
 }
 
 // Whether a model, the root or reached from it, passes a test.
@@ -174,46 +175,46 @@ pub fn cyclic(file: &View, table: &[u8; MODEL_PAIRS], root: usize) -> bool
         × (root < file.now.sections.counts.models) }
     ensures { result ≡ flatten.cyclic (file_seen file.now) root }
 {
-    any_reached(file, table, root, |m| table[MOST_MODELS * m + m] == 1)
+    any_reached(file, table, root, |m| table[NEXT_DIAGONAL * m] == 1)
 }
 
 // Whether an unknown of model m lists itself.
-fn has_self_listed(source: &Source, m: usize) -> bool
-    requires { m < source.now.file.sections.counts.models }
-    ensures { result ≡ any (flatten.lists_itself (file_seen source.now.file))
-        (flatten.model_at (file_seen source.now.file) m).unknowns }
+fn has_self_listed(names: &Classed, m: usize) -> bool
+    requires { m < names.now.file.sections.counts.models }
+    ensures { result ≡ any (flatten.lists_itself (file_seen names.now.file))
+        (flatten.model_at (file_seen names.now.file) m).unknowns }
 {
-    let first = source.file.model(m, MODEL_FIRST_UNKNOWN);
-    let count = source.file.model(m, MODEL_UNKNOWNS);
-    (first..first + count).any(|u| lists_itself(source, u))
+    let first = names.file.model(m, MODEL_FIRST_UNKNOWN);
+    let count = names.file.model(m, MODEL_UNKNOWNS);
+    (first..first + count).any(|u| lists_itself(names, u))
 }
 
 // Whether a model, the root or reached from it, has an unknown that lists itself.
-pub fn self_listed(source: &Source, table: &[u8; MODEL_PAIRS], root: usize) -> bool
-    requires { (root < source.now.file.sections.counts.models)
-        × ReachedIn source.now.file.bytes.now source.now.file.sections table.now }
-    ensures { result ≡ flatten.self_listed (file_seen source.now.file) root }
+pub fn self_listed(names: &Classed, table: &[u8; MODEL_PAIRS], root: usize) -> bool
+    requires { (root < names.now.file.sections.counts.models)
+        × ReachedIn names.now.file.bytes.now names.now.file.sections table.now }
+    ensures { result ≡ flatten.self_listed (file_seen names.now.file) root }
 {
-    any_reached(&source.file, table, root, |m| has_self_listed(source, m))
+    any_reached(&names.file, table, root, |m| has_self_listed(names, m))
 }
 
 // Whether a statement of model m calls a model with an argument beyond that model's unknowns.
 // As `has_self_listed`, with a function of its own for its contract: the definition's test of one model.
-fn has_too_many(source: &Source, m: usize) -> bool
-    requires { m < source.now.file.sections.counts.models }
-    ensures { result ≡ any (flatten.stmt_beyond (file_seen source.now.file))
-        (flatten.model_at (file_seen source.now.file) m).stmts }
+fn has_too_many(calls: &Calls, m: usize) -> bool
+    requires { m < calls.now.file.sections.counts.models }
+    ensures { result ≡ any (flatten.stmt_beyond (file_seen calls.now.file))
+        (flatten.model_at (file_seen calls.now.file) m).stmts }
 {
-    let first = source.file.model(m, MODEL_FIRST_STMT);
-    let count = source.file.model(m, MODEL_STMTS);
-    (first..first + count).any(|q| too_many(source, q))
+    let first = calls.file.model(m, MODEL_FIRST_STMT);
+    let count = calls.file.model(m, MODEL_STMTS);
+    (first..first + count).any(|q| too_many(calls, q))
 }
 
 // Whether a model, the root or reached from it, has such a statement.
-pub fn overfull(source: &Source, table: &[u8; MODEL_PAIRS], root: usize) -> bool
-    requires { ReachedIn source.now.file.bytes.now source.now.file.sections table.now
-        × (root < source.now.file.sections.counts.models) }
-    ensures { result ≡ flatten.overfull (file_seen source.now.file) root }
+pub fn overfull(calls: &Calls, table: &[u8; MODEL_PAIRS], root: usize) -> bool
+    requires { ReachedIn calls.now.file.bytes.now calls.now.file.sections table.now
+        × (root < calls.now.file.sections.counts.models) }
+    ensures { result ≡ flatten.overfull (file_seen calls.now.file) root }
 {
-    any_reached(&source.file, table, root, |m| has_too_many(source, m))
+    any_reached(&calls.file, table, root, |m| has_too_many(calls, m))
 }

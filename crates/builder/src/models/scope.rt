@@ -12,7 +12,7 @@ ghost use Rattle.builder.specs.Tables.{Blank, VarsOf, Marks, kept_in};
 ghost use Rattle.builder.specs.Checking.{scope_in, kept_names, unknown_in, Scoped};
 
 use crate::names::{is_reserved, time_name};
-use crate::source::Source;
+use crate::source::Classed;
 use ast::layout::{
     MODEL_FIRST_UNKNOWN, MODEL_UNKNOWNS, MOST_NAMES, UNKNOWN_DEPS, UNKNOWN_FIRST_DEP, UNKNOWN_NAME,
 };
@@ -64,28 +64,28 @@ pub fn no_marks() -> [u16; MOST_NAMES]
 
 // Marks t's name, in a table without marks.
 // As `time_alone`, whose entry is a variable's number: here it is a mark.
-fn time_declared(source: &Source, out: &mut [u16])
+fn time_declared(names: &Classed, out: &mut [u16])
     requires { Blank most_names out.old }
-    ensures { Marks source.now.file.sections.counts.names (time_name (file_seen source.now.file).names ∷ []) out.new }
+    ensures { Marks names.now.file.sections.counts.names (time_name (file_seen names.now.file).names ∷ []) out.new }
 {
-    if let Some(time) = time_name(source) {
+    if let Some(time) = time_name(names) {
         out[time] = 1;
     }
 }
 
 // Marks the variables of model m, in a table without marks: t, and each unreserved unknown's name.
-fn declared(source: &Source, m: usize, out: &mut [u16])
-    requires { (m < source.now.file.sections.counts.models)
+fn declared(names: &Classed, m: usize, out: &mut [u16])
+    requires { (m < names.now.file.sections.counts.models)
         × Blank most_names out.old }
-    ensures { Marks source.now.file.sections.counts.names (variable_names (file_seen source.now.file).names
-        (model_at (file_seen source.now.file) m).unknowns) out.new }
+    ensures { Marks names.now.file.sections.counts.names (variable_names (file_seen names.now.file).names
+        (model_at (file_seen names.now.file) m).unknowns) out.new }
 {
-    time_declared(source, out);
-    let first = source.file.model(m, MODEL_FIRST_UNKNOWN);
-    let count = source.file.model(m, MODEL_UNKNOWNS);
+    time_declared(names, out);
+    let first = names.file.model(m, MODEL_FIRST_UNKNOWN);
+    let count = names.file.model(m, MODEL_UNKNOWNS);
     for u in first..first + count {
-        let name = source.file.unknown(u, UNKNOWN_NAME);
-        if !is_reserved(source.classes[name]) {
+        let name = names.file.unknown(u, UNKNOWN_NAME);
+        if !is_reserved(names.classes[name]) {
             out[name] = 1;
         }
     }
@@ -109,19 +109,19 @@ fn kept_count(file: &View, vars: &[u16], u: usize) -> u16
 // its kept dependents.
 // It goes over the unknowns as `declared` does, and behind it: a dependent is kept where its name is marked, so all
 // marks come first.
-pub fn model_vars(source: &Source, m: usize, out: &mut [u16])
-    requires { (m < source.now.file.sections.counts.models)
+pub fn model_vars(names: &Classed, m: usize, out: &mut [u16])
+    requires { (m < names.now.file.sections.counts.models)
         × Blank most_names out.old }
-    ensures { VarsOf (scope_in source.now.file.bytes.now source.now.file.sections m) out.new
+    ensures { VarsOf (scope_in names.now.file.bytes.now names.now.file.sections m) out.new
         × (length out.new ≡ most_names) }
 {
-    declared(source, m, out);
-    let first = source.file.model(m, MODEL_FIRST_UNKNOWN);
-    let count = source.file.model(m, MODEL_UNKNOWNS);
+    declared(names, m, out);
+    let first = names.file.model(m, MODEL_FIRST_UNKNOWN);
+    let count = names.file.model(m, MODEL_UNKNOWNS);
     for u in first..first + count {
-        let name = source.file.unknown(u, UNKNOWN_NAME);
+        let name = names.file.unknown(u, UNKNOWN_NAME);
         if out[name] != 0 {
-            out[name] += kept_count(&source.file, out, u);
+            out[name] += kept_count(&names.file, out, u);
         }
     }
 }

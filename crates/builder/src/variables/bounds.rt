@@ -12,7 +12,7 @@ ghost use Rattle.builder.specs.Bounding.{bounds_from, floats, Floating, case_bou
 ghost use Rattle.builder.specs.VarRecords.{var_bounds};
 
 use crate::names::Class;
-use crate::source::Source;
+use crate::source::Classed;
 use area::layout::FLOAT_BYTES;
 use ast::layout::{
     MODEL_FIRST_UNKNOWN, MODEL_UNKNOWNS, UNKNOWN_LOWER, UNKNOWN_NAME, UNKNOWN_UPPER,
@@ -58,35 +58,35 @@ fn domain_bounds(domain: Domain, time: bool, classes: &[Class]) -> Bounds
 }
 
 // The bounds of unknown u.
-fn unknown_bounds(source: &Source, u: usize) -> Bounds
-    requires { u < source.now.file.sections.counts.unknowns }
-    ensures { Floating (unknown_bounds source.now.file.bytes.now source.now.file.sections u) result }
+fn unknown_bounds(names: &Classed, u: usize) -> Bounds
+    requires { u < names.now.file.sections.counts.unknowns }
+    ensures { Floating (unknown_bounds names.now.file.bytes.now names.now.file.sections u) result }
 {
-    let name = source.file.unknown(u, UNKNOWN_NAME);
-    let class = source.classes[name];
-    let domain = source.file.domain(u);
-    domain_bounds(domain, class == Class::Time, &source.classes)
+    let name = names.file.unknown(u, UNKNOWN_NAME);
+    let class = names.classes[name];
+    let domain = names.file.domain(u);
+    domain_bounds(domain, class == Class::Time, names.classes)
 }
 
 // The bounds of unknown u; where there is none, those from 0 or the unbounded ones.
 // A match, as the definition has it: `map_or_else` is no plainer.
-fn declared_bounds(source: &Source, u: Option<usize>, floor: bool) -> Bounds
-    requires { IfSome u (λ i. i < source.now.file.sections.counts.unknowns) }
-    ensures { Floating (declared_bounds source.now.file.bytes.now source.now.file.sections u
+fn declared_bounds(names: &Classed, u: Option<usize>, floor: bool) -> Bounds
+    requires { IfSome u (λ i. i < names.now.file.sections.counts.unknowns) }
+    ensures { Floating (declared_bounds names.now.file.bytes.now names.now.file.sections u
         (bounds_from floor)) result }
 {
     match u {
-        Some(i) => unknown_bounds(source, i),
+        Some(i) => unknown_bounds(names, i),
         None => bounds_from(floor),
     }
 }
 
 // Time's bounds: those that model m declares last for the name (plus 1) of t, and from 0 where it declares none.
-pub fn time_bounds(source: &Source, m: usize, name: usize) -> Bounds
-    requires { m < source.now.file.sections.counts.models }
-    ensures { Floating (time_in source.now.file.bytes.now source.now.file.sections m name) result }
+pub fn time_bounds(names: &Classed, m: usize, name: usize) -> Bounds
+    requires { m < names.now.file.sections.counts.models }
+    ensures { Floating (time_in names.now.file.bytes.now names.now.file.sections m name) result }
 {
-    declared_bounds(source, last_declared(&source.file, m, name), true)
+    declared_bounds(names, last_declared(&names.file, m, name), true)
 }
 
 // The bits of a bound that unknown u declares, or that none does. A NaN has none of its own: they are the file's, from
@@ -131,31 +131,25 @@ pub fn put_bounds(b: Bounds, file: &View, u: Option<usize>, out: &mut [u8], plac
 // Writes the bounds of variable v, of a name (plus 1) of model m.
 // Variable 0 is t, with bounds of its own: the definition has that case here too (`var_bounds`).
 pub fn put_var_bounds(
-    source: &Source,
+    names: &Classed,
     m: usize,
     v: usize,
     name: usize,
     out: &mut [u8],
     place: usize,
 )
-    requires { (m < source.now.file.sections.counts.models)
+    requires { (m < names.now.file.sections.counts.models)
         × (place + 4 * bounds_length ≤ length out.old) }
     ensures { out.new ≡ put out.old place
-        (bytes_of (bounds_words (var_bounds (file_seen source.now.file).names
-        (model_at (file_seen source.now.file) m).unknowns v name))) }
+        (bytes_of (bounds_words (var_bounds (file_seen names.now.file).names
+        (model_at (file_seen names.now.file) m).unknowns v name))) }
 {
     if v == 0 {
-        put_bounds(bounds_from(true), &source.file, None, out, place);
+        put_bounds(bounds_from(true), &names.file, None, out, place);
         return;
     }
-    let u = last_declared(&source.file, m, name);
-    put_bounds(
-        declared_bounds(source, u, false),
-        &source.file,
-        u,
-        out,
-        place,
-    );
+    let u = last_declared(&names.file, m, name);
+    put_bounds(declared_bounds(names, u, false), &names.file, u, out, place);
 }
 
 // Writes time's bounds, those that model m declares last for the name (plus 1) of t.

@@ -6,7 +6,7 @@ ghost use Rattle.builder.specs.Tables.{Blank};
 ghost use Rattle.builder.specs.VariableTables.{roster_in, Numbers};
 ghost use Rattle.builder.specs.Root.{VarsRoom, VarsLaid};
 
-use crate::source::Source;
+use crate::source::Classed;
 use crate::variables::reaching::reach_time;
 use crate::variables::records::write_vars;
 use crate::variables::roster::roster_of;
@@ -16,22 +16,22 @@ use area::sections::Sizes;
 // without entries, and gives the sizes.
 // Nodes and statements go by themselves: an extent has instances too, of which this knows nothing.
 pub fn lay_vars(
-    source: &Source,
+    names: &Classed,
     m: usize,
     area: &mut [u8],
     n: usize,
     q: usize,
     numbers: &mut [u16],
 ) -> Sizes
-    requires { (m < source.now.file.sections.counts.models)
+    requires { (m < names.now.file.sections.counts.models)
         × VarsRoom n q area.old
         × Blank most_names numbers.old }
-    ensures { VarsLaid (file_seen source.now.file) m n q area.old result area.new
-        × (Numbers (roster_in source.now.file.bytes.now source.now.file.sections m) numbers.new
+    ensures { VarsLaid (file_seen names.now.file) m n q area.old result area.new
+        × (Numbers (roster_in names.now.file.bytes.now names.now.file.sections m) numbers.new
         × (length numbers.new ≡ most_names)) }
 {
-    let named = roster_of(source, m, area, n, q, numbers);
-    let deps = write_vars(source, m, area, named, numbers);
+    let named = roster_of(names, m, area, n, q, numbers);
+    let deps = write_vars(names, m, area, named, numbers);
     let z = Sizes {
         nodes: n,
         stmts: q,

@@ -18,7 +18,7 @@ ghost use Rattle.builder.specs.VarRecords.{is_time, LeadOf, lead_words, var_boun
 ghost use Rattle.builder.specs.Root.{scope_at, VarsNamed, VarNext};
 
 use crate::root::Root;
-use crate::source::Source;
+use crate::source::Classed;
 use crate::variables::bounds::{put_time_bounds, put_var_bounds};
 use crate::variables::roster::{set_dependents, time_index};
 use area::header::put_counts;
@@ -54,17 +54,17 @@ fn put_lead(area: &mut [u8], at: usize, lead: Lead)
 }
 
 // Writes the record of variable v at a place.
-fn put_variable(source: &Source, m: usize, area: &mut [u8], at: usize, v: usize, lead: Lead)
-    requires { (m < source.now.file.sections.counts.models)
+fn put_variable(names: &Classed, m: usize, area: &mut [u8], at: usize, v: usize, lead: Lead)
+    requires { (m < names.now.file.sections.counts.models)
         × (at + 4 * variable_length ≤ length area.old)
         × (lead.first ≤ lead.end) }
     ensures { area.new ≡ put area.old at
         (bytes_of (lead_words lead.name lead.first lead.end lead.index lead.time ++ bounds_words
-        (var_bounds (file_seen source.now.file).names (model_at (file_seen source.now.file) m).unknowns v
+        (var_bounds (file_seen names.now.file).names (model_at (file_seen names.now.file) m).unknowns v
         lead.name))) }
 {
     put_lead(area, at, lead);
-    put_var_bounds(source, m, v, lead.name as usize, area, at + BOUNDS_AT);
+    put_var_bounds(names, m, v, lead.name as usize, area, at + BOUNDS_AT);
 }
 
 // What the record of variable v says, whose name (plus 1) is given, and whose dependents stand in the area from `first`
@@ -90,7 +90,7 @@ fn lead_of(area: &Area, v: usize, name: u32, first: usize, end: usize) -> Lead
 // Writes the dependents of variable v, behind `done` ones, and its record, which has its name before and holds nothing
 // yet, and gives the new count of dependents.
 fn write_var(
-    source: &Source,
+    names: &Classed,
     m: usize,
     area: &mut [u8],
     z: Sizes,
@@ -98,13 +98,13 @@ fn write_var(
     v: usize,
     done: usize,
 ) -> usize
-    requires { (m < source.now.file.sections.counts.models)
-        × Numbered source.now.file.bytes.now source.now.file.sections m numbers.now
-        × VarNext (file_seen source.now.file) m z area.old v done }
-    ensures { (result ≡ done + length (at (scope_at (file_seen source.now.file) m).vars v).deps)
+    requires { (m < names.now.file.sections.counts.models)
+        × Numbered names.now.file.bytes.now names.now.file.sections m numbers.now
+        × VarNext (file_seen names.now.file) m z area.old v done }
+    ensures { (result ≡ done + length (at (scope_at (file_seen names.now.file) m).vars v).deps)
         × (area.new ≡ put (put area.old (deps_at z + 4 * done)
-        (bytes_of (at (scope_at (file_seen source.now.file) m).vars v).deps)) (vars_at z + 4 * variable_length * v)
-        (bytes_of (unheld_words is_time v done (at (scope_at (file_seen source.now.file) m).vars v)))) }
+        (bytes_of (at (scope_at (file_seen names.now.file) m).vars v).deps)) (vars_at z + 4 * variable_length * v)
+        (bytes_of (unheld_words is_time v done (at (scope_at (file_seen names.now.file) m).vars v)))) }
 {
     let named = Area {
         bytes: area,
@@ -113,7 +113,7 @@ fn write_var(
     let name = named.var(v, VAR_NAME);
     let from = deps_at(z);
     let end = set_dependents(
-        &source.file,
+        &names.file,
         numbers,
         m,
         name as usize,
@@ -126,24 +126,24 @@ fn write_var(
     };
     let lead = lead_of(&written, v, name, done, end);
     let place = vars_at(z) + VAR_BYTES * v;
-    put_variable(source, m, area, place, v, lead);
+    put_variable(names, m, area, place, v, lead);
     end
 }
 
 // The same of all variables, whose records have their names before; gives the count of dependents.
 // The count goes from step to step: a variable's dependents begin where those of the one before end.
-pub fn write_vars(source: &Source, m: usize, area: &mut [u8], z: Sizes, numbers: &[u16]) -> usize
-    requires { (m < source.now.file.sections.counts.models)
-        × Numbered source.now.file.bytes.now source.now.file.sections m numbers.now
-        × VarsNamed (file_seen source.now.file) m z area.old }
-    ensures { (result ≡ length (each (λ x. x.deps) (scope_at (file_seen source.now.file) m).vars))
+pub fn write_vars(names: &Classed, m: usize, area: &mut [u8], z: Sizes, numbers: &[u16]) -> usize
+    requires { (m < names.now.file.sections.counts.models)
+        × Numbered names.now.file.bytes.now names.now.file.sections m numbers.now
+        × VarsNamed (file_seen names.now.file) m z area.old }
+    ensures { (result ≡ length (each (λ x. x.deps) (scope_at (file_seen names.now.file) m).vars))
         × (area.new ≡ put (put area.old (deps_at z)
-        (bytes_of (each (λ x. x.deps) (scope_at (file_seen source.now.file) m).vars))) (vars_at z)
-        (encode (untimed_records (scope_at (file_seen source.now.file) m).vars))) }
+        (bytes_of (each (λ x. x.deps) (scope_at (file_seen names.now.file) m).vars))) (vars_at z)
+        (encode (untimed_records (scope_at (file_seen names.now.file) m).vars))) }
 {
     let mut done = 0;
     for v in 0..z.vars {
-        done = write_var(source, m, area, z, numbers, v, done);
+        done = write_var(names, m, area, z, numbers, v, done);
     }
     done
 }

@@ -14,7 +14,7 @@ ghost use Rattle.builder.specs.Root.{VarsRoom, VarsListed};
 ghost use Rattle.builder.specs.Starting.{place_as};
 
 use crate::names::{is_reserved, time_name};
-use crate::source::Source;
+use crate::source::Classed;
 use area::layout::VAR_NAME;
 use area::records::put_var;
 use area::sections::Sizes;
@@ -67,31 +67,31 @@ fn declare(area: &mut [u8], z: Sizes, numbers: &mut [u16], name: usize) -> Sizes
 // Lists the variables of model m behind n nodes and q statements, by name in a table without entries, and gives the
 // sizes with them.
 pub fn roster_of(
-    source: &Source,
+    names: &Classed,
     m: usize,
     area: &mut [u8],
     n: usize,
     q: usize,
     numbers: &mut [u16],
 ) -> Sizes
-    requires { (m < source.now.file.sections.counts.models)
+    requires { (m < names.now.file.sections.counts.models)
         × VarsRoom n q area.old
         × Blank most_names numbers.old }
-    ensures { VarsListed source.now.file.bytes.now source.now.file.sections m n q area.old result area.new
+    ensures { VarsListed names.now.file.bytes.now names.now.file.sections m n q area.old result area.new
         numbers.new }
 {
-    let first = source.file.model(m, MODEL_FIRST_UNKNOWN);
-    let count = source.file.model(m, MODEL_UNKNOWNS);
+    let first = names.file.model(m, MODEL_FIRST_UNKNOWN);
+    let count = names.file.model(m, MODEL_UNKNOWNS);
     let mut z = Sizes {
         nodes: n,
         stmts: q,
         vars: 1,
         deps: 0,
     };
-    time_alone(time_name(source), area, z, numbers);
+    time_alone(time_name(names), area, z, numbers);
     for u in first..first + count {
-        let name = source.file.unknown(u, UNKNOWN_NAME);
-        if !is_reserved(source.classes[name]) {
+        let name = names.file.unknown(u, UNKNOWN_NAME);
+        if !is_reserved(names.classes[name]) {
             z = declare(area, z, numbers, name);
         }
     }

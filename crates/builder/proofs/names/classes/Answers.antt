@@ -1,18 +1,25 @@
-use mathlib.Core.Path.{sym, ◌∙◌}
+use mathlib.Core.Path.{◌≡◌, ap, ◌∙◌}
 use native.Mathlib.Omega.{arith}
+use borrow.Author.Rules.{rules}
+use borrow.Author.Tests.{tests}
+use lib.ListN.{get_or}
 use Rattle.std.proofs.lemmas.List.{get_or_default}
-use Rattle.functions.specs.Lists.{text}
-use Rattle.functions.specs.Tables.{value_among}
+use Rattle.ast.specs.Opens.{file_in}
+use Rattle.definitions.specs.Names.{text_of}
 use Rattle.builder.specs.declared.names.Class.TheVariants.{Other}
-use Rattle.definitions.specs.Names.{built_ins}
-use Rattle.builder.proofs.laws.Classes.{along, class_along}
+use Rattle.builder.specs.Tables.{class_number, class_of}
 use Rattle.builder.proofs.laws.Open.{names_long}
 use Rattle.builder.proofs.names.classes.Goals as goal
 
 pub returns : goal.returns
-unfolding built_ins text value_among along
+unfolding text_of
 returns c = let v = c.args.file.now in
     let long = names_long v.bytes.now v.sections in
     let few = v.opened.laid.within.names in
     let e = c.by_name.ensures in
-    record { class = λ n d l. get_or_default c.by_name.result n d Other (omega (arith, e.0, long, few, l)) ∙ e.1 n (omega (arith, long, l)) ∙ sym (class_along _) }
+    record {
+      class = λ n d l.
+          let p = e.1 n (omega (arith, long, l)) in
+          let q : class_number (get_or c.by_name.result n Other) ≡ class_of (text_of (file_in v.bytes.now v.sections).names n) = search (rules, tests) in
+          ap class_number (get_or_default c.by_name.result n d Other (omega (arith, e.0, long, few, l))) ∙ q;
+    }

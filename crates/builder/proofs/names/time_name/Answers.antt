@@ -17,6 +17,6 @@ use Rattle.builder.proofs.names.time_name.Goals as goal
 pub returns : goal.returns
 unfolding time_name
 returns c = let a = c.args in
-    let long = names_long a.source.now.file.bytes.now a.source.now.file.sections in
-    ap plus_one (first_over (λ n. ghosts.eq (get_or a.source.now.classes n Time) Time) (same_text (text "t")) [] a.source.now.file.sections.counts.names (file_in a.source.now.file.bytes.now a.source.now.file.sections).names (omega arith) refl c.position.ensures.ran (λ n b q k. search (rules, tests))
-    (λ n l. sym (time_test (file_in a.source.now.file.bytes.now a.source.now.file.sections).names a.source.now.classes a.source.now.classed n l)))
+    let long = names_long a.names.now.file.bytes.now a.names.now.file.sections in
+    ap plus_one (first_over (λ n. ghosts.eq (get_or a.names.now.classes.now n Time) Time) (same_text (text "t")) [] a.names.now.file.sections.counts.names (file_in a.names.now.file.bytes.now a.names.now.file.sections).names (omega arith) refl c.position.ensures.ran (λ n b q k. search (rules, tests))
+    (λ n l. sym (time_test (file_in a.names.now.file.bytes.now a.names.now.file.sections).names a.names.now.classes.now a.names.now.classed n l)))

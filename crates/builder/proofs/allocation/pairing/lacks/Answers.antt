@@ -4,4 +4,4 @@ use Rattle.builder.proofs.allocation.pairing.lacks.Goals as goal
 
 pub returns : goal.returns
 unfolding lacks_in
-returns c = rw (c.has_rate.ensures, c.var.ensures, c.from.ensures) refl
+returns c = rw (c.has_rate.ensures, c.var.ensures) refl

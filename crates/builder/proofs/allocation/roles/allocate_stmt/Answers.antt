@@ -37,7 +37,7 @@ takes_rate-requires c =
 
 pub returns-in-Some : goal.returns-in-Some
 returns-in-Some c = let p = c.requires in
-    rate_goes _ _ _ p.0.1 _ _ _ p.2 (eqb-false _ _ (sym c.is_stmt.ensures ∙ c.if-is_stmt.false)) _ _ _ c.stmt-2.ensures.0 _ c.in-Some.ensures (sym (rw c.from.ensures at c.if-takes_rate.ensures))
+    rw c.from-in-Some.ensures (rate_goes _ _ _ p.0.1 _ _ _ p.2 (eqb-false _ _ (sym c.is_stmt.ensures ∙ c.if-is_stmt.false)) _ _ _ c.stmt-2.ensures.0 _ c.in-Some.ensures (sym (rw c.from.ensures at c.if-takes_rate.ensures)))
 
 pub returns-in_default : goal.returns-in_default
 returns-in_default c = let p = c.requires in

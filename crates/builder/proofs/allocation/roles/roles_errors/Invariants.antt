@@ -1,6 +1,6 @@
 use lib.ListN.{take}
 use Rattle.functions.specs.Lists.{each}
-use Rattle.area.specs.Listing.{Listed}
+use Rattle.area.specs.LentList.{Listed}
 use Rattle.builder.specs.Allocating.{role_errors_by}
 use Rattle.builder.specs.Areas.{flats_seen, indexes_seen, rates_seen}
 use Rattle.builder.proofs.allocation.roles.roles_errors.Given as goal

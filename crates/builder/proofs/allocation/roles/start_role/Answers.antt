@@ -14,7 +14,7 @@ node_bits-bits-requires c = let s = c.in-Some-Number in
 
 pub returns-then-same_number : goal.returns-then-same_number
 returns-then-same_number c = let s = c.in-Some-Number in
-    λ f. role_lower _ _ _ _ _ s.is _ _ (rw s.is at s.field-0-is) (rw (← c.node_bits-bits.ensures) (sym c.same_number.ensures ∙ c.if-same_number.true))
+    λ f. rw c.from.ensures (role_lower _ _ _ _ _ s.is _ _ (rw s.is at s.field-0-is) (rw (← c.node_bits-bits.ensures) (sym c.same_number.ensures ∙ c.if-same_number.true)))
 
 pub returns-else-same_number : goal.returns-else-same_number
 returns-else-same_number c = let s = c.in-Some-Number in

@@ -1,5 +1,8 @@
 use mathlib.Core.Path.{◌≡◌, ap, ◌∙◌}
 use mathlib.Core.List.{map}
+use native.Mathlib.Omega.{arith}
+use lib.ListN.{take, length-map}
+use Rattle.std.proofs.lemmas.List.{take_all}
 use Rattle.builder.specs.Allocating.{role_as}
 use Rattle.builder.specs.Root.{queue_by}
 use Rattle.builder.proofs.laws.Flats.{flats_each}
@@ -11,7 +14,7 @@ pub write_fates-requires : goal.write_fates-requires
 write_fates-requires c =
     let F = c.requires.0.1 in
     let t = ap (map role_as) c.as_slice-roles.ensures.value ∙ c.roles-table.ensures in
-    (F.small, flattened_long _ _ _ F, flats_each _ _ role_as _ _ t)
+    (F.small, flattened_long _ _ _ F, omega (arith, flats_each _ _ role_as _ _ t))
 
 pub returns : goal.returns
 returns c =
@@ -23,4 +26,6 @@ returns c =
       | then-left w ↦ rw w.paired-is (w.as_slice-paired.ensures.value ∙ all_paired _ _ _ _ _ t _ l _ _ c.left_count.ensures c.len.ensures.value w.if-left.true)
       | else-left w ↦ rw w.paired-is (none_paired _ _ _ _ _ t _ l _ _ c.left_count.ensures c.len.ensures.value w.if-left.false)
     ] in
-    (left_by _ _ _ _ _ t _ c.left_count.ensures, states_by _ _ _ _ _ t _ l _ c.len.ensures.value, fated_by_lem _ _ _ _ _ t _ _ queue c.write_fates.ensures)
+    let roles = map role_as c.as_slice-roles.result.now in
+    let all : take a.z.stmts roles ≡ roles = take_all _ _ (simp length-map (omega (arith, flats_each _ _ role_as _ _ t))) in
+    (left_by _ _ _ _ _ t _ c.left_count.ensures, states_by _ _ _ _ _ t _ l _ c.len.ensures.value, fated_by_lem _ _ _ _ _ t _ _ queue (rw all at c.write_fates.ensures))

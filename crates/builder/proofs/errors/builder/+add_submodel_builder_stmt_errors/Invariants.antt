@@ -5,7 +5,7 @@ use lib.ListN.{take}
 use Rattle.functions.specs.Lists.{each}
 use Rattle.ast.specs.Views.{file_seen}
 use Rattle.definitions.specs.Flatten.{model_at, stmt_errors, errors_of}
-use Rattle.area.specs.Listing.{Listed}
+use Rattle.area.specs.LentList.{Listed}
 use Rattle.builder.specs.Seen.{scope_seen}
 use Rattle.builder.proofs.errors.builder.+add_submodel_builder_stmt_errors.Given as goal
 
@@ -19,4 +19,4 @@ abbrev pub decreases-stmt_errors : goal.decreases-stmt_errors
 decreases-stmt_errors l = 3 * l.place.depth + 2
 
 abbrev pub invariant-builder-loop-q : goal.invariant-builder-loop-q
-invariant-builder-loop-q l = (i : ℕ) × (l.q ≡ l.first + i) × Listed l.initial.errors (each (stmt_errors (file_seen l.tables.source.now.file) (λ j. errors_of (file_seen l.tables.source.now.file) (l.k - 1) j) (scope_seen l.tables.source.now.file l.m)) (take i (model_at (file_seen l.tables.source.now.file) l.m).stmts)) l.errors
+invariant-builder-loop-q l = (i : ℕ) × (l.q ≡ l.first + i) × Listed l.initial.errors (each (stmt_errors (file_seen l.tables.names.file) (λ j. errors_of (file_seen l.tables.names.file) (l.k - 1) j) (scope_seen l.tables.names.file l.m)) (take i (model_at (file_seen l.tables.names.file) l.m).stmts)) l.errors

@@ -2,13 +2,13 @@ use mathlib.Core.Path.{refl}
 use native.Mathlib.Omega.{arith}
 use Rattle.definitions.specs.Flatten.{order_errors}
 use Rattle.builder.proofs.laws.Checks.{args_end, arg_last, arg_within, args_rest, args_fewer}
-use Rattle.area.proofs.Listings.{lists_none, lists_then, room_first, room_then}
+use Rattle.area.proofs.Listings.{none_listed, listed_then, room_first, listed_room}
 use Rattle.builder.proofs.laws.ModelErrors.{order_more}
 use Rattle.builder.proofs.errors.builder.+order_errors.Goals as goal
 
 pub returns-then-run-eq0 : goal.returns-then-run-eq0
 unfolding order_errors
-returns-then-run-eq0 t c = rw (args_end c.requires.0.1 c.if-run-eq0.true) (lists_none _ _)
+returns-then-run-eq0 t c = rw (args_end c.requires.0.1 c.if-run-eq0.true) (none_listed _)
 
 pub overflow_sub-last : goal.overflow_sub-last
 overflow_sub-last t c = let l = arg_last c.requires.0.1 c.if-run-eq0.false in
@@ -37,7 +37,7 @@ list-requires t c = let before_last = c.before_last-rest in
     let node_word = c.word-keyword in
     let has-keyword = c.has_keyword-named in
     let e = order_more c.requires.0.1 c.if-run-eq0.false before_last.result before_last.ensures node_word.result node_word.ensures.0 has-keyword.result has-keyword.ensures in
-    let r = room_then e _ _ _ _ c.requires.1 c.order_errors.ensures in
+    let r = listed_room e c.requires.1 c.order_errors.ensures in
     omega (arith, r)
 
 pub returns : goal.returns
@@ -46,4 +46,4 @@ returns t c = let before_last = c.before_last-rest in
     let has-keyword = c.has_keyword-named in
     let e = order_more c.requires.0.1 c.if-run-eq0.false before_last.result before_last.ensures node_word.result node_word.ensures.0 has-keyword.result has-keyword.ensures in
     let l = rw c.found_at-found.ensures at c.list.ensures in
-    lists_then e _ _ _ _ _ _ c.order_errors.ensures l
+    listed_then e c.order_errors.ensures l

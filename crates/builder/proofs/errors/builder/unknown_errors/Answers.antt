@@ -1,31 +1,31 @@
 -- `builder::builder::unknown_errors` meets its contract: the domain's error, then the name's.
 use native.Mathlib.Omega.{arith}
 use Rattle.builder.proofs.laws.Sourced.{unknown}
-use Rattle.area.proofs.Listings.{lists_then, room_then}
-use Rattle.builder.proofs.laws.ModelErrors.{unknown_small, unknown_more}
+use Rattle.area.proofs.Listings.{listed_then, listed_room}
+use Rattle.builder.proofs.laws.ModelErrors.{unknown_below, unknown_small, unknown_more}
 use Rattle.builder.proofs.errors.builder.unknown_errors.Goals as goal
 
-pub bounds-source-name : goal.bounds-source-name
-bounds-source-name c = let name = c.unknown-name in
-    omega (arith, unknown_small (unknown c.args.source.now c.args.u c.requires.0) name.result name.ensures.0)
+pub bounds-names-name : goal.bounds-names-name
+bounds-names-name c = let name = c.unknown-name in
+    omega (arith, unknown_below (unknown c.args.names.now c.args.u c.requires.0) name.result name.ensures.0, c.args.names.now.long)
 
 pub unknown_error-requires : goal.unknown_error-requires
 unknown_error-requires c = let p = c.requires in
     let name = c.unknown-name in
-    (p.0, omega (arith, unknown_small (unknown c.args.source.now c.args.u c.requires.0) name.result name.ensures.0))
+    (p.0, omega (arith, unknown_small (unknown c.args.names.now c.args.u c.requires.0) name.result name.ensures.0))
 
 pub list-requires-2 : goal.list-requires-2
 list-requires-2 c = let p = c.requires in
     let name = c.unknown-name in
-    let e = unknown_more (unknown c.args.source.now c.args.u c.requires.0) name.result name.ensures.0 _ c.ne-usable.ensures in
+    let e = unknown_more (unknown c.args.names.now c.args.u c.requires.0) name.result name.ensures.0 _ _ c.is_reserved.ensures c.eq.ensures in
     let l = rw c.domain_error.ensures at c.list.ensures in
-    let r = room_then e _ _ _ _ p.1 l in
+    let r = listed_room e p.1 l in
     omega (arith, r)
 
 pub returns : goal.returns
 returns c = let list = c.list in
     let name = c.unknown-name in
-    let e = unknown_more (unknown c.args.source.now c.args.u c.requires.0) name.result name.ensures.0 _ c.ne-usable.ensures in
+    let e = unknown_more (unknown c.args.names.now c.args.u c.requires.0) name.result name.ensures.0 _ _ c.is_reserved.ensures c.eq.ensures in
     let l = rw c.domain_error.ensures at list.ensures in
     let n = rw c.unknown_error.ensures at c.list-2.ensures in
-    lists_then e _ _ _ _ _ _ l n
+    listed_then e l n

@@ -1,20 +1,20 @@
 -- `builder::check::call_errors` meets its contract: the count against the table, then by the class of the call's name.
 use native.Mathlib.Omega.{arith}
-use Rattle.builder.proofs.laws.Calls.{call_small, call_args, call_built_in, call_other}
+use Rattle.builder.proofs.laws.Calls.{call_name, call_small, call_args, call_built_in, call_other}
 use Rattle.builder.proofs.laws.Sourced.{against}
-use Rattle.area.proofs.Listings.{lists_then, room_then}
+use Rattle.area.proofs.Listings.{listed_then, listed_room}
 use Rattle.builder.proofs.errors.check.call_errors.Goals as goal
 
-pub bounds-at-name : goal.bounds-at-name
-bounds-at-name c = let p = c.requires in
+pub bounds-tables-name : goal.bounds-tables-name
+bounds-tables-name c = let p = c.requires in
     omega (arith, c.word-name.ensures.0, call_small p.0)
 
 pub found_at-found-requires : goal.found_at-found-requires
 found_at-found-requires c = let p = c.requires in
     (p.0.within, omega (arith, c.word-name.ensures.0, call_small p.0))
 
-pub bounds-at-name-2 : goal.bounds-at-name-2
-bounds-at-name-2 c = omega (arith, c.word-name.ensures.0, call_small c.requires.0)
+pub bounds-tables-name-2 : goal.bounds-tables-name-2
+bounds-tables-name-2 c = omega (arith, c.word-name.ensures.0, call_name c.requires.0, c.args.at.now.tables.now.names.long)
 
 pub keyword_errors-requires : goal.keyword_errors-requires
 keyword_errors-requires c = let p = c.requires in
@@ -22,22 +22,22 @@ keyword_errors-requires c = let p = c.requires in
     let node_word = c.word-name in
     let run_of = c.run_of-run in
     let rule-allows = c.rule_allows-allowed in
-    let is-built-in = c.eq in
-    let e = call_built_in g p.0 node_word.result node_word.ensures.0 rule-allows.result run_of.result rule-allows.ensures run_of.ensures.0 is-built-in.result is-built-in.ensures c.if-eq.true in
+    let is-built-in = c.is_built_in in
+    let e = call_built_in g p.0 node_word.result node_word.ensures.0 rule-allows.result run_of.result rule-allows.ensures run_of.ensures.0 is-built-in.result is-built-in.ensures c.if-is_built_in.true in
     let l = rw c.found_at-found.ensures at c.list.ensures in
-    ((_, call_args p.0 run_of.result run_of.ensures.0), room_then e _ _ _ _ p.1 l)
+    ((_, call_args p.0 run_of.result run_of.ensures.0), listed_room e p.1 l)
 
-pub returns-then-eq : goal.returns-then-eq
-returns-then-eq c = let p = c.requires in
+pub returns-then-is_built_in : goal.returns-then-is_built_in
+returns-then-is_built_in c = let p = c.requires in
     let g = against c.args.at.now in
     let node_word = c.word-name in
     let run_of = c.run_of-run in
     let rule-allows = c.rule_allows-allowed in
     let found_at = c.found_at-found in
-    let is-built-in = c.eq in
-    let e = call_built_in g p.0 node_word.result node_word.ensures.0 rule-allows.result run_of.result rule-allows.ensures run_of.ensures.0 is-built-in.result is-built-in.ensures c.if-eq.true in
+    let is-built-in = c.is_built_in in
+    let e = call_built_in g p.0 node_word.result node_word.ensures.0 rule-allows.result run_of.result rule-allows.ensures run_of.ensures.0 is-built-in.result is-built-in.ensures c.if-is_built_in.true in
     let l = rw found_at.ensures at c.list.ensures in
-    lists_then e _ _ _ _ _ _ l c.keyword_errors.ensures
+    listed_then e l c.keyword_errors.ensures
 
 pub variable_errors-requires : goal.variable_errors-requires
 variable_errors-requires c = let p = c.requires in
@@ -45,10 +45,10 @@ variable_errors-requires c = let p = c.requires in
     let node_word = c.word-name in
     let run_of = c.run_of-run in
     let rule-allows = c.rule_allows-allowed in
-    let is-built-in = c.eq in
-    let e = call_other g p.0 node_word.result node_word.ensures.0 rule-allows.result run_of.result rule-allows.ensures run_of.ensures.0 is-built-in.result is-built-in.ensures c.if-eq.false in
+    let is-built-in = c.is_built_in in
+    let e = call_other g p.0 node_word.result node_word.ensures.0 rule-allows.result run_of.result rule-allows.ensures run_of.ensures.0 is-built-in.result is-built-in.ensures c.if-is_built_in.false in
     let l = rw c.found_at-found.ensures at c.list.ensures in
-    (p.0, room_then e _ _ _ _ p.1 l)
+    (p.0, listed_room e p.1 l)
 
 pub returns : goal.returns
 returns c = let p = c.requires in
@@ -57,7 +57,7 @@ returns c = let p = c.requires in
     let run_of = c.run_of-run in
     let rule-allows = c.rule_allows-allowed in
     let found_at = c.found_at-found in
-    let is-built-in = c.eq in
-    let e = call_other g p.0 node_word.result node_word.ensures.0 rule-allows.result run_of.result rule-allows.ensures run_of.ensures.0 is-built-in.result is-built-in.ensures c.if-eq.false in
+    let is-built-in = c.is_built_in in
+    let e = call_other g p.0 node_word.result node_word.ensures.0 rule-allows.result run_of.result rule-allows.ensures run_of.ensures.0 is-built-in.result is-built-in.ensures c.if-is_built_in.false in
     let l = rw found_at.ensures at c.list.ensures in
-    lists_then e _ _ _ _ _ _ l c.variable_errors.ensures
+    listed_then e l c.variable_errors.ensures

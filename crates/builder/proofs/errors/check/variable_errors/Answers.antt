@@ -1,7 +1,7 @@
 -- `builder::check::variable_errors` meets its contract: by the entry of the call's name.
 use native.Mathlib.Omega.{arith}
 use Rattle.builder.proofs.laws.Calls.{call_small, call_args, call_missing, call_found, call_variable}
-use Rattle.area.proofs.Listings.{lists_then, room_then}
+use Rattle.area.proofs.Listings.{listed_then, listed_room}
 use Rattle.builder.proofs.errors.check.variable_errors.Goals as goal
 
 pub bounds-at-name : goal.bounds-at-name
@@ -34,7 +34,7 @@ arg_errors-requires c = let p = c.requires in
     let found-at2 = c.found_at-found-2 in
     let e = call_variable g p.0 node_word.result node_word.ensures.0 if1.false is-count.result run_of.result is-count.ensures run_of.ensures.0 in
     let l = rw found-at2.ensures at c.list-2.ensures in
-    (call_found g p.0 node_word.result node_word.ensures.0 if1.false, call_args p.0 run_of.result run_of.ensures.0, room_then e _ _ _ _ p.1 l)
+    (call_found g p.0 node_word.result node_word.ensures.0 if1.false, call_args p.0 run_of.result run_of.ensures.0, listed_room e p.1 l)
 
 pub returns : goal.returns
 returns c = let p = c.requires in
@@ -44,4 +44,4 @@ returns c = let p = c.requires in
     let is-count = c.is_count-counted in
     let e = call_variable g p.0 node_word.result node_word.ensures.0 c.if-entry-eq0.false is-count.result run_of.result is-count.ensures run_of.ensures.0 in
     let l = rw c.found_at-found-2.ensures at c.list-2.ensures in
-    lists_then e _ _ _ _ _ _ l c.arg_errors.ensures
+    listed_then e l c.arg_errors.ensures

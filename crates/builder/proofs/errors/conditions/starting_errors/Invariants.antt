@@ -1,7 +1,7 @@
 use Rattle.ast.specs.Opens.{file_in}
 use Rattle.definitions.specs.Flatten.{model_at}
 use Rattle.area.specs.Views.{nodes_seen, stmts_seen}
-use Rattle.area.specs.Listing.{Listed}
+use Rattle.area.specs.LentList.{Listed}
 use Rattle.builder.specs.Starting.{starting_in}
 use Rattle.builder.specs.Areas.{names_seen}
 use Rattle.builder.proofs.errors.conditions.starting_errors.Given as goal

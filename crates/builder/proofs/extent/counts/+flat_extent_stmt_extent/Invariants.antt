@@ -11,4 +11,4 @@ abbrev pub decreases-stmt_extent : goal.decreases-stmt_extent
 decreases-stmt_extent l = 2 * l.k + 1
 
 abbrev pub invariant-flat_extent-loop-q : goal.invariant-flat_extent-loop-q
-invariant-flat_extent-loop-q l = (i : ℕ) × (l.q ≡ l.first + i) × Counting l.source.file.bytes.now l.source.file.sections l.k l.m l.initial.rows l.level l.initial.total l.rows l.total i
+invariant-flat_extent-loop-q l = (i : ℕ) × (l.q ≡ l.first + i) × Counting l.calls.file.bytes.now l.calls.file.sections l.k l.m l.initial.rows l.level l.initial.total l.rows l.total i

@@ -16,4 +16,4 @@ abbrev pub decreases-stmt_instances : goal.decreases-stmt_instances
 decreases-stmt_instances l = 2 * l.k + 1
 
 abbrev pub invariant-instances-loop-q : goal.invariant-instances-loop-q
-invariant-instances-loop-q l = (i : ℕ) × (l.q ≡ l.first + i) × (l.total ≡ at_most l.most (1 + sum_of (called_instances (file_in l.source.file.bytes.now l.source.file.sections) (l.k - 1)) (take i (model_at (file_in l.source.file.bytes.now l.source.file.sections) l.m).stmts)))
+invariant-instances-loop-q l = (i : ℕ) × (l.q ≡ l.first + i) × (l.total ≡ at_most l.most (1 + sum_of (called_instances (file_in l.calls.file.bytes.now l.calls.file.sections) (l.k - 1)) (take i (model_at (file_in l.calls.file.bytes.now l.calls.file.sections) l.m).stmts)))

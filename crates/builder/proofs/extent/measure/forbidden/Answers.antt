@@ -10,12 +10,12 @@ returns-then-cyclic c = forbids_cycle (file_in c.args.source.now.file.bytes.now 
 
 pub returns-then-self_listed : goal.returns-then-self_listed
 unfolding forbidden_as
-returns-then-self_listed c = forbids_self_listed (file_in c.args.source.now.file.bytes.now c.args.source.now.file.sections) c.args.m (sym c.cyclic.ensures ∙ c.if-cyclic.false) (sym c.self_listed.ensures ∙ c.if-self_listed.true)
+returns-then-self_listed c = forbids_self_listed (file_in c.args.source.now.file.bytes.now c.args.source.now.file.sections) c.args.m (sym c.cyclic.ensures ∙ c.if-cyclic.false) (sym (rw c.names.ensures at c.self_listed.ensures) ∙ c.if-self_listed.true)
 
 pub returns-then-overfull : goal.returns-then-overfull
 unfolding forbidden_as
-returns-then-overfull c = forbids_beyond (file_in c.args.source.now.file.bytes.now c.args.source.now.file.sections) c.args.m (sym c.cyclic.ensures ∙ c.if-cyclic.false) (sym c.self_listed.ensures ∙ c.if-self_listed.false) (sym c.overfull.ensures ∙ c.if-overfull.true)
+returns-then-overfull c = forbids_beyond (file_in c.args.source.now.file.bytes.now c.args.source.now.file.sections) c.args.m (sym c.cyclic.ensures ∙ c.if-cyclic.false) (sym (rw c.names.ensures at c.self_listed.ensures) ∙ c.if-self_listed.false) (sym (rw c.calls-calls.ensures at c.overfull.ensures) ∙ c.if-overfull.true)
 
 pub returns : goal.returns
 unfolding forbidden_as
-returns c = forbids_none (file_in c.args.source.now.file.bytes.now c.args.source.now.file.sections) c.args.m (sym c.cyclic.ensures ∙ c.if-cyclic.false) (sym c.self_listed.ensures ∙ c.if-self_listed.false) (sym c.overfull.ensures ∙ c.if-overfull.false)
+returns c = forbids_none (file_in c.args.source.now.file.bytes.now c.args.source.now.file.sections) c.args.m (sym c.cyclic.ensures ∙ c.if-cyclic.false) (sym (rw c.names.ensures at c.self_listed.ensures) ∙ c.if-self_listed.false) (sym (rw c.calls-calls.ensures at c.overfull.ensures) ∙ c.if-overfull.false)

@@ -10,4 +10,4 @@ abbrev pub decreases-write_stmt : goal.decreases-write_stmt
 decreases-write_stmt l = 2 * l.k + 1
 
 abbrev pub invariant-write_flats-loop-q : goal.invariant-write_flats-loop-q
-invariant-write_flats-loop-q l = (i : ℕ) × (l.q ≡ l.first + i) × Writing l.source.file.bytes.now l.source.file.sections l.k l.m l.initial.rows l.level l.initial.out l.initial.total l.rows l.out l.total i
+invariant-write_flats-loop-q l = (i : ℕ) × (l.q ≡ l.first + i) × Writing l.calls.file.bytes.now l.calls.file.sections l.k l.m l.initial.rows l.level l.initial.out l.initial.total l.rows l.out l.total i

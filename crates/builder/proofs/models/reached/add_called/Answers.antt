@@ -11,14 +11,14 @@ use Rattle.builder.proofs.models.reached.add_called.Goals as goal
 pub returns-in_default : goal.returns-in_default
 unfolding place_as
 returns-in_default c = let a = c.args in
-    let s = a.source.now.file in
+    let s = a.calls.now.file in
     called_none (file_in s.bytes.now s.sections) (stmt_in s.bytes.now s.sections a.q) a.old.now s.sections.counts.models a.a a.new.now (sym c.in_default.ensures)
 
 pub add_reached-requires : goal.add_reached-requires
 unfolding place_as
 add_reached-requires c = let a = c.args in
     let p = c.requires in
-    let s = a.source.now.file in
+    let s = a.calls.now.file in
     record {
       old_long = p.0;
       new_long = p.1;
@@ -30,5 +30,5 @@ add_reached-requires c = let a = c.args in
 pub returns-in-Some : goal.returns-in-Some
 unfolding place_as
 returns-in-Some c = let a = c.args in
-    let s = a.source.now.file in
+    let s = a.calls.now.file in
     called_one (file_in s.bytes.now s.sections) (stmt_in s.bytes.now s.sections a.q) a.old.now s.sections.counts.models a.a a.new.now _ _ (sym c.in-Some.ensures) c.add_reached.ensures

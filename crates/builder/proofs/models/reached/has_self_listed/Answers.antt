@@ -13,12 +13,12 @@ use Rattle.builder.proofs.models.reached.has_self_listed.Goals as goal
 
 pub any-requires-clause-callable : goal.any-requires-clause-callable
 any-requires-clause-callable c = let p = c.requires in
-    let r = (model_is c.args.source.now.file.bytes.now c.args.source.now.file.sections c.args.source.now.file.opened c.args.m p).unknowns_within in
+    let r = (model_is c.args.names.now.file.bytes.now c.args.names.now.file.sections c.args.names.now.file.opened c.args.m p).unknowns_within in
     grind (serving, r)
 
 pub returns : goal.returns
 returns c = let a = c.args in
     let p = c.requires in
-    let test = λ (u : ℕ). lists_itself (file_in a.source.now.file.bytes.now a.source.now.file.sections) (unknown_in a.source.now.file.bytes.now a.source.now.file.sections u) in
+    let test = λ (u : ℕ). lists_itself (file_in a.names.now.file.bytes.now a.names.now.file.sections) (unknown_in a.names.now.file.bytes.now a.names.now.file.sections u) in
     any_numbers c.model-first.result _ c.model-count.result refl test refl c.any.ensures.ran (λ u b q k. search (rules, tests))
-    ∙ unknowns_along a.source.now.file.bytes.now a.source.now.file.sections c.args.source.now.file.opened a.m p _ _ c.model-first.ensures.0 c.model-count.ensures.0 (lists_itself (file_in a.source.now.file.bytes.now a.source.now.file.sections))
+    ∙ unknowns_along a.names.now.file.bytes.now a.names.now.file.sections c.args.names.now.file.opened a.m p _ _ c.model-first.ensures.0 c.model-count.ensures.0 (lists_itself (file_in a.names.now.file.bytes.now a.names.now.file.sections))

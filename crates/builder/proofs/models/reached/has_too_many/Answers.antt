@@ -13,12 +13,12 @@ use Rattle.builder.proofs.models.reached.has_too_many.Goals as goal
 
 pub any-requires-clause-callable : goal.any-requires-clause-callable
 any-requires-clause-callable c = let p = c.requires in
-    let r = (model_is c.args.source.now.file.bytes.now c.args.source.now.file.sections c.args.source.now.file.opened c.args.m p).stmts_within in
+    let r = (model_is c.args.calls.now.file.bytes.now c.args.calls.now.file.sections c.args.calls.now.file.opened c.args.m p).stmts_within in
     grind (serving, r)
 
 pub returns : goal.returns
 returns c = let a = c.args in
     let p = c.requires in
-    let test = λ (q : ℕ). stmt_beyond (file_in a.source.now.file.bytes.now a.source.now.file.sections) (stmt_in a.source.now.file.bytes.now a.source.now.file.sections q) in
+    let test = λ (q : ℕ). stmt_beyond (file_in a.calls.now.file.bytes.now a.calls.now.file.sections) (stmt_in a.calls.now.file.bytes.now a.calls.now.file.sections q) in
     any_numbers c.model-first.result _ c.model-count.result refl test refl c.any.ensures.ran (λ q b d k. search (rules, tests))
-    ∙ stmts_along a.source.now.file.bytes.now a.source.now.file.sections c.args.source.now.file.opened a.m p _ _ c.model-first.ensures.0 c.model-count.ensures.0 (stmt_beyond (file_in a.source.now.file.bytes.now a.source.now.file.sections))
+    ∙ stmts_along a.calls.now.file.bytes.now a.calls.now.file.sections c.args.calls.now.file.opened a.m p _ _ c.model-first.ensures.0 c.model-count.ensures.0 (stmt_beyond (file_in a.calls.now.file.bytes.now a.calls.now.file.sections))

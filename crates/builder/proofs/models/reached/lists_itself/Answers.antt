@@ -4,19 +4,19 @@ use Rattle.builder.proofs.laws.OpenRecords.{unknown_is}
 use Rattle.builder.proofs.laws.Refusals.{lists_itself_is}
 use Rattle.builder.proofs.models.reached.lists_itself.Goals as goal
 
-pub bounds-source-name : goal.bounds-source-name
-bounds-source-name c = let a = c.args in
+pub bounds-names-name : goal.bounds-names-name
+bounds-names-name c = let a = c.args in
     let p = c.requires in
-    omega (arith, (unknown_is a.source.now.file.bytes.now a.source.now.file.sections a.source.now.file.opened a.u p).name_below, c.unknown-name.ensures.0, a.source.now.file.opened.laid.within.names)
+    omega (arith, (unknown_is a.names.now.file.bytes.now a.names.now.file.sections a.names.now.file.opened a.u p).name_below, c.unknown-name.ensures.0, a.names.now.file.opened.laid.within.names, a.names.now.long)
 
-pub returns-then-ne : goal.returns-then-ne
-returns-then-ne c = let a = c.args in
+pub returns-then-usable : goal.returns-then-usable
+returns-then-usable c = let a = c.args in
     let p = c.requires in
-    let law = lists_itself_is a.source.now.file.bytes.now a.source.now.file.sections a.source.now.file.opened a.source.now.classes a.source.now.classed a.u p c.unknown-name.result c.unknown-name.ensures.0 in
+    let law = lists_itself_is a.names.now.file.bytes.now a.names.now.file.sections a.names.now.file.opened a.names.now.classes.now a.names.now.classed a.u p c.unknown-name.result c.unknown-name.ensures.0 in
     grind (arith, common_steps, law)
 
-pub returns-else-ne : goal.returns-else-ne
-returns-else-ne c = let a = c.args in
+pub returns-else-usable : goal.returns-else-usable
+returns-else-usable c = let a = c.args in
     let p = c.requires in
-    let law = lists_itself_is a.source.now.file.bytes.now a.source.now.file.sections a.source.now.file.opened a.source.now.classes a.source.now.classed a.u p c.unknown-name.result c.unknown-name.ensures.0 in
+    let law = lists_itself_is a.names.now.file.bytes.now a.names.now.file.sections a.names.now.file.opened a.names.now.classes.now a.names.now.classed a.u p c.unknown-name.result c.unknown-name.ensures.0 in
     grind (arith, common_steps, law)

@@ -5,4 +5,4 @@ use Rattle.builder.specs.Tables.{Reaching}
 use Rattle.builder.proofs.models.reached.reach.Given as goal
 
 abbrev pub invariant-loop : goal.invariant-loop
-invariant-loop l = (length l.table ≡ 1024) × Reaching (file_in l.source.file.bytes.now l.source.file.sections) l.source.file.sections.counts.models l.counter l.table
+invariant-loop l = (length l.table ≡ 1024) × Reaching (file_in l.calls.file.bytes.now l.calls.file.sections) l.calls.file.sections.counts.models l.counter l.table

@@ -4,4 +4,4 @@ use Rattle.builder.proofs.models.reached.reach_round.Goals as goal
 
 pub loop-a-init : goal.loop-a-init
 loop-a-init c = let a = c.args in
-    stepped_none (file_in a.source.now.file.bytes.now a.source.now.file.sections) a.source.now.file.sections.counts.models a.old.now
+    stepped_none (file_in a.calls.now.file.bytes.now a.calls.now.file.sections) a.calls.now.file.sections.counts.models a.old.now

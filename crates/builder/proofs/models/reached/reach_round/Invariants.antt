@@ -3,4 +3,4 @@ use Rattle.builder.specs.Rounds.{Stepped}
 use Rattle.builder.proofs.models.reached.reach_round.Given as goal
 
 abbrev pub invariant-loop-a : goal.invariant-loop-a
-invariant-loop-a l = Stepped (file_in l.source.file.bytes.now l.source.file.sections) l.source.file.sections.counts.models l.old l.a l.new
+invariant-loop-a l = Stepped (file_in l.calls.file.bytes.now l.calls.file.sections) l.calls.file.sections.counts.models l.old l.a l.new

@@ -5,4 +5,4 @@ use Rattle.builder.proofs.laws.Rounds.{Rowed}
 use Rattle.builder.proofs.models.reached.reach_row.Given as goal
 
 abbrev pub invariant-loop-q : goal.invariant-loop-q
-invariant-loop-q l = (i : ℕ) × (l.q ≡ l.first + i) × Rowed (file_in l.source.file.bytes.now l.source.file.sections) l.source.file.sections.counts.models l.old l.a i l.new
+invariant-loop-q l = (i : ℕ) × (l.q ≡ l.first + i) × Rowed (file_in l.calls.file.bytes.now l.calls.file.sections) l.calls.file.sections.counts.models l.old l.a i l.new

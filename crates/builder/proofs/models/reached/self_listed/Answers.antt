@@ -8,6 +8,6 @@ use Rattle.builder.proofs.models.reached.self_listed.Goals as goal
 
 pub returns : goal.returns
 unfolding self_listed
-returns c = let f = c.args.source.now.file in
+returns c = let f = c.args.names.now.file in
     let file = file_in f.bytes.now f.sections in
     c.any_reached.ensures (λ (m : ℕ). any (lists_itself file) (model_at file m).unknowns) (λ m b k. search (rules, tests))

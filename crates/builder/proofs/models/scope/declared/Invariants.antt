@@ -10,4 +10,4 @@ use Rattle.builder.specs.Tables.{Marks}
 use Rattle.builder.proofs.models.scope.declared.Given as goal
 
 abbrev pub invariant-loop-u : goal.invariant-loop-u
-invariant-loop-u l = (i : ℕ) × (l.u ≡ l.first + i) × Marks l.source.file.sections.counts.names (declare (file_in l.source.file.bytes.now l.source.file.sections).names (time_name (file_in l.source.file.bytes.now l.source.file.sections).names ∷ []) (take i (model_at (file_in l.source.file.bytes.now l.source.file.sections) l.m).unknowns)) l.out
+invariant-loop-u l = (i : ℕ) × (l.u ≡ l.first + i) × Marks l.names.file.sections.counts.names (declare (file_in l.names.file.bytes.now l.names.file.sections).names (time_name (file_in l.names.file.bytes.now l.names.file.sections).names ∷ []) (take i (model_at (file_in l.names.file.bytes.now l.names.file.sections) l.m).unknowns)) l.out

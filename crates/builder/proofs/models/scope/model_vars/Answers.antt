@@ -14,30 +14,30 @@ use Rattle.builder.proofs.models.scope.model_vars.Goals as goal
 
 pub loop-u-init : goal.loop-u-init
 loop-u-init c = let a = c.args in
-    (0, omega arith, counted_begin _ _ (model_at (file_in a.source.now.file.bytes.now a.source.now.file.sections) a.m).unknowns _ c.declared.ensures)
+    (0, omega arith, counted_begin _ _ (model_at (file_in a.names.now.file.bytes.now a.names.now.file.sections) a.m).unknowns _ c.declared.ensures)
 
 pub unknown-name-requires : goal.unknown-name-requires
 unknown-name-requires c = let p = c.requires.0 in
-    let u = unknown_of_run _ _ c.args.source.now.file.opened _ p _ _ _ _ c.loop-u.invariant.1 c.model-first.ensures.0 c.model-count.ensures.0 c.loop-u-test.true in
+    let u = unknown_of_run _ _ c.args.names.now.file.opened _ p _ _ _ _ c.loop-u.invariant.1 c.model-first.ensures.0 c.model-count.ensures.0 c.loop-u-test.true in
     (u.below, omega arith)
 
 pub bounds-out-name : goal.bounds-out-name
 unfolding unknown_of
 bounds-out-name c = let p = c.requires.0 in
-    let u = unknown_of_run _ _ c.args.source.now.file.opened _ p _ _ _ _ c.loop-u.invariant.1 c.model-first.ensures.0 c.model-count.ensures.0 c.loop-u-test.true in
-    omega (arith, c.args.source.now.file.opened.laid.within.names)
+    let u = unknown_of_run _ _ c.args.names.now.file.opened _ p _ _ _ _ c.loop-u.invariant.1 c.model-first.ensures.0 c.model-count.ensures.0 c.loop-u-test.true in
+    omega (arith, c.args.names.now.file.opened.laid.within.names)
 
 pub kept_count-requires : goal.kept_count-requires
 kept_count-requires c = let p = c.requires.0 in
-    let u = unknown_of_run _ _ c.args.source.now.file.opened _ p _ _ _ _ c.loop-u.invariant.1 c.model-first.ensures.0 c.model-count.ensures.0 c.loop-u-test.true in
+    let u = unknown_of_run _ _ c.args.names.now.file.opened _ p _ _ _ _ c.loop-u.invariant.1 c.model-first.ensures.0 c.model-count.ensures.0 c.loop-u-test.true in
     (u.below, c.loop-u.invariant.2.long)
 
 pub overflow_add-out : goal.overflow_add-out
 unfolding roster_in unknowns_in unknown_of
 overflow_add-out c = let a = c.args in
     let p = c.requires.0 in
-    let u = unknown_of_run _ _ c.args.source.now.file.opened _ p _ _ _ _ c.loop-u.invariant.1 c.model-first.ensures.0 c.model-count.ensures.0 c.loop-u-test.true in
-    omega (arith, counted_few _ c.loop-u.invariant.0 _ _ _ c.loop-u.invariant.2 (kept_few a.source.now.file.bytes.now a.source.now.file.sections c.args.source.now.file.opened a.m) c.unknown-name.result (omega arith), c.kept_count.ensures.1)
+    let u = unknown_of_run _ _ c.args.names.now.file.opened _ p _ _ _ _ c.loop-u.invariant.1 c.model-first.ensures.0 c.model-count.ensures.0 c.loop-u-test.true in
+    omega (arith, counted_few _ c.loop-u.invariant.0 _ _ _ c.loop-u.invariant.2 (kept_few a.names.now.file.bytes.now a.names.now.file.sections c.args.names.now.file.opened a.m) c.unknown-name.result (omega arith), c.kept_count.ensures.1)
 
 pub loop-u-preserved : goal.loop-u-preserved
 unfolding unknown_of
@@ -45,12 +45,12 @@ loop-u-preserved c = let a = c.args in
     let p = c.requires.0 in
     let loop = c.loop-u in
     let inv = loop.invariant in
-    let u = unknown_of_run _ _ c.args.source.now.file.opened _ p _ _ _ _ inv.1 c.model-first.ensures.0 c.model-count.ensures.0 c.loop-u-test.true in
+    let u = unknown_of_run _ _ c.args.names.now.file.opened _ p _ _ _ _ inv.1 c.model-first.ensures.0 c.model-count.ensures.0 c.loop-u-test.true in
     let n = c.unknown-name in (
       inv.0 + 1,
       omega (arith, inv.1),
       elim c.if-out-name-ne0.branch [
-        | then-out-name-ne0 w ↦ rw w.out-is (counted_next _ inv.0 _ _ _ _ u.there u.here (counted_more inv.2 _ n.result n.ensures.0 (omega arith) _ w.if-out-name-ne0.true (omega arith) w.kept_count.ensures.0 (listed_below a.source.now.file.bytes.now a.source.now.file.sections c.args.source.now.file.opened _ u.below)))
+        | then-out-name-ne0 w ↦ rw w.out-is (counted_next _ inv.0 _ _ _ _ u.there u.here (counted_more inv.2 _ n.result n.ensures.0 (omega arith) _ w.if-out-name-ne0.true (omega arith) w.kept_count.ensures.0 (listed_below a.names.now.file.bytes.now a.names.now.file.sections c.args.names.now.file.opened _ u.below)))
         | else-out-name-ne0 w ↦ rw w.out-is (counted_next _ inv.0 _ _ _ _ u.there u.here (counted_same inv.2 _ n.result n.ensures.0 (omega arith) w.if-out-name-ne0.false))
       ],
     )
@@ -58,4 +58,4 @@ loop-u-preserved c = let a = c.args in
 pub returns : goal.returns
 returns c = let a = c.args in
     let p = c.requires.0 in
-    (counted_vars a.source.now.file.bytes.now a.source.now.file.sections a.m _ c.loop-u.invariant.0 _ (names_long a.source.now.file.bytes.now a.source.now.file.sections) (run_all _ _ c.args.source.now.file.opened _ p _ _ _ _ c.loop-u.invariant.1 c.model-first.ensures.0 c.model-count.ensures.0 c.loop-u-test.false) c.loop-u.invariant.2, c.loop-u.invariant.2.long)
+    (counted_vars a.names.now.file.bytes.now a.names.now.file.sections a.m _ c.loop-u.invariant.0 _ (names_long a.names.now.file.bytes.now a.names.now.file.sections) (run_all _ _ c.args.names.now.file.opened _ p _ _ _ _ c.loop-u.invariant.1 c.model-first.ensures.0 c.model-count.ensures.0 c.loop-u-test.false) c.loop-u.invariant.2, c.loop-u.invariant.2.long)

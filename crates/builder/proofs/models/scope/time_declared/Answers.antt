@@ -14,8 +14,8 @@ use Rattle.builder.proofs.models.scope.time_declared.Goals as goal
 time_small : (c : In-Some) → c.in-Some.time < 256
 unfolding plus_one place_as
 time_small c = let a = c.args in
-    let e : suc c.in-Some.time ≡ time_name (file_in a.source.now.file.bytes.now a.source.now.file.sections).names = c.in-Some.ensures in
-    omega (arith, e, time_below (file_in a.source.now.file.bytes.now a.source.now.file.sections).names, names_long a.source.now.file.bytes.now a.source.now.file.sections, a.source.now.file.opened.laid.within.names)
+    let e : suc c.in-Some.time ≡ time_name (file_in a.names.now.file.bytes.now a.names.now.file.sections).names = c.in-Some.ensures in
+    omega (arith, e, time_below (file_in a.names.now.file.bytes.now a.names.now.file.sections).names, names_long a.names.now.file.bytes.now a.names.now.file.sections, a.names.now.file.opened.laid.within.names)
 
 pub offset_bounds-out-time : goal.offset_bounds-out-time
 offset_bounds-out-time c = omega (arith, time_small (goal.at.offset_bounds-out-time c).In-Some)

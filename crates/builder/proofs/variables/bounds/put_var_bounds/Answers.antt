@@ -13,20 +13,20 @@ use Rattle.builder.proofs.variables.bounds.put_var_bounds.Goals as goal
 pub put_bounds-requires : goal.put_bounds-requires
 put_bounds-requires c = let a = c.args in
     let p = c.requires in
-    (tt, stands_nans a.source.now.file.bytes.now a.source.now.file.sections None (bounds_from true) _ (from_floating true _ c.bounds_from.ensures) (inl (true, refl)), omega arith)
+    (tt, stands_nans a.names.now.file.bytes.now a.names.now.file.sections None (bounds_from true) _ (from_floating true _ c.bounds_from.ensures) (inl (true, refl)), omega arith)
 
 pub returns-then-v-eq0 : goal.returns-then-v-eq0
 returns-then-v-eq0 c = let a = c.args in
     let p = c.requires in
-    c.put_bounds.ensures ∙ rw (stands_bits a.source.now.file.bytes.now a.source.now.file.sections None (bounds_from true) _ (from_floating true _ c.bounds_from.ensures) (inl (true, refl)), bounds_of_time (file_in a.source.now.file.bytes.now a.source.now.file.sections).names (model_at (file_in a.source.now.file.bytes.now a.source.now.file.sections) a.m).unknowns a.name a.v c.if-v-eq0.true) refl
+    c.put_bounds.ensures ∙ rw (stands_bits a.names.now.file.bytes.now a.names.now.file.sections None (bounds_from true) _ (from_floating true _ c.bounds_from.ensures) (inl (true, refl)), bounds_of_time (file_in a.names.now.file.bytes.now a.names.now.file.sections).names (model_at (file_in a.names.now.file.bytes.now a.names.now.file.sections) a.m).unknowns a.name a.v c.if-v-eq0.true) refl
 
 pub put_bounds-requires-2 : goal.put_bounds-requires-2
 put_bounds-requires-2 c = let a = c.args in
     let p = c.requires in
     let l = c.last_declared-u in
-    (l.ensures.within, stands_nans a.source.now.file.bytes.now a.source.now.file.sections l.result _ _ c.declared_bounds.ensures (declared_stands a.source.now.file.bytes.now a.source.now.file.sections l.result false), omega arith)
+    (l.ensures.within, stands_nans a.names.now.file.bytes.now a.names.now.file.sections l.result _ _ c.declared_bounds.ensures (declared_stands a.names.now.file.bytes.now a.names.now.file.sections l.result false), omega arith)
 
 pub returns : goal.returns
 returns c = let a = c.args in
     let l = c.last_declared-u in
-    c.put_bounds-2.ensures ∙ rw (stands_bits a.source.now.file.bytes.now a.source.now.file.sections l.result _ _ c.declared_bounds.ensures (declared_stands a.source.now.file.bytes.now a.source.now.file.sections l.result false), bounds_of_other (file_in a.source.now.file.bytes.now a.source.now.file.sections).names (model_at (file_in a.source.now.file.bytes.now a.source.now.file.sections) a.m).unknowns a.name a.v c.if-v-eq0.false, l.ensures.bounds (bounds_from false)) refl
+    c.put_bounds-2.ensures ∙ rw (stands_bits a.names.now.file.bytes.now a.names.now.file.sections l.result _ _ c.declared_bounds.ensures (declared_stands a.names.now.file.bytes.now a.names.now.file.sections l.result false), bounds_of_other (file_in a.names.now.file.bytes.now a.names.now.file.sections).names (model_at (file_in a.names.now.file.bytes.now a.names.now.file.sections) a.m).unknowns a.name a.v c.if-v-eq0.false, l.ensures.bounds (bounds_from false)) refl

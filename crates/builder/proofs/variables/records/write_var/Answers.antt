@@ -8,7 +8,7 @@ pub set_dependents-end-requires : goal.set_dependents-end-requires
 set_dependents-end-requires c = let a = c.args in
     let p = c.requires in
     let name = c.var-name.ensures ∙ p.2.named in
-    (p.1, next_room a.source.now.file.bytes.now a.source.now.file.sections a.m a.z a.area.now a.v a.done p.2 _ _ name c.deps_at-from.ensures)
+    (p.1, next_room a.names.now.file.bytes.now a.names.now.file.sections a.m a.z a.area.now a.v a.done p.2 _ _ name c.deps_at-from.ensures)
 
 pub lead_of-lead-requires : goal.lead_of-lead-requires
 lead_of-lead-requires c = let a = c.args in
@@ -16,7 +16,7 @@ lead_of-lead-requires c = let a = c.args in
     let name = c.var-name.ensures ∙ p.2.named in
     let at = c.deps_at-from.ensures in
     let behind = c.set_dependents-end.ensures in
-    lead_asked a.source.now.file.bytes.now a.source.now.file.sections a.m a.z a.area.now a.v a.done p.2 _ _ _ _ name at behind
+    lead_asked a.names.now.file.bytes.now a.names.now.file.sections a.m a.z a.area.now a.v a.done p.2 _ _ _ _ name at behind
 
 pub overflow_add-place : goal.overflow_add-place
 unfolding stmts_at vars_at
@@ -30,8 +30,8 @@ put_variable-requires c = let a = c.args in
     let at = c.deps_at-from.ensures in
     let behind = c.set_dependents-end.ensures in
     let lead = c.lead_of-lead.ensures in
-    let order = next_end a.source.now.file.bytes.now a.source.now.file.sections a.m a.z a.area.now a.v a.done p.2 _ _ _ _ name at behind in
-    (p.0, record_room a.source.now.file.bytes.now a.source.now.file.sections a.m a.z a.area.now a.v a.done p.2 _ _ _ _ name at behind _ c.vars_at.ensures, omega (arith, lead.first_of, lead.end_of, order))
+    let order = next_end a.names.now.file.bytes.now a.names.now.file.sections a.m a.z a.area.now a.v a.done p.2 _ _ _ _ name at behind in
+    (p.0, record_room a.names.now.file.bytes.now a.names.now.file.sections a.m a.z a.area.now a.v a.done p.2 _ _ _ _ name at behind _ c.vars_at.ensures, omega (arith, lead.first_of, lead.end_of, order))
 
 pub returns : goal.returns
 returns c = let a = c.args in
@@ -39,4 +39,4 @@ returns c = let a = c.args in
     let name = c.var-name.ensures ∙ p.2.named in
     let at = c.deps_at-from.ensures in
     let behind = c.set_dependents-end.ensures in
-    (next_end a.source.now.file.bytes.now a.source.now.file.sections a.m a.z a.area.now a.v a.done p.2 _ _ _ _ name at behind, next_written a.source.now.file.bytes.now a.source.now.file.sections a.m a.z a.area.now a.v a.done p.2 _ _ _ _ name at behind _ _ _ c.vars_at.ensures c.lead_of-lead.ensures c.put_variable.ensures)
+    (next_end a.names.now.file.bytes.now a.names.now.file.sections a.m a.z a.area.now a.v a.done p.2 _ _ _ _ name at behind, next_written a.names.now.file.bytes.now a.names.now.file.sections a.m a.z a.area.now a.v a.done p.2 _ _ _ _ name at behind _ _ _ c.vars_at.ensures c.lead_of-lead.ensures c.put_variable.ensures)

@@ -4,4 +4,4 @@ use Rattle.builder.proofs.laws.VarsWritten.{Written}
 use Rattle.builder.proofs.variables.records.write_vars.Given as goal
 
 abbrev pub invariant-loop-v : goal.invariant-loop-v
-invariant-loop-v l = Written (scope_at (file_in l.source.file.bytes.now l.source.file.sections) l.m).vars l.z l.initial.area l.v l.done l.area
+invariant-loop-v l = Written (scope_at (file_in l.names.file.bytes.now l.names.file.sections) l.m).vars l.z l.initial.area l.v l.done l.area

@@ -21,7 +21,7 @@ dep-requires c = let a = c.args in
 dep_here : (c : After-dep) → (let deps = (unknown_in c.args.file.now.bytes.now c.args.file.now.sections c.args.u).deps in (c.loop-d.invariant.0 < length deps) × (c.dep.result ≡ get_or deps c.loop-d.invariant.0 0) × (c.dep.result < c.args.file.now.sections.counts.names))
 dep_here c = let a = c.args in
     let p = c.requires in
-    let (is, name) = deps_at_lem a.file.now.bytes.now a.file.now.sections c.args.file.now.opened a.u p.0 _ _ c.unknown-first.ensures.0 c.unknown-count.ensures.0 c.loop-d.invariant.0 _ c.dep.result c.loop-d.invariant.1 (omega (arith, c.loop-d-test.true, c.loop-d.invariant.1)) c.dep.ensures in
+    let (is, name) = deps_at_lem a.file.now.bytes.now a.file.now.sections c.args.file.now.opened a.u p.0 _ _ c.unknown-first.ensures.0 c.unknown-count.ensures.0 c.loop-d.invariant.0 _ c.dep.result c.loop-d.invariant.1 (omega (arith, c.loop-d-test.true, c.loop-d.invariant.1)) c.dep.ensures.0 in
     (omega (arith, c.loop-d-test.true, c.loop-d.invariant.1, deps_count a.file.now.bytes.now a.file.now.sections c.args.file.now.opened a.u p.0 _ _ c.unknown-first.ensures.0 c.unknown-count.ensures.0), is, name)
 
 pub offset_bounds-numbers-dep : goal.offset_bounds-numbers-dep

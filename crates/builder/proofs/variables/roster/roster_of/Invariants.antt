@@ -10,5 +10,5 @@ use Rattle.builder.proofs.variables.roster.roster_of.Given as goal
 
 abbrev pub invariant-loop-u : goal.invariant-loop-u
 invariant-loop-u l = (i : ℕ) × (l.u ≡ l.first + i) × (l.z.vars ≤ i + 1) × Grown (record { nodes = l.n; stmts = l.q; vars = 1; deps = 0 }) l.z
-    × (Listing (names_in l.area l.z) (names_in l.area l.z) l.numbers × (roster_in l.source.file.bytes.now l.source.file.sections l.m ≡ declare (file_in l.source.file.bytes.now l.source.file.sections).names (names_in l.area l.z) (drop i (unknowns_in l.source.file.bytes.now l.source.file.sections l.m))))
+    × (Listing (names_in l.area l.z) (names_in l.area l.z) l.numbers × (roster_in l.names.file.bytes.now l.names.file.sections l.m ≡ declare (file_in l.names.file.bytes.now l.names.file.sections).names (names_in l.area l.z) (drop i (unknowns_in l.names.file.bytes.now l.names.file.sections l.m))))
     × VarsAre l.z l.initial.area (area_vars l.area l.z) l.area

@@ -2,7 +2,7 @@ use mathlib.Core.Path.{◌∙◌}
 use Rattle.ast.specs.Opens.{file_in}
 use Rattle.builder.specs.Checking.{stmt_in}
 use Rattle.builder.proofs.laws.Calling.{callee_called, entry_less}
-use Rattle.builder.proofs.source.Source.callee.Goals as goal
+use Rattle.builder.proofs.source.Calls.callee.Goals as goal
 
 pub returns : goal.returns
 returns c = let s = c.args.self.now in
