@@ -4,7 +4,8 @@ ghost use Rattle.functions.specs.Lists.{plus_one};
 ghost use Rattle.ast.specs.Views.{file_seen};
 ghost use Rattle.definitions.specs.Numbers.{most_names};
 ghost use Rattle.definitions.specs.Names.{time_name};
-ghost use Rattle.builder.specs.Tables.{class_of, class_number, last_reserved, first_built_in, other_class, Classes, Rules};
+ghost use Rattle.builder.specs.Tables.{class_of, class_number, last_reserved, first_built_in, other_class};
+ghost use Rattle.builder.specs.Tables.{Classes, Rules};
 ghost use Rattle.builder.specs.Starting.{place_as};
 
 use crate::source::Classed;

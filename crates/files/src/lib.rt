@@ -40,8 +40,7 @@ fn words_of(said: &str) -> &str
     }
 }
 
-// What failed, and the words of its error. It is no text yet: the words alone take memory, and the line is written as it
-// is printed.
+// What failed, and the words of its error: only the words take memory, and the line is written as it is printed.
 #[derive(Drop)]
 pub struct FailedLine<'a, A: Allocator> {
     pub what: &'a str,

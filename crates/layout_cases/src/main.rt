@@ -52,7 +52,7 @@ fn main(rt: HostRuntime) -> io::Result<()> {
         let [length, _, recorded, _]: [u32; 4] = next_head(input)?;
         let mut buffer = [0; 65536];
         let Some(file) = next_part(input, length, &mut buffer) else {
-            return Some(NO_VERDICT == recorded);
+            return Some(recorded == NO_VERDICT);
         };
         let refusal = open(file).err();
         found.count(refusal);
