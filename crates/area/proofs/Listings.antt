@@ -8,6 +8,7 @@ use native.Mathlib.Nat.{add-zero}
 use lib.Dec.{ltb}
 use lib.ListN.{length, take, length-append}
 use borrow.Author.Tests.{lt-ltb, le-ltb}
+use denote.Enum.Declared.{tag_of}
 use Rattle.std.specs.Prelude.{None, Some}
 use Rattle.functions.specs.Lists.{each}
 use Rattle.ast.specs.Words.{bytes4, bytes_of}
@@ -17,9 +18,12 @@ use Rattle.ast.proofs.Fronts.{put_behind, front_none}
 use Rattle.ast.proofs.Encodes.{each_append, length_bytes}
 use Rattle.definitions.specs.Variables.{Error, error}
 use Rattle.definitions.specs.Answer.{error_words}
+use Rattle.area.specs.declared.errors.ErrorKind.{ErrorKind}
+use Rattle.area.specs.declared.errors.ErrorKind.TheVariants.{UnknownDomain, ReservedName, SubmodelMissing, PositionalAfterKeyword, NameNotFound, CountAgainstTable, KeywordInBuiltIn, CountAgainstVariable, NoSuchDependent, PositionalAfterNamed, CallNotFound, WrongStart, RateInvalid, Underdetermined, Overdetermined, NoInitialCondition, AlgebraicInitialCondition}
 use Rattle.area.specs.declared.errors.Found.{Found}
 use Rattle.area.specs.declared.errors.Errors.{Errors}
-use Rattle.area.specs.Listing.{spanned, put_error, listed, Lists, error_as, found_as}
+use Rattle.area.specs.contracts.errors.ErrorKind.{the_type}
+use Rattle.area.specs.Listing.{spanned, put_error, listed, Lists, kind_number, error_as, found_as}
 use Rattle.area.specs.LentList.{Listed, RoomFor}
 use Rattle.area.proofs.Puts.{length_put}
 
@@ -89,10 +93,35 @@ listed_section d es = listed_front d es ∙ ap (front d) (encoded (take 256 es))
 
 -- ---- one error's four words
 
--- an error among the first 256
+-- an error among the first 256, its kind by any number
 pub error_listed : (d d' : List ℕ) (n k a b c : ℕ) → n < 256 → d' ≡ put d (16 * n) (bytes_of (k ∷ a ∷ b ∷ c ∷ [])) → d' ≡ listed d n (error k (spanned a b) c ∷ [])
 unfolding listed put_error error_words error
 error_listed d d' n k a b c l e = rw (lt-ltb n 256 l) e
+
+-- what stands in a record for a kind is its number
+kind_word : (k : ErrorKind) → tag_of the_type k + 1 ≡ kind_number k
+kind_word UnknownDomain = refl
+kind_word ReservedName = refl
+kind_word SubmodelMissing = refl
+kind_word PositionalAfterKeyword = refl
+kind_word NameNotFound = refl
+kind_word CountAgainstTable = refl
+kind_word KeywordInBuiltIn = refl
+kind_word CountAgainstVariable = refl
+kind_word NoSuchDependent = refl
+kind_word PositionalAfterNamed = refl
+kind_word CallNotFound = refl
+kind_word WrongStart = refl
+kind_word RateInvalid = refl
+kind_word Underdetermined = refl
+kind_word Overdetermined = refl
+kind_word NoInitialCondition = refl
+kind_word AlgebraicInitialCondition = refl
+
+-- one that a test finds
+pub found_listed : (d d' : List ℕ) (n : ℕ) (e : Found) → n < 256 → d' ≡ put d (16 * n) (bytes_of ((tag_of the_type e.kind + 1) ∷ e.from ∷ e.to ∷ e.name ∷ []))
+    → d' ≡ listed d n (error (kind_number e.kind) (spanned e.from e.to) e.name ∷ [])
+found_listed d d' n e l h = rw (← kind_word e.kind) (error_listed d d' n (tag_of the_type e.kind + 1) e.from e.to e.name l h)
 
 -- an error that is only counted
 pub error_counted : (d : List ℕ) (n : ℕ) (e : Error) → 256 ≤ n → d ≡ listed d n (e ∷ [])

@@ -1,5 +1,5 @@
 -- What each flattened statement of an answer's area asks for, by tables of the root's variables.
-use Rattle.std.specs.Prelude.{ℕ, zero, suc, ◌+◌, ◌-◌, ◌*◌, ◌≤◌, ◌<◌, ◌≡◌, ◌⊎◌, Bool, true, false, cond, ◌&&◌, List, [], ◌∷◌, map, eqb, leb, length, get_or, Float}
+use Rattle.std.specs.Prelude.{ℕ, zero, suc, ◌+◌, ◌-◌, ◌*◌, ◌^◌, ◌≤◌, ◌<◌, ◌≡◌, ◌⊎◌, Bool, true, false, cond, ◌&&◌, List, [], ◌∷◌, map, eqb, leb, length, get_or, Float}
 use Rattle.std.proofs.Math.Option.{Option, none, some}
 use Rattle.std.specs.Float.Ieee.{eq}
 use Rattle.functions.specs.Lists.{unless, plus_one, flag, ◌>>=◌}
@@ -121,6 +121,12 @@ unfoldable pub role_as : code.Role → Role
 role_as Neither = free
 role_as (Initial v) = starts v
 role_as (Rate v) = rates v
+
+-- A role whose variable's number fits in 16 bits.
+unfoldable pub Narrow : code.Role → Type 0
+Narrow Neither = Unit {0}
+Narrow (Initial v) = v < 2 ^ 16
+Narrow (Rate v) = v < 2 ^ 16
 
 -- Whether a role is an initial condition of v,
 unfoldable pub is_start_of : ℕ → Role → Bool

@@ -1,7 +1,7 @@
 -- Classes of names: the table of texts that the code goes over, and what a text's class decides.
 use mathlib.Core.Path.{◌≡◌, refl, sym, ◌∙◌, ap}
 use mathlib.Core.List.{List, [], ◌∷◌, map}
-use mathlib.Core.Bool.{Bool, true, false, cond, ◌&&◌, ◌||◌}
+use mathlib.Core.Bool.{Bool, true, false, cond, not, ◌&&◌, ◌||◌}
 use Prim.Native.Nat.{ℕ, suc, ◌+◌, ◌<◌}
 use native.Mathlib.Omega.{arith}
 use borrow.Author.Tests.{eqb-true}
@@ -242,3 +242,7 @@ module _ {names : List (List ℕ)} {cs : List Class} (h : Classes names cs) (n :
 
   pub entry_real : ghosts.eq (get_or cs n Time) Real ≡ is_real names n
   entry_real = real_number (get_or cs n Time) ∙ rw (h.class n Time l) (class_real names n)
+
+  -- t, or a name that is not reserved
+  pub entry_usable : (ghosts.eq (get_or cs n Time) Time || not (leb (class_number (get_or cs n Time)) 5)) ≡ (is_time names n || not (is_reserved names n))
+  entry_usable = rw (entry_time, entry_reserved) refl

@@ -27,9 +27,9 @@ module _ (roles : List Role) (i : ℕ) (queue : List ℕ) where
   role_here r e = get_or-map role_as roles i Neither ∙ rw e refl
 
   -- neither, with a state in the queue or with none
-  pub neither_held : get_or roles i Neither ≡ Neither → (v : ℕ) (rest : List ℕ) → queue ≡ v ∷ rest → (numbers ≡ (2, v)) × (behind ≡ rest)
+  pub neither_held : get_or roles i Neither ≡ Neither → (v w : ℕ) (rest : List ℕ) → w ≡ v → queue ≡ v ∷ rest → (numbers ≡ (2, w)) × (behind ≡ rest)
   unfolding role_as fate_in left_in queue_in fate_number fate_variable
-  neither_held e v rest q = let r = role_here Neither e in (rw (r, q) refl, rw (r, q) refl)
+  neither_held e v w rest g q = let r = role_here Neither e in (rw (r, q, g) refl, rw (r, q) refl)
 
   pub neither_over : get_or roles i Neither ≡ Neither → length queue ≡ 0 → (numbers ≡ (4, 0)) × (behind ≡ queue)
   unfolding role_as fate_in left_in queue_in fate_number fate_variable
@@ -40,22 +40,22 @@ module _ (roles : List Role) (i : ℕ) (queue : List ℕ) where
       go (v ∷ q) l g = absurd (omega arith)
 
   -- an initial condition
-  pub initial_is : (v : ℕ) → get_or roles i Neither ≡ Initial v → (numbers ≡ (1, v)) × (behind ≡ queue)
+  pub initial_is : (v w : ℕ) → w ≡ v → get_or roles i Neither ≡ Initial v → (numbers ≡ (1, w)) × (behind ≡ queue)
   unfolding role_as fate_in queue_in fate_number fate_variable
-  initial_is v e = let r = role_here (Initial v) e in (rw r refl, rw r refl)
+  initial_is v w g e = let r = role_here (Initial v) e in (rw (r, g) refl, rw r refl)
 
   -- a rate equation, with one of its variable behind it or with none
-  module _ (v : ℕ) (e : get_or roles i Neither ≡ Rate v) (b : Bool) (later : b ≡ any (is_rate_of v) (map role_as (take (length roles - (i + 1)) (drop (i + 1) roles)))) where
+  module _ (v w : ℕ) (g : w ≡ v) (e : get_or roles i Neither ≡ Rate v) (b : Bool) (later : b ≡ any (is_rate_of v) (map role_as (take (length roles - (i + 1)) (drop (i + 1) roles)))) where
     rate_is : (numbers ≡ fate_pair (rate_fate b v)) × (behind ≡ queue)
     unfolding role_as fate_in queue_in
     rate_is =
         let r = role_here (Rate v) e in
         (rw (r, later, take_rest roles (i + 1), drop-map) refl, rw r refl)
 
-    pub replaced_is : b ≡ true → (numbers ≡ (3, v)) × (behind ≡ queue)
+    pub replaced_is : b ≡ true → (numbers ≡ (3, w)) × (behind ≡ queue)
     unfolding rate_fate fate_number fate_variable
-    replaced_is t = rw t at rate_is
+    replaced_is t = rw (t, ← g) at rate_is
 
-    pub held_is : b ≡ false → (numbers ≡ (2, v)) × (behind ≡ queue)
+    pub held_is : b ≡ false → (numbers ≡ (2, w)) × (behind ≡ queue)
     unfolding rate_fate fate_number fate_variable
-    held_is t = rw t at rate_is
+    held_is t = rw (t, ← g) at rate_is

@@ -3,7 +3,7 @@ use mathlib.Core.Path.{◌≡◌, refl, sym, ap, ap₂, ◌∙◌}
 use mathlib.Core.Bool.{Bool, true, false, cond, not, ◌&&◌}
 use mathlib.Core.List.{List, [], ◌∷◌, ◌++◌, map, append-nil, append_assoc}
 use mathlib.Core.Option.{Option, some}
-use Prim.Native.Nat.{ℕ, zero, suc, ◌+◌, ◌<◌}
+use Prim.Native.Nat.{ℕ, zero, suc, ◌+◌, min, ◌≤◌, ◌<◌}
 use native.Mathlib.Omega.{arith}
 use Rattle.std.proofs.lemmas.Bool.Decides.{nat_tests}
 use lib.Dec.{eqb}
@@ -13,8 +13,8 @@ use Rattle.functions.proofs.Lists.{clash}
 use Rattle.ast.specs.Tree.{Flat, equation, rate, flat_size}
 use Rattle.ast.specs.Words.{word_of}
 use Rattle.definitions.specs.Variables.{Variable, at, is_state}
-use Rattle.definitions.specs.Roles.{Role}
-use Rattle.definitions.specs.Allocate.{Fate, initial, held, replaced, left_over, is_rate_of, numbers_from, lacking, is_held_by, is_initial_of, held_by, conditions}
+use Rattle.definitions.specs.Roles.{Role, starts, rates, free}
+use Rattle.definitions.specs.Allocate.{Fate, initial, held, replaced, left_over, is_rate_of, rate_fate, fates_of, numbers_from, lacking, is_held_by, is_initial_of, held_by, conditions}
 use Rattle.definitions.specs.Answer.{fate_number, fate_variable, flat_words, flat_records}
 use Rattle.builder.specs.Tables.{lacks_in, lacking_in}
 use Rattle.builder.specs.Fating.{fate_pair, with_fate, fated, is_fated}
@@ -160,3 +160,15 @@ fated_flats first [] (q ∷ qs) (x ∷ fs) e h = clash (cc)
 fated_flats first (r ∷ rs) (q ∷ qs) (x ∷ fs) e h =
     let t : take 6 r ≡ take 6 (flat_words first q x) = cc in
     ap₂ ◌∷◌ (with_fate_lem first q x r t) (fated_flats (first + flat_size q) rs qs fs (cc) (omega arith))
+
+-- ---- states behind as many as there are roles are not looked at
+
+pub fates_take : (k : ℕ) (queue : List ℕ) (rs : List Role) → min (length queue) (length rs) ≤ k → fates_of (take k queue) rs ≡ fates_of queue rs
+unfolding fates_of
+fates_take k queue [] h = refl
+fates_take k queue (starts v ∷ rs) h = ap (λ fs. initial v ∷ fs) (fates_take k queue rs (omega arith))
+fates_take k queue (rates v ∷ rs) h = ap (λ fs. rate_fate (any (is_rate_of v) rs) v ∷ fs) (fates_take k queue rs (omega arith))
+fates_take zero [] (free ∷ rs) h = refl
+fates_take zero (v ∷ queue) (free ∷ rs) h = absurd (omega arith)
+fates_take (suc k) [] (free ∷ rs) h = refl
+fates_take (suc k) (v ∷ queue) (free ∷ rs) h = ap (λ fs. held v ∷ fs) (fates_take k queue rs (omega arith))

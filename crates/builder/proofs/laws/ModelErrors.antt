@@ -3,7 +3,7 @@ use mathlib.Core.Path.{◌≡◌, refl, sym, ap, ◌∙◌}
 use mathlib.Core.Bool.{Bool, true, false, not, ◌||◌}
 use mathlib.Core.List.{List, [], ◌∷◌, ◌++◌, append-nil}
 use mathlib.Core.Option.{none, some}
-use Prim.Native.Nat.{ℕ, zero, suc, ◌+◌, ◌-◌, ◌≤◌, ◌<◌}
+use Prim.Native.Nat.{ℕ, zero, suc, ◌+◌, ◌-◌, ◌^◌, ◌≤◌, ◌<◌}
 use native.Mathlib.Omega.{arith}
 use native.Mathlib.Numerals.{add-one, sub-one}
 use borrow.Author.Tests.{eqb-true, eqb-false, ne_eqb}
@@ -33,6 +33,7 @@ use Rattle.builder.specs.declared.names.Class.{Class}
 use Rattle.builder.specs.declared.names.Class.TheVariants.{Time, NonNegative, Real}
 use Rattle.builder.specs.contracts.names.ClassPartialEq.TheImpl.{ghosts}
 use Rattle.builder.specs.Tables.{class_number, called_by}
+use Rattle.area.specs.Listing.{Lists}
 use Rattle.area.specs.LentList.{Listed, RoomFor}
 use Rattle.area.specs.declared.errors.Errors.{Errors}
 use Rattle.builder.specs.declared.errors.check.Run.{Run}
@@ -40,7 +41,7 @@ use Rattle.builder.specs.Checking.{args_in, before_last, run_of, unknown_in, stm
 use Rattle.builder.proofs.laws.Domains.{domain_formed, coded, says_coded, coded_named}
 use Rattle.builder.proofs.laws.Classes.{entry_time, entry_reserved, entry_non_negative, entry_real}
 use Rattle.builder.proofs.laws.OpenRecords.{long, model_is, unknown_is, stmt_is}
-use Rattle.area.proofs.Listings.{Joins, room_first, none_listed, listed_then, listed_room}
+use Rattle.area.proofs.Listings.{Joins, lists_none, lists_then, room_first, room_then, listed_then}
 use Rattle.builder.proofs.laws.Checks.{open_formed, args_are}
 use Rattle.builder.proofs.laws.Calls.{call_small}
 use Rattle.builder.proofs.laws.OpenStmts.{nodes_from_lem}
@@ -122,9 +123,9 @@ module _ {A : Type 0} (g : A → List Error) (xs : List A) where
   each_split i = record { is = sym (ap (each g) (take-append-drop i xs)) ∙ each_append g (take i xs) (drop i xs) }
 
   -- none yet
-  pub run_begins : (e : Errors) → Listed e (each g (take 0 xs)) e
+  pub run_begins : (d : List ℕ) (n : ℕ) → Lists d n (each g (take 0 xs)) n d
   unfolding each
-  run_begins e = none_listed e
+  run_begins d n = lists_none d n
 
   -- the element at place i is x
   module _ (x : A) (i : ℕ) (h : i < length xs) (e : get_or xs i x ≡ x) where
@@ -137,15 +138,29 @@ module _ {A : Type 0} (g : A → List Error) (xs : List A) where
     each_next = record { is = rw (add-one, take-suc xs i x) (each_append g (take i xs) (get_or xs i x ∷ []) ∙ rw (append-nil, e) refl) }
 
     -- where all can be counted, so can its own behind those before it
-    pub run_room : {a b : Errors} → RoomFor a (each g xs) → Listed a (each g (take i xs)) b → RoomFor b (g x)
-    run_room {a} {b} m p = room_first each_here b.count (listed_room (each_split i) m p)
+    pub run_room : (d d' : List ℕ) (n r : ℕ) → n + length (each g xs) < 2 ^ 40 → Lists d n (each g (take i xs)) r d' → r + length (g x) < 2 ^ 40
+    run_room d d' n r m p = room_first each_here r (room_then (each_split i) d d' n r m p)
 
-    pub run_goes : {a b c : Errors} → Listed a (each g (take i xs)) b → Listed b (g x) c → Listed a (each g (take (i + 1) xs)) c
-    run_goes p t = listed_then each_next p t
+    pub run_goes : (d d' d'' : List ℕ) (n r r' : ℕ) → Lists d n (each g (take i xs)) r d' → Lists d' r (g x) r' d'' → Lists d n (each g (take (i + 1) xs)) r' d''
+    run_goes d d' d'' n r r' p t = lists_then each_next d d' d'' n r r' p t
 
   -- all of them
-  pub run_ends : (i : ℕ) → length xs ≤ i → {a b : Errors} → Listed a (each g (take i xs)) b → Listed a (each g xs) b
-  run_ends i h p = let t : take i xs ≡ xs = take_all i xs h in rw t at p
+  pub run_ends : (i : ℕ) → length xs ≤ i → (d d' : List ℕ) (n r : ℕ) → Lists d n (each g (take i xs)) r d' → Lists d n (each g xs) r d'
+  run_ends i h d d' n r p = let t : take i xs ≡ xs = take_all i xs h in rw t at p
+
+  -- the same in lent bytes
+  pub run_begins_lent : (e : Errors) → Listed e (each g (take 0 xs)) e
+  run_begins_lent e = record { lists = run_begins e.bytes.now e.count; same = refl }
+
+  module _ (x : A) (i : ℕ) (h : i < length xs) (e : get_or xs i x ≡ x) where
+    pub run_room_lent : {a b : Errors} → RoomFor a (each g xs) → Listed a (each g (take i xs)) b → RoomFor b (g x)
+    run_room_lent m p = run_room x i h e _ _ _ _ m p.lists
+
+    pub run_goes_lent : {a b c : Errors} → Listed a (each g (take i xs)) b → Listed b (g x) c → Listed a (each g (take (i + 1) xs)) c
+    run_goes_lent p t = listed_then (each_next x i h e) p t
+
+  pub run_ends_lent : (i : ℕ) → length xs ≤ i → {a b : Errors} → Listed a (each g (take i xs)) b → Listed a (each g xs) b
+  run_ends_lent i h p = record { lists = run_ends i h _ _ _ _ p.lists; same = p.same }
 
 -- of a model's unknowns and statements; the first one's number and the count are those of its record
 module _ (f : List ℕ) (s : Sections) (o : Open f s) (m : ℕ) (h : m < s.counts.models) (first count k i : ℕ) (ek : k ≡ first + i) where

@@ -25,7 +25,7 @@ use Rattle.ast.specs.Words.{word_of}
 use Rattle.ast.specs.Records.{unknown_of, right_top, stmt_of}
 use Rattle.ast.specs.Opens.{Open, contents_in, file_in}
 use Rattle.ast.specs.declared.sections.Sections.{Sections}
-use Rattle.builder.proofs.laws.Classes.{entry_time, entry_reserved}
+use Rattle.builder.proofs.laws.Classes.{entry_usable}
 use Rattle.builder.proofs.laws.OpenRecords.{long, passes, model_is, unknown_is}
 use Rattle.builder.proofs.laws.Calling.{call_is, called_below}
 use Rattle.builder.proofs.laws.Rounds.{reaching_flag}
@@ -84,7 +84,7 @@ lists_itself_is f s o t h u l name en =
     let r = get_or (contents_in f s).unknowns u [] in
     let names = (file_in f s).names in
     let b : word_of r 0 < length names = omega (arith, (unknown_is f s o u l).name_below, (long f s o).file_names) in
-    rw (en, entry_time h (word_of r 0) b, entry_reserved h (word_of r 0) b) refl
+    rw (en, entry_usable h (word_of r 0) b) refl
 
 -- ---- positional arguments beyond, from the last argument down
 

@@ -16,7 +16,7 @@ use Rattle.definitions.specs.Numbers.{name_not_found, wrong_start, rate_invalid}
 use Rattle.definitions.specs.Variables.{Error, error}
 use Rattle.definitions.specs.Roles as roles
 use Rattle.ast.specs.Numbers.{number_of}
-use Rattle.area.specs.Listing.{kind_number, error_as, found_as}
+use Rattle.area.specs.Listing.{kind_number, error_as, found_as, Lists}
 use Rattle.area.specs.LentList.{Listed, RoomFor}
 use Rattle.area.specs.declared.errors.Errors.{Errors}
 use Rattle.area.specs.declared.errors.Found.{Found}
@@ -127,19 +127,31 @@ errors_few numbers indexes rates lower (rate n r s) = go (entry_by numbers n)
 
 -- ---- of all statements, listed one after the other
 
-module _ (b : List ℕ) (z : Sizes) (g : Flat → List Error) {e₀ e₁ : Errors} (i : ℕ) (p : Listed e₀ (each g (take i (flats_in b z))) e₁) where
+module _ (b : List ℕ) (z : Sizes) (g : Flat → List Error) (d d' : List ℕ) (n r i : ℕ) (p : Lists d n (each g (take i (flats_in b z))) r d') where
   module _ (h : i < z.stmts) where
     there : i < length (flats_in b z)
     there = omega (arith, flats_count b z)
 
     -- what is found of statement i can be counted
-    pub statement_room : RoomFor e₀ (each g (flats_in b z)) → e₁.count < 2 ^ 40
-    statement_room m = omega (arith, run_room g (flats_in b z) (flat_in b z i) i there (flat_here b z i h) m p)
+    pub statement_room : n + length (each g (flats_in b z)) < 2 ^ 40 → r < 2 ^ 40
+    statement_room m = omega (arith, run_room g (flats_in b z) (flat_in b z i) i there (flat_here b z i h) d d' n r m p)
 
     -- listed behind those before
-    pub statement_goes : (x : rust.Option Found) → found_as x ≡ g (flat_in b z i) → {e₂ : Errors} → Listed e₁ (found_as x) e₂ → Listed e₀ (each g (take (i + 1) (flats_in b z))) e₂
-    statement_goes x e q = run_goes g (flats_in b z) (flat_in b z i) i there (flat_here b z i h) p (rw e at q)
+    pub statement_goes : (x : rust.Option Found) → found_as x ≡ g (flat_in b z i) → (d'' : List ℕ) (r' : ℕ) → Lists d' r (found_as x) r' d'' → Lists d n (each g (take (i + 1) (flats_in b z))) r' d''
+    statement_goes x e d'' r' q = run_goes g (flats_in b z) (flat_in b z i) i there (flat_here b z i h) d d' d'' n r r' p (rw e at q)
 
   -- up to the last they are all
-  pub statements_end : z.stmts ≤ i → Listed e₀ (each g (flats_in b z)) e₁
-  statements_end h = run_ends g (flats_in b z) i (omega (arith, flats_count b z)) p
+  pub statements_end : z.stmts ≤ i → Lists d n (each g (flats_in b z)) r d'
+  statements_end h = run_ends g (flats_in b z) i (omega (arith, flats_count b z)) d d' n r p
+
+-- the same in lent bytes
+module _ (b : List ℕ) (z : Sizes) (g : Flat → List Error) {e₀ e₁ : Errors} (i : ℕ) (p : Listed e₀ (each g (take i (flats_in b z))) e₁) where
+  module _ (h : i < z.stmts) where
+    pub statement_room_lent : RoomFor e₀ (each g (flats_in b z)) → e₁.count < 2 ^ 40
+    statement_room_lent m = statement_room b z g _ _ _ _ i p.lists h m
+
+    pub statement_goes_lent : (x : rust.Option Found) → found_as x ≡ g (flat_in b z i) → {e₂ : Errors} → Listed e₁ (found_as x) e₂ → Listed e₀ (each g (take (i + 1) (flats_in b z))) e₂
+    statement_goes_lent x e q = record { lists = statement_goes b z g _ _ _ _ i p.lists h x e _ _ q.lists; same = q.same ∙ p.same }
+
+  pub statements_end_lent : z.stmts ≤ i → Listed e₀ (each g (flats_in b z)) e₁
+  statements_end_lent h = record { lists = statements_end b z g _ _ _ _ i p.lists h; same = p.same }

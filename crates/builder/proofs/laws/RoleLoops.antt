@@ -2,11 +2,12 @@
 use mathlib.Core.Path.{◌≡◌, refl, sym}
 use mathlib.Core.Bool.{Bool, true, false, cond}
 use mathlib.Core.List.{List, [], ◌∷◌, ◌++◌, map, append-nil}
-use Prim.Native.Nat.{ℕ, zero, suc, ◌+◌, ◌≤◌}
+use Prim.Native.Nat.{ℕ, zero, suc, ◌+◌, ◌≤◌, ◌<◌}
 use native.Mathlib.Omega.{arith}
 use native.Mathlib.Numerals.{add-one}
 use lib.ListN.{length, length-append}
-use Rattle.std.specs.List.{list_any, count_by}
+use Rattle.std.specs.List.{All, list_any, count_by}
+use Rattle.std.proofs.lemmas.List.Elements.{All-nil, All-push, All-weaker}
 use Rattle.std.proofs.lemmas.List.Recursion.{is_count_by}
 use Rattle.functions.specs.Lists.{any, keep}
 use Rattle.definitions.specs.Roles as definitions
@@ -37,6 +38,11 @@ pub any_role : (x : Role) (rs : List Role) → list_any (λ r. ghosts.eq r x) rs
 unfolding any
 any_role x [] = refl
 any_role x (r ∷ rs) = rw (is_same x r, any_role x rs) refl
+
+-- a rate equation of v
+pub any_rate : (v : ℕ) (rs : List Role) → list_any (λ r. ghosts.eq r (Rate v)) rs ≡ any (is_rate_of v) (map role_as rs)
+unfolding is_role role_as
+any_rate v rs = any_role (Rate v) rs
 
 -- how many are neither
 pub neither_count : (rs : List Role) → count_by (λ r. ghosts.eq r Neither) rs ≡ left_count (map role_as rs)
@@ -71,3 +77,13 @@ module _ (roles : List definitions.Role) (states : List ℕ) where
       go : (b : Bool) → length (lacking_in roles states n) ≤ n → length (lacking_in roles states n ++ cond b (n ∷ []) []) ≤ suc n
       go true l = simp length-append (omega arith)
       go false l = simp length-append (omega arith)
+
+  -- each of them is a variable
+  pub lacking_below : (n : ℕ) → All (λ v. v < n) (lacking_in roles states n)
+  unfolding lacking_in
+  lacking_below zero = All-nil (λ v. v < 0)
+  lacking_below (suc n) = go (lacks_in roles states n) (All-weaker (λ v. v < n) (λ v. v < suc n) (λ v (l : v < n). omega arith) _ (lacking_below n))
+    where
+      go : (b : Bool) → All (λ v. v < suc n) (lacking_in roles states n) → All (λ v. v < suc n) (lacking_in roles states n ++ cond b (n ∷ []) [])
+      go true h = All-push (λ v. v < suc n) _ n h (omega arith)
+      go false h = rw append-nil h

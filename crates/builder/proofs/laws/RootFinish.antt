@@ -100,9 +100,9 @@ module _ {f : List ℕ} {s : Sections} {numbers : List ℕ} {m i : ℕ} {z : Siz
   }
 
   module _ {left states : ℕ} (eq : left ≡ left_count (roles_at (file_in f s) m)) (es : states ≡ length (lacking (scope_at (file_in f s) m).vars (roles_at (file_in f s) m)))
-      (d d' : List ℕ) {b : List ℕ} {r : ℕ} (u : Held (file_in f s) m z b) (e : Lists d 0 (errors_by b z numbers time.lower (file_in f s) m left states) r d') where
+      (d d' : List ℕ) {b : List ℕ} {before r : ℕ} (none : before ≡ 0) (u : Held (file_in f s) m z b) (e : Lists d before (errors_by b z numbers time.lower (file_in f s) m left states) r d') where
     listed : Lists d 0 (answer_at (file_in f s) m).errors r d'
-    listed = rw (errors_tie k u lower eq es) at e
+    listed = rw (none, errors_tie k u lower eq es) at e
 
     errors_count : length (answer_at (file_in f s) m).errors ≤ 2360000
     unfolding answer_from

@@ -32,7 +32,7 @@ use Rattle.area.specs.LentList.{Listed}
 use Rattle.area.specs.declared.errors.Errors.{Errors}
 use Rattle.builder.specs.Fating.{is_fated}
 use Rattle.builder.specs.Starting.{place_as, right_span_in, held_errors_in, state_errors_in, starting_in}
-use Rattle.area.proofs.Listings.{length_listed, listed_then}
+use Rattle.area.proofs.Listings.{length_listed, lists_then}
 use Rattle.builder.proofs.laws.OpenRecords.{long}
 
 -- a model's span by its record
@@ -187,12 +187,20 @@ module _ (model : Span) (ns rs : List (List ℕ)) where
 pub lists_length : (d d' : List ℕ) (n r : ℕ) (es : List Error) → 4096 ≤ length d → Lists d n es r d' → length d' ≡ length d
 lists_length d d' n r es h p = ap length p.1 ∙ length_listed d n es h
 
-module _ (model : Span) (ns rs : List (List ℕ)) (names : List ℕ) (v : ℕ) {e₀ e₁ : Errors} (p : Listed e₀ (starting_in model ns rs names v) e₁) where
+module _ (model : Span) (ns rs : List (List ℕ)) (names d d' : List ℕ) (v n r : ℕ) (p : Lists d n (starting_in model ns rs names v) r d') where
   -- as many as there are variables can be counted
-  pub starting_few : (vars : ℕ) → e₀.count + vars < 2 ^ 40 → v ≤ vars → e₁.count < 2 ^ 40
-  starting_few vars h l = omega (arith, p.lists.0, starting_most model ns rs names v)
+  pub starting_few : (vars : ℕ) → n + vars < 2 ^ 40 → v ≤ vars → r < 2 ^ 40
+  starting_few vars h l = omega (arith, p.0, starting_most model ns rs names v)
 
   -- one variable more
-  pub starting_next : (es : List Error) → es ≡ state_errors_in model ns rs (get_or names v 0) v → {e₂ : Errors} → Listed e₁ es e₂ → Listed e₀ (starting_in model ns rs names (v + 1)) e₂
-  starting_next es e q =
-      listed_then (record { is = starting_turn model ns rs names v ∙ ap (λ (xs : List Error). starting_in model ns rs names v ++ xs) (sym e) }) p q
+  pub starting_next : (d'' : List ℕ) (r' : ℕ) (es : List Error) → es ≡ state_errors_in model ns rs (get_or names v 0) v → Lists d' r es r' d'' → Lists d n (starting_in model ns rs names (v + 1)) r' d''
+  starting_next d'' r' es e q =
+      lists_then (record { is = starting_turn model ns rs names v ∙ ap (λ (xs : List Error). starting_in model ns rs names v ++ xs) (sym e) }) d d' d'' n r r' p q
+
+-- the same in lent bytes
+module _ (model : Span) (ns rs : List (List ℕ)) (names : List ℕ) (v : ℕ) {e₀ e₁ : Errors} (p : Listed e₀ (starting_in model ns rs names v) e₁) where
+  pub starting_few_lent : (vars : ℕ) → e₀.count + vars < 2 ^ 40 → v ≤ vars → e₁.count < 2 ^ 40
+  starting_few_lent vars h l = starting_few model ns rs names _ _ v _ _ p.lists vars h l
+
+  pub starting_next_lent : (es : List Error) → es ≡ state_errors_in model ns rs (get_or names v 0) v → {e₂ : Errors} → Listed e₁ es e₂ → Listed e₀ (starting_in model ns rs names (v + 1)) e₂
+  starting_next_lent es e q = record { lists = starting_next model ns rs names _ _ v _ _ p.lists _ _ es e q.lists; same = q.same ∙ p.same }

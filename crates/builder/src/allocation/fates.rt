@@ -15,6 +15,8 @@ use crate::allocation::pairing::has_rate;
 use crate::allocation::roles::Role;
 use area::layout::{FATE_AT, Fate, STMT_BYTES, VARIABLE_AT};
 use area::sections::{Sizes, stmts_at};
+use arrayvec::ArrayVec;
+use ast::layout::MOST_STMTS;
 use ast::words::put_word;
 
 // Writes the fate of statement i and its variable.
@@ -71,7 +73,7 @@ fn write_fate<'a>(
 // Writes the fates of all statements, those left paired with the queued states in order; roles behind theirs are
 // not looked at.
 // By number: a statement's record is written by it, and a rate asks for the roles behind it.
-pub fn write_fates(area: &mut [u8], z: Sizes, roles: &[Role], states: &[u32])
+pub fn write_fates_wide(area: &mut [u8], z: Sizes, roles: &[Role], states: &[u32])
     requires { Small z
         × (vars_at z ≤ length area.old)
         × (z.stmts ≤ length roles.now) }
@@ -84,4 +86,22 @@ pub fn write_fates(area: &mut [u8], z: Sizes, roles: &[Role], states: &[u32])
     for i in 0..z.stmts {
         queue = write_fate(area, z, roles, i, queue);
     }
+}
+
+// The same of as many roles as statements, and of states in 16 bits.
+// No more states are paired than there are statements, so a table as long as those holds all that are.
+pub fn write_fates(area: &mut [u8], z: Sizes, roles: &[Role], states: &[u16])
+    requires { Small z
+        × (vars_at z ≤ length area.old)
+        × (length roles.now ≡ z.stmts) }
+    ensures { area.new ≡ put area.old (stmts_at z)
+        (encode (fated (area_stmts area.old z)
+        (map fate_pair (fates_of states.now (map role_as roles.now))))) }
+{
+    let looked_at = &states[..states.len().min(z.stmts)];
+    let mut wide = ArrayVec::<u32, MOST_STMTS>::new();
+    for v in looked_at {
+        wide.push(u32::from(*v));
+    }
+    write_fates_wide(area, z, roles, wide.as_slice());
 }

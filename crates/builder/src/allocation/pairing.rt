@@ -48,7 +48,7 @@ fn lacks(roles: &[Role], area: &Area, v: u32) -> bool
 // The states of an area that no rate equation goes to.
 // A push at each turn, as `lacking_in` says what each one adds: `collect` asks for the allocator of a heap, and
 // there is none; `extend` answers a Result. So also in `roles`.
-pub fn lacking(roles: &[Role], area: &Area) -> ArrayVec<u32, MOST_VARS>
+pub fn lacking_wide(roles: &[Role], area: &Area) -> ArrayVec<u32, MOST_VARS>
     requires { Small area.now.sizes
         × (deps_at area.now.sizes ≤ length area.now.bytes.now) }
     ensures { result.items ≡ lacking_in (map role_as roles.now) (states_seen area.now) area.now.sizes.vars }
@@ -58,6 +58,20 @@ pub fn lacking(roles: &[Role], area: &Area) -> ArrayVec<u32, MOST_VARS>
         if lacks(roles, area, v) {
             states.push(v);
         }
+    }
+    states
+}
+
+// The same in 16 bits, which hold the number of every variable.
+pub fn lacking(roles: &[Role], area: &Area) -> ArrayVec<u16, MOST_VARS>
+    requires { Small area.now.sizes
+        × (deps_at area.now.sizes ≤ length area.now.bytes.now) }
+    ensures { result.items ≡ lacking_in (map role_as roles.now) (states_seen area.now) area.now.sizes.vars }
+{
+    let wide = lacking_wide(roles, area);
+    let mut states = ArrayVec::new();
+    for v in wide.as_slice() {
+        states.push(*v as u16);
     }
     states
 }

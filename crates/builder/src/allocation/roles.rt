@@ -1,5 +1,5 @@
 // What each flattened statement asks for, read back from the answer's area.
-ghost use Rattle.std.specs.Prelude.{◌≡◌, map, ℕ, suc, ◌-◌, ◌≤◌, ◌<◌, length, get_or, eqb};
+ghost use Rattle.std.specs.Prelude.{◌≡◌, All, map, ℕ, suc, ◌-◌, ◌≤◌, ◌<◌, length, get_or, eqb};
 ghost use Rattle.functions.specs.Lists.{any, unless, each};
 ghost use Rattle.ast.specs.Words.{word_of, span_from};
 ghost use Rattle.std.specs.Float.Ieee.{eq};
@@ -12,7 +12,7 @@ ghost use Rattle.definitions.specs.Numbers.{most_names, wrong_start};
 ghost use Rattle.definitions.specs.Variables.{error};
 ghost use Rattle.area.specs.Listing.{kind_number, error_as, found_as};
 ghost use Rattle.area.specs.LentList.{Listed, RoomFor};
-ghost use Rattle.builder.specs.Allocating.{arg_node, start_at, short_by, role_as, start_role_by, found_start, StartFits, role_by, ArgIn, NumberIn, StartIn, entry_by, start_errors_by, rate_errors_by, role_errors_by};
+ghost use Rattle.builder.specs.Allocating.{arg_node, start_at, short_by, role_as, Narrow, start_role_by, found_start, StartFits, role_by, ArgIn, NumberIn, StartIn, entry_by, start_errors_by, rate_errors_by, role_errors_by};
 ghost use Rattle.builder.specs.Areas.{flat_seen, flats_seen, FlattenedSeen, NumberedSeen, indexes_seen, rates_seen};
 
 use area::errors::{ErrorKind, Errors, Found};
@@ -118,8 +118,9 @@ fn start_role(area: &Area, start: Option<Start>, lower: f64) -> Role
     requires { (nodes_end area.now.sizes.nodes ≤ length area.now.bytes.now)
         × Small area.now.sizes
         × StartFits area.now.sizes start }
-    ensures { (f : ℕ)
-        → role_as result ≡ start_role_by lower (found_start (nodes_seen area.now) f start) }
+    ensures { ((f : ℕ)
+        → role_as result ≡ start_role_by lower (found_start (nodes_seen area.now) f start))
+        × Narrow result }
 {
     match start {
         Some(Start::Number(v, arg)) => {
@@ -150,8 +151,9 @@ fn allocate_stmt(area: &Area, numbers: &[u16], lower: f64, i: usize) -> Role
     requires { FlattenedSeen area.now
         × NumberedSeen area.now numbers.now
         × (i < area.now.sizes.stmts) }
-    ensures { role_as result ≡ role_by numbers.now (indexes_seen area.now)
-        (rates_seen area.now) lower (flat_seen area.now i) }
+    ensures { (role_as result ≡ role_by numbers.now (indexes_seen area.now)
+        (rates_seen area.now) lower (flat_seen area.now i))
+        × Narrow result }
 {
     if area.is_stmt(i, StmtKind::Equation) {
         let start = start_of(area, numbers, area.stmt(i, STMT_LEFT));
@@ -167,8 +169,9 @@ fn allocate_stmt(area: &Area, numbers: &[u16], lower: f64, i: usize) -> Role
 pub fn roles(area: &Area, numbers: &[u16], lower: f64) -> ArrayVec<Role, MOST_STMTS>
     requires { FlattenedSeen area.now
         × NumberedSeen area.now numbers.now }
-    ensures { map role_as result.items ≡ map (role_by numbers.now (indexes_seen area.now)
-        (rates_seen area.now) lower) (flats_seen area.now) }
+    ensures { (map role_as result.items ≡ map (role_by numbers.now (indexes_seen area.now)
+        (rates_seen area.now) lower) (flats_seen area.now))
+        × All Narrow result.items }
 {
     let mut out = ArrayVec::new();
     for i in 0..area.sizes.stmts {

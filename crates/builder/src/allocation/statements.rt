@@ -7,8 +7,8 @@ ghost use Rattle.area.specs.Sections.{stmts_at};
 ghost use Rattle.builder.specs.Allocating.{Flattened, Numbered};
 ghost use Rattle.builder.specs.Root.{roles_by, lacking_by, fated_by};
 
-use crate::allocation::fates::write_fates;
-use crate::allocation::pairing::{lacking, left_count};
+use crate::allocation::fates::write_fates_wide;
+use crate::allocation::pairing::{lacking_wide, left_count};
 use crate::allocation::roles::roles;
 use area::records::Area;
 use area::sections::Sizes;
@@ -34,7 +34,7 @@ pub fn allocate_stmts(area: &mut [u8], z: Sizes, numbers: &[u16], lower: f64) ->
     };
     let table = roles(&read, numbers, lower);
     let roles = table.as_slice();
-    let states = lacking(roles, &read);
+    let states = lacking_wide(roles, &read);
     let left = Left {
         stmts: left_count(roles),
         states: states.len(),
@@ -45,6 +45,6 @@ pub fn allocate_stmts(area: &mut [u8], z: Sizes, numbers: &[u16], lower: f64) ->
     } else {
         &[]
     };
-    write_fates(area, z, roles, paired);
+    write_fates_wide(area, z, roles, paired);
     left
 }

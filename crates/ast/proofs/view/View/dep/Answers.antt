@@ -8,4 +8,4 @@ dep_word-requires c = let v = c.args.self.now in
 
 pub returns : goal.returns
 returns c = let v = c.args.self.now in
-    dep_says v.bytes.now v.sections v.opened c.args.i 0 c.dep_word.result c.dep_word.ensures
+    (dep_says v.bytes.now v.sections v.opened c.args.i 0 c.dep_word.result c.dep_word.ensures.0, c.dep_word.ensures.1)

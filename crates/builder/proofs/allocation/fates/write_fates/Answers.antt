@@ -1,28 +1,29 @@
 use mathlib.Core.Path.{◌≡◌, sym, ◌∙◌}
 use mathlib.Core.List.{map}
-use Prim.Native.Nat.{◌+◌, ◌*◌, ◌≤◌}
 use native.Mathlib.Omega.{arith}
-use lib.ListN.{length, take, length-map}
-use Rattle.std.proofs.lemmas.List.{take-map, length-take-le}
-use Rattle.area.specs.Sections.{stmts_at, vars_at}
+use lib.ListN.{length, length-take, length-map}
+use Rattle.std.proofs.lemmas.List.{take_all, take_more, length-take-le}
 use Rattle.builder.specs.Allocating.{role_as}
-use Rattle.builder.proofs.laws.FateRecords.{rest_all, rest_none, rest_more}
+use Rattle.builder.proofs.laws.FateLaws.{fates_take}
 use Rattle.builder.proofs.allocation.fates.write_fates.Goals as goal
 
-pub loop-i-preserved : goal.loop-i-preserved
-unfolding stmts_at vars_at
-loop-i-preserved c =
-    let a = c.args in
-    let loop = c.loop-i in
-    let written = c.write_fate-queue.ensures in
-    let roles = map role_as (take a.z.stmts a.roles.now) in
-    let count : length roles ≡ a.z.stmts = simp length-map (length-take-le _ _ c.requires.2) in
-    let room : stmts_at a.z + 32 * a.z.stmts ≤ length loop.area = omega arith in
-    sym (rest_more a.z.stmts (stmts_at a.z) roles loop.area _ loop.i loop.queue.now _ c.loop-i-test.true count room written.0 written.1) ∙ loop.invariant
+pub loop-v-init : goal.loop-v-init
+loop-v-init c = c.new-wide.ensures
+
+pub push-requires : goal.push-requires
+push-requires c =
+    let long : length c.loop-v.wide.items ≡ c.loop-v.v-index = rw c.loop-v.invariant (length-take-le _ _ (omega arith)) in
+    (omega arith, omega (arith, long, c.requires.0.stmts, c.min.ensures, length-take c.min.result c.args.states.now))
+
+pub loop-v-preserved : goal.loop-v-preserved
+loop-v-preserved c = c.push.ensures.items ∙ rw (c.loop-v.invariant, c.from.ensures) (sym (take_more _ c.loop-v.v-index 0 c.loop-v-test.true))
 
 pub returns : goal.returns
 returns c =
     let a = c.args in
-    let loop = c.loop-i in
-    let roles = map role_as (take a.z.stmts a.roles.now) in
-    rw take-map (sym (rest_none a.z.stmts (stmts_at a.z) roles loop.area loop.i loop.queue.now c.loop-i-test.false) ∙ loop.invariant ∙ rest_all a.z.stmts (stmts_at a.z) roles a.area.now a.states.now)
+    let roles = map role_as a.roles.now in
+    let count : length roles ≡ a.z.stmts = simp length-map c.requires.2 in
+    let all = take_all a.z.stmts roles (omega arith) in
+    let wide = c.as_slice.ensures.value ∙ c.loop-v.invariant ∙ take_all _ _ (omega arith) in
+    let few = fates_take c.min.result a.states.now roles (omega (arith, count, c.min.ensures)) in
+    rw (wide, all, few) at c.write_fates_wide.ensures

@@ -1,9 +1,6 @@
-use Rattle.area.specs.Sections.{stmts_at}
 use mathlib.Core.Path.{◌≡◌}
-use mathlib.Core.List.{map}
-use Rattle.builder.specs.Allocating.{role_as}
-use Rattle.builder.proofs.laws.FateRecords.{rest}
+use lib.ListN.{take}
 use Rattle.builder.proofs.allocation.fates.write_fates.Given as goal
 
-abbrev pub invariant-loop-i : goal.invariant-loop-i
-invariant-loop-i l = rest l.z.stmts (stmts_at l.z) (map role_as l.roles) l.area l.i l.queue ≡ rest l.z.stmts (stmts_at l.z) (map role_as l.roles) l.initial.area 0 l.states
+abbrev pub invariant-loop-v : goal.invariant-loop-v
+invariant-loop-v l = l.wide.items ≡ take l.v-index l.looked_at

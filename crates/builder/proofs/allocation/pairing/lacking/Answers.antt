@@ -1,29 +1,28 @@
 use mathlib.Core.Path.{◌≡◌, sym, ◌∙◌}
-use Prim.Native.Nat.{◌≤◌}
+use Prim.Native.Nat.{◌<◌}
 use native.Mathlib.Omega.{arith}
-use lib.ListN.{length}
-use Rattle.builder.specs.Tables.{lacking_in}
-use Rattle.builder.proofs.laws.RoleLoops.{lacking_with, lacking_without, lacking_few}
+use lib.ListN.{length, get_or}
+use Rattle.std.proofs.lemmas.List.{take_all, take_more, length-take-le}
+use Rattle.std.proofs.lemmas.List.Elements.{All-same}
+use Rattle.builder.proofs.laws.RoleLoops.{lacking_below}
 use Rattle.builder.proofs.allocation.pairing.lacking.Goals as goal
-use Rattle.builder.proofs.allocation.pairing.lacking.Goals.{then-lacks, else-lacks}
 
 pub loop-v-init : goal.loop-v-init
-unfolding lacking_in
 loop-v-init c = c.new-states.ensures
+
+pub overflow_cast-v : goal.overflow_cast-v
+overflow_cast-v c =
+    let all = c.as_slice-v-items.ensures.value ∙ c.lacking_wide-wide.ensures in
+    let below : get_or c.as_slice-v-items.result.now c.loop-v.v-index 0 < c.args.area.now.sizes.vars = All-same (λ v. v < c.args.area.now.sizes.vars) _ _ all (lacking_below _ _ _) c.loop-v.v-index 0 c.loop-v-test.true in
+    omega (arith, below, c.requires.0.vars)
 
 pub push-requires : goal.push-requires
 push-requires c =
-    let few : length c.loop-v.states.items ≤ c.loop-v.v = rw c.loop-v.invariant (lacking_few _ _ _) in
-    (omega arith, omega (arith, few, c.requires.0.vars))
+    let long : length c.loop-v.states.items ≡ c.loop-v.v-index = rw c.loop-v.invariant (length-take-le _ _ (omega arith)) in
+    (omega arith, omega (arith, long, c.as_slice-v-items.ensures.fits))
 
 pub loop-v-preserved : goal.loop-v-preserved
-loop-v-preserved c =
-    elim c.if-lacks.branch [
-      | then-lacks w ↦ rw (w.states-is, w.push.ensures.items, c.loop-v.invariant) (sym (lacking_with _ _ _ (sym c.lacks.ensures ∙ w.if-lacks.true)))
-      | else-lacks w ↦ rw (w.states-is, c.loop-v.invariant) (sym (lacking_without _ _ _ (sym c.lacks.ensures ∙ w.if-lacks.false)))
-    ]
+loop-v-preserved c = c.push.ensures.items ∙ rw c.loop-v.invariant (sym (take_more _ c.loop-v.v-index 0 c.loop-v-test.true))
 
 pub returns : goal.returns
-returns c =
-    let all : c.loop-v.v ≡ c.args.area.now.sizes.vars = omega arith in
-    rw all at c.loop-v.invariant
+returns c = c.loop-v.invariant ∙ take_all _ _ (omega arith) ∙ c.as_slice-v-items.ensures.value ∙ c.lacking_wide-wide.ensures

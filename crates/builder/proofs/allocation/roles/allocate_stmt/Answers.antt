@@ -4,6 +4,7 @@ use native.Mathlib.Omega.{arith}
 use borrow.Author.Tests.{eqb-true, eqb-false}
 use Rattle.ast.specs.Nodes.{name_at}
 use Rattle.area.specs.Views.{nodes_seen}
+use Rattle.builder.specs.Allocating.{Narrow}
 use Rattle.builder.proofs.laws.LeftSides.{entry_below, start_fits}
 use Rattle.builder.proofs.laws.Flats.{rate_name, role_equation, rate_unknown, rate_goes, rate_stays}
 use Rattle.builder.proofs.allocation.roles.allocate_stmt.Goals as goal
@@ -21,8 +22,9 @@ start_role-requires c =
     (omega (arith, F.long), F.small, rw (c.start_of-start.ensures, c.stmt.ensures.0) (start_fits _ _ _ F.nodes F.few _ _ p.1 _ left_there))
 
 pub returns-then-is_stmt : goal.returns-then-is_stmt
+unfolding Narrow
 returns-then-is_stmt c =
-    c.start_role.ensures (name_at (nodes_seen c.args.area.now) c.stmt.result) ∙ rw (c.start_of-start.ensures, c.stmt.ensures.0) (sym (role_equation _ _ _ c.requires.0.1 _ _ _ c.requires.2 (eqb-true _ _ (sym c.is_stmt.ensures ∙ c.if-is_stmt.true)) _ _))
+    (c.start_role.ensures.0 (name_at (nodes_seen c.args.area.now) c.stmt.result) ∙ rw (c.start_of-start.ensures, c.stmt.ensures.0) (sym (role_equation _ _ _ c.requires.0.1 _ _ _ c.requires.2 (eqb-true _ _ (sym c.is_stmt.ensures ∙ c.if-is_stmt.true)) _ _)), c.start_role.ensures.1)
 
 pub bounds-numbers-stmt : goal.bounds-numbers-stmt
 bounds-numbers-stmt c =
@@ -36,13 +38,16 @@ takes_rate-requires c =
     (p.0.1.small, p.1.vars, rw c.from.ensures (entry_below p.1 _ _ name_small c.in-Some.ensures))
 
 pub returns-in-Some : goal.returns-in-Some
+unfolding Narrow
 returns-in-Some c = let p = c.requires in
-    rw c.from-in-Some.ensures (rate_goes _ _ _ p.0.1 _ _ _ p.2 (eqb-false _ _ (sym c.is_stmt.ensures ∙ c.if-is_stmt.false)) _ _ _ c.stmt-2.ensures.0 _ c.in-Some.ensures (sym (rw c.from.ensures at c.if-takes_rate.ensures)))
+    (rw c.from-in-Some.ensures (rate_goes _ _ _ p.0.1 _ _ _ p.2 (eqb-false _ _ (sym c.is_stmt.ensures ∙ c.if-is_stmt.false)) _ _ _ c.stmt-2.ensures.0 _ c.in-Some.ensures (sym (rw c.from.ensures at c.if-takes_rate.ensures))), omega arith)
 
 pub returns-in_default : goal.returns-in_default
+unfolding Narrow
 returns-in_default c = let p = c.requires in
-    rate_stays _ _ _ p.0.1 _ _ _ p.2 (eqb-false _ _ (sym c.is_stmt.ensures ∙ c.if-is_stmt.false)) _ _ _ c.stmt-2.ensures.0 _ c.in-Some.ensures (sym (rw c.from.ensures at c.if-takes_rate.ensures))
+    (rate_stays _ _ _ p.0.1 _ _ _ p.2 (eqb-false _ _ (sym c.is_stmt.ensures ∙ c.if-is_stmt.false)) _ _ _ c.stmt-2.ensures.0 _ c.in-Some.ensures (sym (rw c.from.ensures at c.if-takes_rate.ensures)), tt)
 
 pub returns-in_default-2 : goal.returns-in_default-2
+unfolding Narrow
 returns-in_default-2 c = let p = c.requires in
-    rate_unknown _ _ _ p.0.1 _ _ _ p.2 (eqb-false _ _ (sym c.is_stmt.ensures ∙ c.if-is_stmt.false)) _ _ _ c.stmt-2.ensures.0 c.in_default.ensures
+    (rate_unknown _ _ _ p.0.1 _ _ _ p.2 (eqb-false _ _ (sym c.is_stmt.ensures ∙ c.if-is_stmt.false)) _ _ _ c.stmt-2.ensures.0 c.in_default.ensures, tt)

@@ -13,7 +13,7 @@ use Rattle.builder.proofs.laws.Open.{models_long}
 use Rattle.builder.proofs.laws.Runs.{stmts_below}
 use Rattle.builder.proofs.laws.Calling.{called_below}
 use Rattle.builder.proofs.laws.Calls.{call_args}
-use Rattle.builder.proofs.laws.ModelErrors.{run_begins, run_room, run_goes, run_ends, stmt_here, stmt_there, stmts_past, errors_none, errors_more, not_three, own_same, call_in, any_scope, submodel_missing_lem, submodel_found}
+use Rattle.builder.proofs.laws.ModelErrors.{run_begins_lent, run_room_lent, run_goes_lent, run_ends_lent, stmt_here, stmt_there, stmts_past, errors_none, errors_more, not_three, own_same, call_in, any_scope, submodel_missing_lem, submodel_found}
 use Rattle.builder.proofs.errors.builder.+add_submodel_builder_stmt_errors.Goals as goal
 
 pub add_submodel-put-requires : goal.add_submodel-put-requires
@@ -74,7 +74,7 @@ builder-unknowns_errors-requires t c = let a = c.args in
 pub builder-loop-q-init : goal.builder-loop-q-init
 builder-loop-q-init t c = let a = c.args in
     let f = a.tables.now.names.file in
-    (0, omega arith, run_begins (stmt_errors (file_seen f) (λ j. errors_of (file_seen f) (a.k - 1) j) (scope_seen f a.m)) (model_at (file_seen f) a.m).stmts _)
+    (0, omega arith, run_begins_lent (stmt_errors (file_seen f) (λ j. errors_of (file_seen f) (a.k - 1) j) (scope_seen f a.m)) (model_at (file_seen f) a.m).stmts _)
 
 pub builder-stmt_errors-requires : goal.builder-stmt_errors-requires
 builder-stmt_errors-requires t c = let a = c.args in
@@ -88,7 +88,7 @@ builder-stmt_errors-requires t c = let a = c.args in
     let there = stmt_there f.bytes.now f.sections f.opened a.m c.requires.0 model.result model2.result loop.q inv.0 inv.1 model.ensures.0 model2.ensures.0 loop-test.true in
     let here = stmt_here f.bytes.now f.sections f.opened a.m c.requires.0 model.result model2.result loop.q inv.0 inv.1 model.ensures.0 model2.ensures.0 loop-test.true in
     let room = listed_room (errors_more (file_seen f) a.k a.m if1.false) c.requires.2 c.unknowns_errors.ensures in
-    (omega (arith, c.decreases, if1.false), (record { opened = f.opened; model = c.requires.0; vars = c.model_vars.ensures.0 }, record { within = stmts_below f.bytes.now f.sections f.opened a.m c.requires.0 model.result model2.result loop.q model.ensures.0 model2.ensures.0 loop-test.true; deep = omega (arith, c.requires.1) }, run_room (stmt_errors (file_seen f) (λ j. errors_of (file_seen f) (a.k - 1) j) (scope_seen f a.m)) (model_at (file_seen f) a.m).stmts (stmt_in f.bytes.now f.sections loop.q) inv.0 there here room inv.2, c.requires.3))
+    (omega (arith, c.decreases, if1.false), (record { opened = f.opened; model = c.requires.0; vars = c.model_vars.ensures.0 }, record { within = stmts_below f.bytes.now f.sections f.opened a.m c.requires.0 model.result model2.result loop.q model.ensures.0 model2.ensures.0 loop-test.true; deep = omega (arith, c.requires.1) }, run_room_lent (stmt_errors (file_seen f) (λ j. errors_of (file_seen f) (a.k - 1) j) (scope_seen f a.m)) (model_at (file_seen f) a.m).stmts (stmt_in f.bytes.now f.sections loop.q) inv.0 there here room inv.2, c.requires.3))
 
 pub builder-loop-q-preserved : goal.builder-loop-q-preserved
 builder-loop-q-preserved t c = let a = c.args in
@@ -100,7 +100,7 @@ builder-loop-q-preserved t c = let a = c.args in
     let loop-test = c.loop-q-test in
     let there = stmt_there f.bytes.now f.sections f.opened a.m c.requires.0 model.result model2.result loop.q inv.0 inv.1 model.ensures.0 model2.ensures.0 loop-test.true in
     let here = stmt_here f.bytes.now f.sections f.opened a.m c.requires.0 model.result model2.result loop.q inv.0 inv.1 model.ensures.0 model2.ensures.0 loop-test.true in
-    (inv.0 + 1, omega (arith, inv.1), run_goes (stmt_errors (file_seen f) (λ j. errors_of (file_seen f) (a.k - 1) j) (scope_seen f a.m)) (model_at (file_seen f) a.m).stmts (stmt_in f.bytes.now f.sections loop.q) inv.0 there here inv.2 c.stmt_errors.ensures)
+    (inv.0 + 1, omega (arith, inv.1), run_goes_lent (stmt_errors (file_seen f) (λ j. errors_of (file_seen f) (a.k - 1) j) (scope_seen f a.m)) (model_at (file_seen f) a.m).stmts (stmt_in f.bytes.now f.sections loop.q) inv.0 there here inv.2 c.stmt_errors.ensures)
 
 pub builder-returns : goal.builder-returns
 builder-returns t c = let a = c.args in
@@ -109,7 +109,7 @@ builder-returns t c = let a = c.args in
     let model2 = c.model-stmts in
     let loop = c.loop-q in
     let inv = loop.invariant in
-    let ends = run_ends (stmt_errors (file_seen f) (λ j. errors_of (file_seen f) (a.k - 1) j) (scope_seen f a.m)) (model_at (file_seen f) a.m).stmts inv.0 (stmts_past f.bytes.now f.sections f.opened a.m c.requires.0 model.result model2.result loop.q inv.0 inv.1 model.ensures.0 model2.ensures.0 c.loop-q-test.false) inv.2 in
+    let ends = run_ends_lent (stmt_errors (file_seen f) (λ j. errors_of (file_seen f) (a.k - 1) j) (scope_seen f a.m)) (model_at (file_seen f) a.m).stmts inv.0 (stmts_past f.bytes.now f.sections f.opened a.m c.requires.0 model.result model2.result loop.q inv.0 inv.1 model.ensures.0 model2.ensures.0 c.loop-q-test.false) inv.2 in
     listed_then (errors_more (file_seen f) a.k a.m c.if-k-eq0.false) c.unknowns_errors.ensures ends
 
 pub stmt_errors-own_errors-requires : goal.stmt_errors-own_errors-requires
