@@ -18,7 +18,7 @@ use Rattle.keeping.specs.Placed.{sections_of}
 use Rattle.positions.specs.declared.Entry.{Entry}
 use Rattle.positions.specs.Pieces.{starts, placed, OfText}
 use Rattle.report.specs.Lines.{start_of_error, place_of_error, error_line, listed_errors, lines_of, lines}
-use Rattle.report.specs.Tabled.{tabled_place, tabled_lines, Noted, Printed}
+use Rattle.report.specs.Tabled.{tabled_place, tabled_lines, Printed}
 
 -- ---- the lines of a text
 
@@ -54,11 +54,11 @@ front_counts d d' e r l g = let w : r ≤ length d' = rw g (rw length-append (om
 
 -- and where they are the lines from the table of any text, they are the lines of the area and that text.
 pub printed : (area : List ℕ) (es es' es'' : List Entry) (s : Sections) → keeps_layout plain most_kind area ≡ true → s ≡ sections_of plain (header_in area)
-    → Noted (records_in s.errors area) es es' → OfText (starts es') es''
+    → starts es' ≡ front (starts es) (map start_of_error (records_in s.errors area)) → OfText (starts es') es''
     → (d d' : List ℕ) (r : ℕ) → r ≡ length (tabled_lines es'' (records_in s.errors area)) → d' ≡ front d (tabled_lines es'' (records_in s.errors area))
     → IsPrefixLen r d' × Printed area (take r d')
 printed area es es' es'' s keeps is noted x d d' r l g =
     let rs = records_in s.errors area in
     let are : rs ≡ listed_errors plain area = ap (λ (z : Sections). records_in z.errors area) is ∙ errors_are area in
-    let e : tabled_lines es'' rs ≡ each (error_line x.text) rs = unfold front in rw (x.placed, noted.starts) (tabled_are x.text _ rs) in
+    let e : tabled_lines es'' rs ≡ each (error_line x.text) rs = unfold front in rw (x.placed, noted) (tabled_are x.text _ rs) in
     (front_counts d d' (tabled_lines es'' rs) r l g, record { text = x.text; are = rw (l, g) (take_front d (tabled_lines es'' rs)) ∙ e ∙ ap (each (error_line x.text)) are ∙ sym (lines_are area x.text keeps) })

@@ -88,8 +88,8 @@ pub fn write_fates_wide(area: &mut [u8], z: Sizes, roles: &[Role], states: &[u32
     }
 }
 
-// The same of as many roles as statements, and of states in 16 bits.
-// No more states are paired than there are statements, so a table as long as those holds all that are.
+// The same, of just as many roles as statements and of states in 16 bits.
+// No more states are paired than there are statements, so a table for the most statements holds all that are.
 pub fn write_fates(area: &mut [u8], z: Sizes, roles: &[Role], states: &[u16])
     requires { Small z
         × (vars_at z ≤ length area.old)

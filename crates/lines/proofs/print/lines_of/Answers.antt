@@ -22,4 +22,4 @@ put_lines-requires g c =
 
 pub returns : goal.returns
 returns g c = let put = c.put_lines.ensures in
-    printed _ _ _ _ _ c.requires.0 c.sections_in-s.ensures c.note_starts.ensures c.places.ensures _ _ _ put.0 put.1
+    printed _ _ _ _ _ c.requires.0 c.sections_in-s.ensures c.note_starts.ensures.starts c.places.ensures _ _ _ put.0 put.1

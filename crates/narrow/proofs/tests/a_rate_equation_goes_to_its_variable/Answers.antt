@@ -16,10 +16,11 @@ only : (P : ℕ → Type 0) → P 0 → (i : ℕ) → i < 1 → P i
 only P p zero h = p
 only P p (suc i) h = absurd (omega arith)
 
--- the table of numbers has no entry but the first
+-- a table of numbers without an entry
 abbrev none : List ℕ
 none = replicate 256 0
 
+-- with one entry, the first, none is above 2
 few : (n : ℕ) → n < 256 → get_or (set none 0 2) n 0 ≤ 2
 few n h = go (ℕ_discrete n 0)
   where
