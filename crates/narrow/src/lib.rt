@@ -17,8 +17,8 @@ mod tests {
     // Longer than all that is laid here.
     const ROOM: usize = 256;
 
-    // A header, a node that is a number, a rate equation of name 0 with it on the right, and two variables, of which the
-    // second is a time-dependent state.
+    // A header, a node that is a number, a rate equation of name 0 with it on the right, and two variables, the second
+    // of which is a time-dependent state.
     const RATE: [u8; 200] = [
         0, 0, 0, 0, 0, 0, 0, 0, 0, 0, 0, 0, 0, 0, 0, 0, 0, 0, 0, 0, 0, 0, 0, 0, 0, 0, 0, 0, 0, 0,
         0, 0, 0, 0, 0, 0, 0, 0, 0, 0, 2, 0, 0, 0, 0, 0, 0, 0, 0, 0, 0, 0, 1, 0, 0, 0, 0, 0, 0, 0,
